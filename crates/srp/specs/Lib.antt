@@ -1,0 +1,15 @@
+pub mod Bytes
+pub mod Messages
+pub mod Refusals
+pub mod Lists
+pub mod Descriptors
+pub mod Requests
+pub mod Cutting
+pub mod Credit
+pub mod Writing
+pub mod Take
+pub mod Calls
+pub mod Login
+pub mod Outside
+pub mod Machine
+pub mod Initiator

@@ -1,0 +1,88 @@
+-- Document 01, "Login": the settings, the refusals and rejections, and the port that a login makes.
+use mathlib.Core.Bool.{Bool, true, false, cond, not, _&&_, _||_}
+use mathlib.Core.List.{List, [], _∷_}
+use mathlib.Core.Option.{Option, none, some}
+use Prim.Native.Nat.{ℕ, _+_}
+use lib.Dec.{ltb, eqb}
+use lib.ListN.{length}
+use Rattle.srp.specs.Bytes.{bit, get, part, typeOf, write}
+use Rattle.srp.specs.Messages.{tag, formatBits, requestedLength, loginCrsolnt, loginLosolnt, channelAction, targetIdentifier, loginReq, loginRsp, loginRej}
+use Rattle.srp.specs.Refusals.{Check, firstOf, bufferSize, short}
+use Rattle.srp.specs.Descriptors.{sameBytes}
+use Rattle.srp.specs.Requests.{flag, otherFormats}
+use Rattle.srp.specs.Cutting.{badMaximum}
+use Rattle.srp.specs.Credit.{Port, closedPort}
+use Rattle.srp.specs.Take.{Outcome, silent}
+use Rattle.srp.specs.declared.Refusal.{Refusal}
+use Rattle.srp.specs.declared.Refusal.the-variants.{Setting, Length, OtherType}
+use Rattle.srp.specs.declared.Reply.{Reply}
+use Rattle.srp.specs.declared.Reply.the-variants.{Refused, Accepted, Rejected}
+
+-- N, M, X, whether indirect tables and solicited events are supported, the port's own identifier of 16 bytes
+pub record Settings : Type 0 where
+  pub buffers : ℕ
+  pub maximum : ℕ
+  pub longest : ℕ
+  pub indirect : Bool
+  pub solicited : Bool
+  pub own : List ℕ
+
+-- "N 1 to 16, M 1 to 1,048,576, X 64 to 1,364"
+abbrev pub badSettings : Settings → Bool
+badSettings c =
+    eqb (c .buffers) 0 || (ltb 16 (c .buffers) || (badMaximum (c .maximum) || (ltb (c .longest) 64 || ltb 1364 (c .longest))))
+
+-- "Refused 1, 2, 3 (not 64 bytes), 4 in that order"
+abbrev pub loginChecks : Settings → ℕ → List ℕ → List Check
+loginChecks c room s =
+    short room ∷ (badSettings c, Setting) ∷ (not (eqb (length s) (loginReq .size)), Length) ∷ (not (eqb (typeOf s) (loginReq .code)), OtherType) ∷ []
+
+-- "supported formats (0006h or 0002h)"
+abbrev pub supported : Settings → ℕ
+supported c = cond (c .indirect) 0x0006 0x0002
+
+-- "Then the first that fits is rejected"
+abbrev pub rejections : Settings → List ℕ → List (Bool × ℕ)
+rejections c s =
+    (ltb (get requestedLength s) 64, 0x00010000)
+    ∷ (ltb (c .longest) (get requestedLength s), 0x00010002)
+    ∷ (otherFormats (supported c) (get formatBits s), 0x00010004)
+    ∷ (eqb (get channelAction s) 1, 0x00010005)
+    ∷ (ltb 1 (get channelAction s), 0x00010000)
+    ∷ (not (sameBytes (part targetIdentifier s) (c .own)), 0x00010003)
+    ∷ []
+
+-- "After login W = A = N, H = D = 0"
+abbrev pub opened : Settings → List ℕ → Port
+opened c s =
+    record {
+      live = true;
+      wanted = c .buffers;
+      announced = c .buffers;
+      held = [];
+      unanswered = false;
+      maximum = c .maximum;
+      agreed = get requestedLength s;
+      formats = get formatBits s;
+      crsolnt = flag (get loginCrsolnt s);
+      losolnt = flag (get loginLosolnt s);
+    }
+
+abbrev pub loginResponse : Settings → List ℕ → List ℕ
+loginResponse c s =
+    write loginRsp (c .buffers ∷ get tag s ∷ get requestedLength s ∷ bufferSize ∷ supported c ∷ bit (c .solicited) ∷ [])
+
+abbrev pub loginReject : Settings → List ℕ → ℕ → List ℕ
+loginReject c s reason = write loginRej (reason ∷ get tag s ∷ supported c ∷ [])
+
+abbrev pub judged : Option ℕ → Settings → List ℕ → Outcome
+judged none c s = record { reply = Accepted; port = opened c s; wrote = loginResponse c s ∷ [] }
+judged (some reason) c s = record { reply = Rejected reason; port = closedPort; wrote = loginReject c s reason ∷ [] }
+
+-- "A login makes a port, using no earlier one; without an accepted login it is closed"
+abbrev pub loginBy : Option Refusal → Settings → List ℕ → Outcome
+loginBy none c s = judged (firstOf (rejections c s)) c s
+loginBy (some r) c s = silent closedPort (Refused r)
+
+abbrev pub loginDef : Settings → ℕ → List ℕ → Outcome
+loginDef c room s = loginBy (firstOf (loginChecks c room s)) c s

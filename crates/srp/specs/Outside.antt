@@ -1,0 +1,123 @@
+-- Document 01, "Open commands, C calls, cutlist": look and the cut as C calls them, and what cutlist prints.
+use mathlib.Core.Bool.{Bool, true, false, cond, not, _&&_, _||_}
+use mathlib.Core.List.{List, [], _∷_, _++_}
+use mathlib.Core.Option.{Option, none, some}
+use Prim.Native.Nat.{ℕ, zero, suc, _+_, _*_, _/_, _%_, _^_}
+use lib.Dec.{ltb, eqb}
+use Rattle.srp.specs.Bytes.{bytesOf, puts, zeros}
+use Rattle.srp.specs.Messages.{memoryDescriptor}
+use Rattle.srp.specs.Refusals.{numberOf, firstOf}
+use Rattle.srp.specs.Descriptors.{Segment, segments, sumOf, fetched}
+use Rattle.srp.specs.Requests.{lookChecks, lookDef, commandOf}
+use Rattle.srp.specs.Cutting.{cuts, cutDef}
+use Rattle.srp.specs.Calls.{kindOf}
+use Rattle.srp.specs.Take.{Tables, fieldsFit}
+use Rattle.srp.specs.declared.Refusal.{Refusal}
+use Rattle.srp.specs.declared.Refusal.the-variants.{ShortBuffer, Fields}
+use Rattle.srp.specs.declared.Direction.the-variants.{Out, In}
+use Rattle.srp.specs.declared.Kind.{Kind}
+use Rattle.srp.specs.declared.Kind.the-variants.{Read, Write}
+use Rattle.srp.specs.declared.Piece.{Piece}
+use Rattle.srp.specs.declared.Fetch.{Fetch}
+use Rattle.srp.specs.declared.Look.{Look}
+use Rattle.srp.specs.declared.Look.the-variants.{LookRefused, Fetches}
+use Rattle.srp.specs.declared.Cut.{Cut}
+use Rattle.srp.specs.declared.Cut.the-variants.{CutRefused, CutPiece, CutDone}
+use Rattle.srp.specs.declared.Command.{Command}
+
+-- ── C
+
+-- what a call returns, 0 or the refusal's number, and the 32 bytes that it writes where there is none
+pub record Answer : Type 0 where
+  pub returns : ℕ
+  pub wrote : List (List ℕ)
+
+abbrev pub refusing : Refusal → Answer
+refusing r = record { returns = numberOf r; wrote = [] }
+
+abbrev pub giving : List ℕ → Answer
+giving bytes = record { returns = 0; wrote = bytes ∷ [] }
+
+-- "In C the answer takes 32 bytes (a shorter buffer draws 1 first)"
+abbrev pub inBuffer : ℕ → Answer → Answer
+inBuffer room a = cond (ltb room 32) (refusing ShortBuffer) a
+
+abbrev pub descriptorBytes : ℕ → ℕ → ℕ → List ℕ
+descriptorBytes address handle len = puts memoryDescriptor (address ∷ handle ∷ len ∷ []) (zeros 16)
+
+abbrev pub fetchBytes : Fetch → List ℕ
+fetchBytes f = descriptorBytes (f .address) (f .handle) (f .len)
+
+-- "look's two fetches, out then in"; "F = 0 and unused bytes are 0"
+abbrev pub lookAnswer : Look → Answer
+lookAnswer (LookRefused r) = refusing r
+lookAnswer (Fetches out inn) = giving (fetchBytes out ++ fetchBytes inn)
+
+abbrev pub lookInC : ℕ → ℕ → List ℕ → ℕ → Answer
+lookInC agreed formats s room = inBuffer room (lookAnswer (lookDef agreed formats s))
+
+-- "the piece and then its offset (4 bytes)"; "done ... 0"
+abbrev pub cutAnswer : Cut → Answer
+cutAnswer (CutRefused r) = refusing r
+cutAnswer (CutPiece p) = giving (descriptorBytes (p .address) (p .handle) (p .len) ++ (bytesOf 4 (p .offset) ++ zeros 12))
+cutAnswer CutDone = giving (zeros 32)
+
+abbrev pub cutInC : List ℕ → ℕ → ℕ → ℕ → ℕ → Answer
+cutInC list M R handed room = inBuffer room (cutAnswer (cutDef list M R handed))
+
+-- ── cutlist
+
+abbrev pub hexDigit : ℕ → ℕ
+hexDigit n = cond (ltb n 10) (48 + n) (87 + n)
+
+-- the lowest k hexadecimal digits, lowercase
+abbrev pub hex : ℕ → ℕ → List ℕ
+hex zero n = []
+hex (suc k) n = hexDigit (n / 16 ^ k % 16) ∷ hex k n
+
+-- decimal digits, at most as many as the first argument says
+abbrev pub digits : ℕ → ℕ → List ℕ
+digits zero n = []
+digits (suc k) n = elim (ltb n 10) [ true ↦ (48 + n) ∷ [] | false ↦ digits k (n / 10) ++ ((48 + n % 10) ∷ []) ]
+
+-- a number below 10^10
+abbrev pub decimal : ℕ → List ℕ
+decimal n = digits 10 n
+
+-- 'R' or 'W'
+abbrev pub letter : Kind → ℕ
+letter Read = 0x52
+letter Write = 0x57
+
+-- "W or R, handle (8 lowercase hex digits), address (16), length (decimal)"
+abbrev pub operationLine : Kind → Piece → List ℕ
+operationLine k p = letter k ∷ 0x20 ∷ hex 8 (p .handle) ++ (0x20 ∷ hex 16 (p .address) ++ (0x20 ∷ decimal (p .len) ++ (0x0a ∷ [])))
+
+abbrev pub operationLines : Kind → List Piece → List ℕ
+operationLines k [] = []
+operationLines k (p ∷ ps) = operationLine k p ++ operationLines k ps
+
+-- "A refusal prints "refused", a space and the number"
+abbrev pub refusedLine : Refusal → List ℕ
+refusedLine r = 0x72 ∷ 0x65 ∷ 0x66 ∷ 0x75 ∷ 0x73 ∷ 0x65 ∷ 0x64 ∷ 0x20 ∷ decimal (numberOf r) ++ (0x0a ∷ [])
+
+abbrev pub fetchLine : List ℕ
+fetchLine = 0x66 ∷ 0x65 ∷ 0x74 ∷ 0x63 ∷ 0x68 ∷ 0x0a ∷ []
+
+abbrev pub noTables : Tables
+noTables = record { out = []; inn = [] }
+
+-- "M = 512, R = B"
+abbrev pub wholeCuts : List Segment → List Piece
+wholeCuts ss = cuts 512 (sumOf ss) ss
+
+-- a command that look takes: ""fetch" only, ahead of 10"
+abbrev pub cutlistOf : Command → List ℕ → List ℕ
+cutlistOf c s =
+    cond (not (eqb (fetched (c .out)) 0) || not (eqb (fetched (c .inn)) 0)) fetchLine
+    (cond (not (fieldsFit c s noTables)) (refusedLine Fields)
+    (operationLines (kindOf Out) (wholeCuts (segments (c .out) s [])) ++ operationLines (kindOf In) (wholeCuts (segments (c .inn) s []))))
+
+-- what cutlist prints for the message s: "both formats agreed, X = 1,364"
+abbrev pub cutlist : List ℕ → List ℕ
+cutlist s = elim (firstOf (lookChecks 1364 6 s)) [ none ↦ cutlistOf (commandOf s) s | some r ↦ refusedLine r ]

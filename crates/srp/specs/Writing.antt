@@ -1,0 +1,99 @@
+-- Document 01, "What the port writes": the messages, byte for byte.
+use mathlib.Core.Bool.{Bool, true, false, cond, not}
+use mathlib.Core.List.{List, [], _∷_, _++_}
+use mathlib.Core.Option.{Option, none, some}
+use Prim.Native.Nat.{ℕ, _-_}
+use lib.Dec.{ltb, eqb}
+use lib.ListN.{length, drop}
+use Rattle.srp.specs.Bytes.{bit, write}
+use Rattle.srp.specs.Messages.{rsp, credReq, tLogout}
+use Rattle.srp.specs.Lists.{isSome}
+use Rattle.srp.specs.Credit.{Side}
+
+-- "Residual per direction"
+pub data Residual : Type 0 where
+  even : Residual
+  over : ℕ → Residual
+  under : ℕ → Residual
+
+-- "R > B: over, R - B. Else moved < B: under, B - moved, moved being the bytes handed out. Else no flag, count 0"
+abbrev pub residualOf : Side → Residual
+residualOf s =
+    cond (ltb (s .total) (s .required)) (over (s .required - s .total))
+    (cond (ltb (s .handed) (s .total)) (under (s .total - s .handed)) even)
+
+abbrev pub isOver : Residual → Bool
+isOver even = false
+isOver (over n) = true
+isOver (under n) = false
+
+abbrev pub isUnder : Residual → Bool
+isUnder even = false
+isUnder (over n) = false
+isUnder (under n) = true
+
+abbrev pub amount : Residual → ℕ
+amount even = 0
+amount (over n) = n
+amount (under n) = n
+
+-- what an SRP_RSP says; `code` is the RSP_CODE, where there are response bytes
+pub record Response : Type 0 where
+  pub solnt : Bool
+  pub delta : ℕ
+  pub tag : ℕ
+  pub status : ℕ
+  pub out : Residual
+  pub inn : Residual
+  pub code : Option ℕ
+  pub sense : List ℕ
+
+-- "four response bytes if any (last is RSP_CODE)"
+abbrev pub responseBytes : Option ℕ → List ℕ
+responseBytes none = []
+responseBytes (some code) = 0 ∷ 0 ∷ 0 ∷ code ∷ []
+
+-- the 36 fixed bytes
+abbrev pub responseHeader : Response → List ℕ
+responseHeader r =
+    write rsp
+    (bit (r .solnt)
+    ∷ r .delta
+    ∷ r .tag
+    ∷ bit (isSome (r .code))
+    ∷ bit (not (eqb (length (r .sense)) 0))
+    ∷ bit (isOver (r .out))
+    ∷ bit (isUnder (r .out))
+    ∷ bit (isOver (r .inn))
+    ∷ bit (isUnder (r .inn))
+    ∷ r .status
+    ∷ amount (r .out)
+    ∷ amount (r .inn)
+    ∷ length (r .sense)
+    ∷ length (responseBytes (r .code))
+    ∷ [])
+
+abbrev pub response : Response → List ℕ
+response r = responseHeader r ++ (responseBytes (r .code) ++ r .sense)
+
+-- "Response bytes stand in task answers and refusal 10 (code 02h), status 0, residuals 0"
+abbrev pub answer : Bool → ℕ → ℕ → ℕ → List ℕ
+answer solnt tag code delta =
+    response (record { solnt = solnt; delta = delta; tag = tag; status = 0; out = even; inn = even; code = some code; sense = [] })
+
+-- "Grant writes an SRP_CRED_REQ with tag 1"
+abbrev pub creditRequest : Bool → ℕ → List ℕ
+creditRequest crsolnt delta = write credReq (bit crsolnt ∷ delta ∷ 1 ∷ [])
+
+-- SRP_T_LOGOUT: "4-7 reason, tag 0"
+abbrev pub targetLogout : Bool → ℕ → List ℕ
+targetLogout losolnt reason = write tLogout (bit losolnt ∷ reason ∷ 0 ∷ [])
+
+-- "SOLNT is UCSOLNT if status or RSP_CODE is non-zero, else SCSOLNT"
+abbrev pub solicited : Bool → Bool → ℕ → Bool
+solicited ucsolnt scsolnt code = cond (eqb code 0) scsolnt ucsolnt
+
+-- "Messages go to a lent buffer of at least 132 bytes; bytes past the message keep their content"
+abbrev pub placed : List (List ℕ) → List ℕ → List ℕ
+placed [] buffer = buffer
+placed (s ∷ ss) buffer = s ++ drop (length s) buffer

@@ -1,0 +1,140 @@
+// The types that the definitions of specs/ share with the code: what is refused, what a message says, what a call answers.
+// The definitions are document 01's; the numbers that it gives these cases stand in specs/Refusals.antt.
+
+// Why a call is refused, in the order of document 01's two lists.
+pub enum Refusal {
+    ShortBuffer,
+    Setting,
+    Length,
+    OtherType,
+    OutFormat,
+    InFormat,
+    OutCount,
+    InCount,
+    TableLength,
+    Fields,
+    Argument,
+    Closed,
+    NoCredit,
+    TagOpen,
+    TagNotOpen,
+    CreditResponse,
+    Unanswered,
+    NotOwed,
+    Wanted,
+    Unplanned,
+    Planned,
+}
+
+// Data-out, which RDMA Reads fetch, and data-in, which RDMA Writes bring.
+pub enum Direction {
+    Out,
+    In,
+}
+
+pub enum Kind {
+    Read,
+    Write,
+}
+
+// A data buffer descriptor: its format and count, its place in the message; for format 2 the table's length and the total length.
+pub struct Descriptor {
+    pub format: u8,
+    pub count: u8,
+    pub at: usize,
+    pub len: u32,
+    pub total: u32,
+}
+
+// An SRP_CMD. Its CDB is the cdb bytes of the message from byte 32 on.
+pub struct Command {
+    pub tag: u64,
+    pub lun: u64,
+    pub ucsolnt: bool,
+    pub scsolnt: bool,
+    pub cdb: usize,
+    pub out: Descriptor,
+    pub inn: Descriptor,
+}
+
+// An SRP_TSK_MGMT. The function 01h is about the command with the tag managed.
+pub struct TaskRequest {
+    pub tag: u64,
+    pub lun: u64,
+    pub ucsolnt: bool,
+    pub scsolnt: bool,
+    pub function: u8,
+    pub managed: u64,
+}
+
+// What a message to the port is, or which of the refusals 3 to 8 it draws.
+pub enum Message {
+    Bad(Refusal),
+    Cmd(Command),
+    TskMgmt(TaskRequest),
+    CredRsp(u64),
+    ILogout,
+}
+
+// A table to fetch; len is 0 where there is none.
+pub struct Fetch {
+    pub address: u64,
+    pub handle: u32,
+    pub len: u32,
+}
+
+pub enum Look {
+    LookRefused(Refusal),
+    Fetches(Fetch, Fetch),
+}
+
+// A part of a segment, with its offset in the buffer that the segments make up.
+pub struct Piece {
+    pub address: u64,
+    pub handle: u32,
+    pub len: u32,
+    pub offset: u32,
+}
+
+pub enum Cut {
+    CutRefused(Refusal),
+    CutPiece(Piece),
+    CutDone,
+}
+
+// W, A, H and D of an open channel.
+pub struct Counters {
+    pub wanted: u8,
+    pub announced: u8,
+    pub held: u8,
+    pub owed: i64,
+}
+
+// An open command in a listing: the bytes handed out each way.
+pub struct Record {
+    pub tag: u64,
+    pub lun: u64,
+    pub out: u32,
+    pub inn: u32,
+}
+
+// What a call on the port answers.
+pub enum Reply {
+    Refused(Refusal),
+    // a plan, add, withdraw, finish, grant or close
+    Performed,
+    // a take: a command with its CDB's length; a task request; a settled credit request; the initiator's logout
+    NewCommand { tag: u64, lun: u64, cdb: usize },
+    TaskAnswered { tag: u64, lun: u64 },
+    CreditSettled,
+    LoggedOut,
+    // a step: an RDMA operation; done
+    Operation(Kind, Piece),
+    Done,
+    // a login
+    Accepted,
+    Rejected(u32),
+    // the counters; how many records a listing has
+    Counts(Counters),
+    Listed(usize),
+}
