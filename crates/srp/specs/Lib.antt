@@ -13,3 +13,4 @@ pub mod Login
 pub mod Outside
 pub mod Machine
 pub mod Initiator
+pub mod Rows

@@ -1,0 +1,16 @@
+-- The rows of specs/Rows.antt hold, jointly, of the definitions.
+-- Assumes nothing.
+use mathlib.Core.Path.{_≡_, refl}
+use mathlib.Core.List.{List, [], _∷_, map}
+use Prim.Native.Nat.{ℕ}
+use lib.ListN.{length, replicate}
+use Rattle.srp.specs.Requests.{readMessage}
+use Rattle.srp.specs.Rows.{Row, rows, found, expected, no-data, cmd, table, two}
+
+pub rows-hold : map found rows ≡ map expected rows
+unfolding readMessage
+rows-hold = refl
+
+-- the lengths that P5 to P7 name
+pub lengths : map {A = List ℕ} length (no-data 9 ∷ cmd 0 0 0 0 9 0 7 (replicate 4 0) ∷ table 0 32 300 [] ∷ table 2 32 300 two ∷ []) ≡ 48 ∷ 52 ∷ 68 ∷ 100 ∷ []
+lengths = refl
