@@ -2,3 +2,15 @@ pub mod Numbers
 pub mod Fields
 pub mod Layouts
 pub mod Bench
+pub mod Checks
+pub mod ListLaws
+pub mod Tags
+pub mod Reading
+pub mod CutLaws
+pub mod Deltas
+pub mod Invariant
+pub mod Taking
+pub mod Steps
+pub mod Demand
+pub mod Owed
+pub mod Ranges

@@ -98,9 +98,13 @@ abbrev pub reachable : List Segment → Bool
 reachable [] = true
 reachable (s ∷ ss) = leb (s .address + s .len) (2 ^ 64) && reachable ss
 
--- no bad field (refusal 10): the table's length, the copies, the total, the segments' ends
+-- a table's length, the copies in the message, and the total
+abbrev pub goodIndirect : Descriptor → List ℕ → List ℕ → Bool
+goodIndirect d s table = goodTable (d .len) && (copiesAgree d s table && eqb (d .total) (sumOf (segments d s table)))
+
+abbrev pub goodFormat : Descriptor → List ℕ → List ℕ → Bool
+goodFormat d s table = not (eqb (d .format) 2) || goodIndirect d s table
+
+-- no bad field (refusal 10)
 abbrev pub goodFields : Descriptor → List ℕ → List ℕ → Bool
-goodFields d s table =
-    (not (eqb (d .format) 2)
-    || (goodTable (d .len) && (copiesAgree d s table && eqb (d .total) (sumOf (segments d s table)))))
-    && reachable (segments d s table)
+goodFields d s table = goodFormat d s table && reachable (segments d s table)

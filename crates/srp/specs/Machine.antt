@@ -70,6 +70,8 @@ pub record Progress : Type 0 where
 pub record Track : Type 0 where
   pub tag : ℕ
   pub lun : ℕ
+  pub ucsolnt : Bool
+  pub scsolnt : Bool
   pub planned : Bool
   pub out : Progress
   pub inn : Progress
@@ -83,6 +85,8 @@ newTrack c s t =
     record {
       tag = c .tag;
       lun = c .lun;
+      ucsolnt = c .ucsolnt;
+      scsolnt = c .scsolnt;
       planned = false;
       out = fresh (segments (c .out) s (t .out));
       inn = fresh (segments (c .inn) s (t .inn));
@@ -92,14 +96,14 @@ abbrev pub needing : ℕ → Progress → Progress
 needing r g = record { segs = g .segs; required = r; operations = g .operations }
 
 abbrev pub plannedFor : ℕ → ℕ → Track → Track
-plannedFor out inn t = record { tag = t .tag; lun = t .lun; planned = true; out = needing out (t .out); inn = needing inn (t .inn) }
+plannedFor out inn t = record { tag = t .tag; lun = t .lun; ucsolnt = t .ucsolnt; scsolnt = t .scsolnt; planned = true; out = needing out (t .out); inn = needing inn (t .inn) }
 
 abbrev pub oneMore : Piece → Progress → Progress
 oneMore o g = record { segs = g .segs; required = g .required; operations = g .operations ++ (o ∷ []) }
 
 abbrev pub given : Direction → Piece → Track → Track
-given Out o t = record { tag = t .tag; lun = t .lun; planned = t .planned; out = oneMore o (t .out); inn = t .inn }
-given In o t = record { tag = t .tag; lun = t .lun; planned = t .planned; out = t .out; inn = oneMore o (t .inn) }
+given Out o t = record { tag = t .tag; lun = t .lun; ucsolnt = t .ucsolnt; scsolnt = t .scsolnt; planned = t .planned; out = oneMore o (t .out); inn = t .inn }
+given In o t = record { tag = t .tag; lun = t .lun; ucsolnt = t .ucsolnt; scsolnt = t .scsolnt; planned = t .planned; out = t .out; inn = oneMore o (t .inn) }
 
 abbrev pub progressOf : Direction → Track → Progress
 progressOf Out t = t .out

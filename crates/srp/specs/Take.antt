@@ -131,14 +131,14 @@ ucsolntOf (CredRsp g) = false
 ucsolntOf ILogout = false
 
 -- "Refusal 10 is taken and answered in the same call", with code 02h
-abbrev pub answerBad : Port → Message → Outcome
-answerBad p m = answering (withHeld p (p .announced - 1) (p .held)) (Refused Fields) (answer (ucsolntOf m) (tagOf m) 0x02)
+abbrev pub answerBad : Port → Message → Refusal → Outcome
+answerBad p m r = answering (withHeld p (p .announced - 1) (p .held)) (Refused r) (answer (ucsolntOf m) (tagOf m) 0x02)
 
 -- "Every other refusal returns its number and alters nothing"
 abbrev pub refusedBy : Port → Message → Refusal → Outcome
 refusedBy p m r =
     cond (hangsUp (numberOf r)) (hangUp p r)
-    (cond (eqb (numberOf r) 10) (answerBad p m)
+    (cond (eqb (numberOf r) 10) (answerBad p m r)
     (silent p (Refused r)))
 
 abbrev pub takeBy : Option Refusal → Port → List ℕ → Tables → Message → Outcome

@@ -1,0 +1,172 @@
+-- Demand 3, of whatever makes the calls as the definitions have them: one theorem over lists of events.
+-- It is stated in specs/Machine.antt (Demand). Its premises are N ≤ 16, 1 ≤ M (both from the login's settings), a run whose calls meet
+-- their definitions (Meets), and an initiator that sends requests only with a limit of at least 1 (Fair). That the initiator answers each
+-- credit request at most once, which demand 3 allows to assume, is not needed.
+-- Assumes nothing.
+use mathlib.Core.Path.{_≡_, refl, ap, sym, _∙_, subst}
+use mathlib.Core.Logic.{_↔_}
+use mathlib.Core.Bool.{Bool, true, false, cond, not, true≢false}
+use mathlib.Core.List.{List, [], _∷_}
+use mathlib.Core.Option.{Option, none, some, Option·map, Option·none-ne-some, Option·some-ne-none, Option·some-injective}
+use Prim.Native.Nat.{ℕ, _+_, _-_, _≤_}
+use native.Mathlib.Omega.{arith}
+use Rattle.srp.specs.Lists.{find}
+use Rattle.srp.specs.Refusals.{numberOf, firstOf}
+use Rattle.srp.specs.Requests.{isRequest}
+use Rattle.srp.specs.Credit.{Open, Port}
+use Rattle.srp.specs.Take.{Outcome, Tables, hasTag, takeChecks, accepted, refusedBy, takeBy, takeRead, takeDef}
+use Rattle.srp.specs.Calls.{unless, isPlanned, planChecks, nextOf, handOut, stepChecks, finishChecks, addChecks, withdrawChecks, grantChecks}
+use Rattle.srp.specs.Machine.{Track, tracks-tag, hasPlan, Event, sends, delivers, takes, plans, steps, finishes, adds, withdraws, grants, Machine, wantedBy, refusalIn, Until, Terms, read, settle, after, byLogout, closes, takeFront, call, Allowed, takeSeen, frontSeen, Refuses, Answers, Then, Run, Fair, Demand, Meets, start}
+use Rattle.srp.specs.declared.Refusal.{Refusal}
+use Rattle.srp.specs.declared.Direction.{Direction}
+use Rattle.srp.specs.declared.Piece.{Piece}
+use Rattle.srp.specs.declared.Message.{Message}
+use Rattle.srp.specs.declared.Message.the-variants.{Bad, Cmd, TskMgmt, CredRsp, ILogout}
+use Rattle.srp.specs.declared.Reply.{Reply}
+use Rattle.srp.specs.declared.Reply.the-variants.{Refused, Performed}
+use Rattle.srp.proofs.Checks.{passes}
+use Rattle.srp.proofs.Reading.{ByType, read-by-type}
+use Rattle.srp.proofs.Invariant.{openIn, Settled, Ok, find-same, open-same, lacks, now, Fine}
+use Rattle.srp.proofs.Taking.{refused-as, take-same, take-fine, take-credited}
+use Rattle.srp.proofs.Steps.{send-fine, deliver-fine, add-fine, withdraw-fine, grant-fine, finish-fine, plan-fine, step-fine, step-right}
+
+-- ── refusals, by the port's state and by what the machine has counted
+
+unrefused : (r : Reply) (f : Refusal) → refusalIn r ≡ none → r ≡ Refused f → ⊥
+unrefused r f e g = Option·none-ne-some f (sym e ∙ ap refusalIn g)
+
+module _ {T : Terms} {m : Machine} {p : Port} (h : Ok T m p) where
+  plan-same : (tag : ℕ) → isPlanned (find (hasTag tag) (p .held)) ≡ hasPlan (find (tracks-tag tag) (m .tracks))
+  plan-same tag = ap isPlanned (find-same h tag) ∙ by-case (find (tracks-tag tag) (m .tracks))
+    where
+      by-case : (o : Option Track) → isPlanned (Option·map openIn o) ≡ hasPlan o
+      by-case none = refl
+      by-case (some t) = refl
+
+  wanted-same : p .wanted ≡ wantedBy (T .buffers) m
+  wanted-same = omega (arith, h .wanted)
+
+  seen-same : (room : ℕ) (s : List ℕ) (t : Tables) (d : Message) → firstOf (takeChecks p room s t d) ≡ firstOf (takeSeen T m room s t d)
+  seen-same room s t (Bad r) = rw (h .settled .0)
+  seen-same room s t (Cmd c) = rw (h .settled .0, open-same h (c .tag), h .credit)
+  seen-same room s t (TskMgmt k) = rw (h .settled .0, open-same h (k .tag), h .credit)
+  seen-same room s t (CredRsp g) = rw (h .settled .0, h .unanswered)
+  seen-same room s t ILogout = rw (h .settled .0)
+
+  -- the port's first refusal is v, the machine's k
+  unless-iff : (v k : Option Refusal) (o : Outcome) → v ≡ k → refusalIn (o .reply) ≡ none → (f : Refusal) → (unless v p o .reply ≡ Refused f) ↔ (k ≡ some f)
+  unless-iff none k o e u f = ((λ g. absurd (unrefused (o .reply) f u g)), λ g. absurd (Option·none-ne-some f (e ∙ g)))
+  unless-iff (some r) k o e u f = ((λ g. sym e ∙ (let z : r ≡ f = cc in ap some z)), λ g. ap Refused (Option·some-injective r f (e ∙ g)))
+
+  take-iff : (room : ℕ) (s : List ℕ) (t : Tables) (d : Message) (b : Bool) → ByType b d → (f : Refusal)
+      → (takeRead p room s t d .reply ≡ Refused f) ↔ (firstOf (takeSeen T m room s t d) ≡ some f)
+  take-iff room s t d b l f = go (firstOf (takeChecks p room s t d)) refl
+    where
+      first : (d : Message) → firstOf (takeChecks p room s t d) ≡ none → accepted p s t d .reply ≡ Refused f → ⊥
+      first (Bad r) e g = true≢false (passes (takeChecks p room s t (Bad r)) e .1 .1 .0)
+      first (Cmd c) e g = unrefused _ f refl g
+      first (TskMgmt c) e g = unrefused _ f refl g
+      first (CredRsp c) e g = unrefused _ f refl g
+      first ILogout e g = unrefused _ f refl g
+
+      go : (v : Option Refusal) → firstOf (takeChecks p room s t d) ≡ v → (takeBy v p s t d .reply ≡ Refused f) ↔ (firstOf (takeSeen T m room s t d) ≡ some f)
+      go none e = ((λ g. absurd (first d e g)), λ g. absurd (Option·none-ne-some f (sym e ∙ seen-same room s t d ∙ g)))
+      go (some r) e = (
+        (λ g. sym (seen-same room s t d) ∙ e ∙ (let z : r ≡ f = cc (refused-as p d r) in ap some z)),
+        λ g. refused-as p d r ∙ ap Refused (Option·some-injective r f (sym e ∙ seen-same room s t d ∙ g)),
+      )
+
+  front-iff : (room : ℕ) (t : Tables) (q : List (List ℕ)) (f : Refusal) → (takeFront T p room t q .reply ≡ Refused f) ↔ (firstOf (frontSeen T m room t q) ≡ some f)
+  front-iff room t [] f = ((λ g. absurd (unrefused Performed f refl g)), λ g. absurd (Option·none-ne-some f g))
+  front-iff room t (s ∷ ss) f =
+      subst (λ (o : Outcome). (o .reply ≡ Refused f) ↔ (firstOf (takeSeen T m room s t (read T s)) ≡ some f)) (sym (take-same h room t s))
+      (take-iff room s t (read T s) (isRequest s) (read-by-type (T .agreed) (T .formats) s) f)
+
+  hand-unrefused : (tag : ℕ) (d : Direction) (v : Option Piece) → refusalIn (handOut p tag d v .reply) ≡ none
+  hand-unrefused tag d none = refl
+  hand-unrefused tag d (some o) = refl
+
+module _ (T : Terms) (some-M : 1 ≤ T .maximum) (m : Machine) (p : Port) (h : Ok T m p) where
+  refuses : (e : Event) → Refuses T m e (call T p m e .reply)
+  refuses (sends s) f = ((λ g. absurd (unrefused Performed f refl g)), λ g. absurd (Option·none-ne-some f g))
+  refuses delivers f = ((λ g. absurd (unrefused Performed f refl g)), λ g. absurd (Option·none-ne-some f g))
+  refuses (takes room t) f = front-iff h room t (m .toPort) f
+  refuses (plans tag a b) f = unless-iff h (firstOf (planChecks p tag)) _ _ (rw (h .settled .0, open-same h tag, plan-same h tag)) refl f
+  refuses (steps tag d) f =
+      unless-iff h (firstOf (stepChecks p tag)) _ _ (rw (h .settled .0, open-same h tag, plan-same h tag))
+      (hand-unrefused h tag d (nextOf (p .maximum) d (find (hasTag tag) (p .held)))) f
+  refuses (finishes room tag st se) f = unless-iff h (firstOf (finishChecks p room tag st se)) _ _ (rw (h .settled .0, open-same h tag)) refl f
+  refuses (adds k) f = unless-iff h (firstOf (addChecks p k)) _ _ (rw (h .settled .0, wanted-same h)) refl f
+  refuses (withdraws k) f = unless-iff h (firstOf (withdrawChecks p k)) _ _ (rw (h .settled .0, wanted-same h)) refl f
+  refuses (grants room) f = unless-iff h (firstOf (grantChecks p room)) _ _ (rw (h .settled .0, h .unanswered, lacks h)) refl f
+
+  fine : (e : Event) → Allowed T m e → Fine T (settle T m e (call T p m e .reply)) (byLogout T m e (call T p m e .reply)) (call T p m e)
+  fine (sends s) a = send-fine h s a
+  fine delivers a = deliver-fine h (m .toInitiator) refl
+  fine (takes room t) a = take-fine h room t (m .toPort) refl
+  fine (plans tag a b) _ = plan-fine h tag a b
+  fine (steps tag d) a = step-fine h some-M tag d
+  fine (finishes room tag st se) a = finish-fine h room tag st se
+  fine (adds k) a = add-fine h k
+  fine (withdraws k) a = withdraw-fine h k
+  fine (grants room) a = grant-fine h room
+
+  answers : (e : Event) → Answers T m e (call T p m e .reply)
+  answers (sends s) = tt
+  answers delivers = tt
+  answers (takes room t) = take-credited h room t (m .toPort) refl
+  answers (plans tag a b) = tt
+  answers (steps tag d) = step-right h some-M tag d
+  answers (finishes room tag st se) = tt
+  answers (adds k) = tt
+  answers (withdraws k) = tt
+  answers (grants room) = tt
+
+  -- an event does what demand 3 says, and keeps the invariant until the channel closes
+  Kept : Event → Outcome → Type 0
+  Kept e o = Then T m e (o .reply) (o .wrote) × Until (closes T m e (o .reply) (o .wrote)) (Ok T (after T m e (o .reply) (o .wrote)) (o .port))
+
+  kept : (e : Event) → Allowed T m e → Kept e (call T p m e)
+  unfolding Kept
+  kept e a = let o = fine e a in (record { lift = o .lift; refuses = refuses e; answers = answers e }, o .keep)
+
+-- ── the theorem
+
+meanwhile : {A B C : Type 0} (b : Bool) → Until b A → Until b B → (A → B → C) → Until b C
+meanwhile true a b f = tt
+meanwhile false a b f = f a b
+
+-- "the port as the login returned it": W = A = N, no command open, no credit request unanswered
+pub record Starts (T : Terms) (p : Port) : Type 0 where
+  pub settled : Settled T p
+  pub wanted : p .wanted ≡ T .buffers
+  pub announced : p .announced ≡ T .buffers
+  pub held : p .held ≡ []
+  pub unanswered : p .unanswered ≡ false
+
+module _ (T : Terms) {S : Type 0} (view : S → Port) (Call : S → Machine → Event → Reply → List (List ℕ) → S → Type 0) (meets : Meets T view Call) (some-M : 1 ≤ T .maximum) where
+  from : (es : List Event) (s : S) (m : Machine) (run : Run T view Call s m es) → Ok T m (view s) → Fair T view Call s m es run → Demand T view Call s m es run
+  unfolding Kept
+  from [] s m run h f = now h
+  from (e ∷ es) s m run h f =
+      let k = subst (λ (o : Outcome). Kept T some-M m (view s) h e o) (meets s m e (run .0) (run .1) (run .2) (run .3)) (kept T some-M m (view s) h e (f .0)) in (
+        now h,
+        k .0,
+        meanwhile (closes T m e (run .0) (run .1)) (k .1) (f .1) (λ a b. from es (run .2) (after T m e (run .0) (run .1)) (run .4) a b),
+      )
+
+  pub demand-3 : T .buffers ≤ 16 → (s : S) → Starts T (view s) → (es : List Event) (run : Run T view Call s (start (T .buffers)) es)
+      → Fair T view Call s (start (T .buffers)) es run → Demand T view Call s (start (T .buffers)) es run
+  demand-3 few s b es run f =
+      from es s (start (T .buffers)) run
+      (record {
+        settled = b .settled;
+        small = omega (arith, b .wanted);
+        credit = omega (arith, b .announced);
+        wanted = omega (arith, b .wanted);
+        commands = b .held;
+        sound = tt;
+        unanswered = b .unanswered;
+        distinct = tt;
+      })
+      f

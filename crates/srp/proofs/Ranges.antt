@@ -1,0 +1,372 @@
+-- What every port that a login made and calls changed has: 1 ≤ W ≤ 16, A + H ≤ 16, 1 ≤ M ≤ 2^20; of each direction of an open command every
+-- segment inside 2^64, B the sum of the lengths and below 2^32, at most min(R, B) bytes handed out. And a closed port is one value.
+-- Assumes nothing.
+use mathlib.Core.Path.{_≡_, refl, ap, sym, _∙_}
+use mathlib.Core.Logic.{_⊎_, inl, inr, ⊎-elim}
+use mathlib.Core.Bool.{Bool, true, false, cond, not, _&&_, _||_, true≢false}
+use mathlib.Core.List.{List, [], _∷_, _++_}
+use mathlib.Core.Option.{Option, none, some, Option·none-ne-some}
+use Prim.Native.Nat.{ℕ, zero, suc, _+_, _-_, _/_, _^_, _≤_, _<_, min}
+use native.Mathlib.Omega.{arith}
+use lib.Dec.{ltb, eqb}
+use lib.ListN.{length, take, drop, length-append, length-take}
+use borrow.Author.Tests.{ltb-false, leb-false, eqb-true, eqb-false, not-false}
+use Rattle.srp.specs.Bytes.{number, get, typeOf}
+use Rattle.srp.specs.Messages.{outFormat, inFormat, outCount, inCount, tskMgmt, cmd, iLogout, credRsp}
+use Rattle.srp.specs.Lists.{find, change, without, All}
+use Rattle.srp.specs.Refusals.{numberOf, firstOf, hangsUp, bufferSize, short}
+use Rattle.srp.specs.Descriptors.{segmentsIn, segmentsOf, segments, sumOf, reachable, descriptorOf, goodTable, copiesAgree, goodFields}
+use Rattle.srp.specs.Requests.{outAt, inAt, outDescriptor, inDescriptor, commandOf, unlessBad, lengthChecks, commandChecks, readMessage}
+use Rattle.srp.specs.Cutting.{next, badMaximum}
+use Rattle.srp.specs.Credit.{Side, Open, Port, closedPort, due, withHeld, withWanted, withUnanswered}
+use Rattle.srp.specs.Take.{Outcome, silent, hangUp, closed, answerBad, Tables, fieldsFit, newSide, newOpen, aborts, takeChecks, accepted, takeBy, takeDef, hasTag}
+use Rattle.srp.specs.Calls.{unless, planned as withPlan, planChecks, planDef, requiring, sideOf, handing, advanced, nextOf, wrapped, handOut, stepChecks, stepDef, finishChecks, finishDef, addChecks, addDef, withdrawChecks, withdrawDef, grantChecks, grantDef, closeDef}
+use Rattle.srp.specs.Login.{Settings, badSettings, loginChecks, rejections, judged, loginBy, loginDef}
+use Rattle.srp.specs.declared.Refusal.{Refusal}
+use Rattle.srp.specs.declared.Refusal.the-variants.{ShortBuffer, Closed}
+use Rattle.srp.specs.declared.Descriptor.{Descriptor}
+use Rattle.srp.specs.declared.Message.{Message}
+use Rattle.srp.specs.declared.Message.the-variants.{Bad, Cmd, TskMgmt, CredRsp, ILogout}
+use Rattle.srp.specs.declared.Direction.{Direction}
+use Rattle.srp.specs.declared.Direction.the-variants.{Out, In}
+use Rattle.srp.specs.declared.Piece.{Piece}
+use Rattle.srp.specs.declared.Reply.the-variants.{Refused}
+use Rattle.srp.proofs.Fields.{both}
+use Rattle.srp.proofs.ListLaws.{all-snoc, all-without, all-find, all-change, length-change, length-without}
+use Rattle.srp.proofs.Checks.{passes}
+use Rattle.srp.proofs.CutLaws.{piece-fits, wrapped-same}
+
+-- ── the claim
+
+-- each is a byte
+abbrev pub Bytes : List ℕ → Type 0
+Bytes s = All (λ b. b < 256) s
+
+-- one direction: its segments end by 2^64, `total` is B
+pub record SideRanges (s : Side) : Type 0 where
+  pub reach : reachable (s .segs) ≡ true
+  pub sum : s .total ≡ sumOf (s .segs)
+  pub small : s .total < 2 ^ 32
+  pub handed : s .handed ≤ min (s .required) (s .total)
+  pub required : s .required < 2 ^ 32
+
+-- an open command: R is 0 until it is planned
+pub record OpenRanges (c : Open) : Type 0 where
+  pub out : SideRanges (c .out)
+  pub inn : SideRanges (c .inn)
+  pub unplanned : c .planned ≡ false → (c .out .required ≡ 0) × (c .inn .required ≡ 0)
+
+-- a port that is open: W, A + H, M and its commands
+pub record Ranges (p : Port) : Type 0 where
+  pub live : p .live ≡ true
+  pub least : 1 ≤ p .wanted
+  pub most : p .wanted ≤ 16
+  pub room : p .announced + length (p .held) ≤ 16
+  pub smallest : 1 ≤ p .maximum
+  pub largest : p .maximum ≤ 1048576
+  pub commands : All OpenRanges (p .held)
+
+-- the ports that a login made, accepted or not, and calls changed, whatever they answered; a message is bytes, and R below 2^32
+pub data Reached : Port → Type 0 where
+  logged-in : (c : Settings) (room : ℕ) (s : List ℕ) → Reached (loginDef c room s .port)
+  took : {p : Port} → Reached p → (room : ℕ) (s : List ℕ) (t : Tables) → Bytes s → Reached (takeDef p room s t .port)
+  planned : {p : Port} → Reached p → (tag out inn : ℕ) → out < 2 ^ 32 → inn < 2 ^ 32 → Reached (planDef p tag out inn .port)
+  stepped : {p : Port} → Reached p → (tag : ℕ) (d : Direction) → Reached (stepDef p tag d .port)
+  finished : {p : Port} → Reached p → (room tag status : ℕ) (sense : List ℕ) → Reached (finishDef p room tag status sense .port)
+  added : {p : Port} → Reached p → (k : ℕ) → Reached (addDef p k .port)
+  withdrew : {p : Port} → Reached p → (k : ℕ) → Reached (withdrawDef p k .port)
+  granted : {p : Port} → Reached p → (room : ℕ) → Reached (grantDef p room .port)
+  hung-up : {p : Port} → Reached p → (room reason : ℕ) → Reached (closeDef p room reason .port)
+
+-- closed, as the one value, or open with the ranges
+abbrev pub Kept : Port → Type 0
+Kept p = (p ≡ closedPort) ⊎ Ranges p
+
+-- ── a message's segments
+
+neither : (a b : Bool) → (a || b) ≡ false → (a ≡ false) × (b ≡ false)
+neither true b e = absurd (true≢false e)
+neither false b e = (refl, e)
+
+all-drop : {A : Type 0} (P : A → Type 0) (n : ℕ) (l : List A) → All P l → All P (drop n l)
+all-drop P zero l a = a
+all-drop P (suc n) [] a = tt
+all-drop P (suc n) (x ∷ l) a = all-drop P n l (a .1)
+
+all-take : {A : Type 0} (P : A → Type 0) (n : ℕ) (l : List A) → All P l → All P (take n l)
+all-take P zero l a = tt
+all-take P (suc n) [] a = tt
+all-take P (suc n) (x ∷ l) a = (a .0, all-take P n l (a .1))
+
+-- a number of up to 4 bytes
+four : (l : List ℕ) → Bytes l → number 0 (take 4 l) < 2 ^ 32
+four [] a = omega arith
+four (b ∷ []) a = omega (arith, a .0)
+four (b ∷ c ∷ []) a = omega (arith, a .0, a .1 .0)
+four (b ∷ c ∷ d ∷ []) a = omega (arith, a .0, a .1 .0, a .1 .1 .0)
+four (b ∷ c ∷ d ∷ e ∷ l) a = omega (arith, a .0, a .1 .0, a .1 .1 .0, a .1 .1 .1 .0)
+
+four-at : (n : ℕ) (s : List ℕ) → Bytes s → number 0 (take 4 (drop n s)) < 2 ^ 32
+four-at n s a = four (drop n s) (all-drop (λ b. b < 256) n s a)
+
+one-segment : (k : ℕ) (l : List ℕ) → k ≤ 1 → Bytes l → sumOf (segmentsIn k l) < 2 ^ 32
+one-segment zero l h a = omega arith
+one-segment (suc zero) l h a = omega (arith, four-at 12 l a)
+one-segment (suc (suc k)) l h a = absurd (omega arith)
+
+module _ (f count at : ℕ) (s table : List ℕ) (b : Bytes s) where
+  abbrev desc : Descriptor
+  desc = descriptorOf f count at s
+
+  abbrev B : ℕ
+  B = sumOf (segments desc s table)
+
+  -- what goodFields asks besides the segments' ends, where `two` says that the format is 2
+  abbrev tests : Bool → Bool
+  tests two = not two || (goodTable (desc .len) && (copiesAgree desc s table && eqb (desc .total) B))
+
+  -- below 2^32: the length field of the one segment, or equal to the field total length
+  small : tests (eqb f 2) ≡ true → B < 2 ^ 32
+  small h = go (eqb f 2) refl h
+    where
+      total-small : (y : Bool) → cond y (number 0 (take 4 (drop (at + 16) s))) 0 < 2 ^ 32
+      total-small true = four-at (at + 16) s b
+      total-small false = omega arith
+
+      first : List ℕ
+      first = take 16 (drop at s)
+
+      one : (x : Bool) → sumOf (segmentsOf (cond x first [])) < 2 ^ 32
+      one true =
+          one-segment (length first / 16) first (omega (arith, length-take 16 (drop at s)))
+          (all-take (λ b. b < 256) 16 (drop at s) (all-drop (λ b. b < 256) at s b))
+      one false = omega arith
+
+      go : (y : Bool) → eqb f 2 ≡ y → tests y ≡ true → B < 2 ^ 32
+      go true e h =
+          let sums = both (copiesAgree desc s table) (eqb (desc .total) B) (both (goodTable (desc .len)) _ h .1) .1 in
+          omega (arith, eqb-true (desc .total) B sums, total-small (eqb f 2))
+      go false e h = rw e (one (eqb f 1))
+
+  new-ranges : goodFields desc s table ≡ true → SideRanges (newSide (segments desc s table))
+  new-ranges good =
+      let g = both (tests (eqb f 2)) (reachable (segments desc s table)) good in
+      record { reach = g .1; sum = refl; small = small (g .0); handed = omega arith; required = omega arith }
+
+-- a command that a message of bytes is read as has such segments, where its fields are good
+abbrev Sane : List ℕ → Tables → Message → Type 0
+Sane s t (Bad r) = Unit {0}
+Sane s t (Cmd c) = fieldsFit c s t ≡ true → OpenRanges (newOpen c s t)
+Sane s t (TskMgmt k) = Unit {0}
+Sane s t (CredRsp g) = Unit {0}
+Sane s t ILogout = Unit {0}
+
+module _ (s : List ℕ) (t : Tables) (b : Bytes s) where
+  pick : (c : Bool) (x y : Message) → Sane s t x → Sane s t y → Sane s t (cond c x y)
+  pick true x y a b = a
+  pick false x y a b = b
+
+  otherwise : (r : Option Refusal) (m : Message) → Sane s t m → Sane s t (unlessBad r m)
+  otherwise none m a = a
+  otherwise (some r) m a = tt
+
+  command-sane : Sane s t (Cmd (commandOf s))
+  command-sane e =
+      let g = both (goodFields (outDescriptor s) s (t .out)) (goodFields (inDescriptor s) s (t .inn)) e in
+      record {
+        out = new-ranges (get outFormat s) (get outCount s) (outAt s) s (t .out) b (g .0);
+        inn = new-ranges (get inFormat s) (get inCount s) (inAt s) s (t .inn) b (g .1);
+        unplanned = λ _. (refl, refl);
+      }
+
+  read-sane : (agreed formats : ℕ) → Sane s t (readMessage agreed formats s)
+  unfolding readMessage
+  read-sane agreed formats =
+      otherwise (firstOf (lengthChecks agreed s)) _
+      (pick (eqb (typeOf s) (cmd .code)) _ _ (otherwise (firstOf (commandChecks formats s)) _ command-sane)
+      (pick (eqb (typeOf s) (tskMgmt .code)) _ _ (pick (eqb (length s) (tskMgmt .size)) _ _ tt tt)
+      (pick (eqb (typeOf s) (iLogout .code)) _ _ (pick (eqb (length s) (iLogout .size)) _ _ tt tt)
+      (pick (eqb (typeOf s) (credRsp .code)) _ _ (pick (eqb (length s) (credRsp .size)) _ _ tt tt) tt))))
+
+-- ── each call on a port that has them
+
+module _ {p : Port} (v : Ranges p) where
+  fewer : (a : ℕ) (cs : List Open) → a + length cs ≤ 16 → All OpenRanges cs → Ranges (withHeld p a cs)
+  fewer a cs h r =
+      record { live = v .live; least = v .least; most = v .most; room = h; smallest = v .smallest; largest = v .largest; commands = r }
+
+  wanting : (w : ℕ) → 1 ≤ w → w ≤ 16 → Ranges (withWanted p w)
+  wanting w a b =
+      record { live = v .live; least = a; most = b; room = v .room; smallest = v .smallest; largest = v .largest; commands = v .commands }
+
+  asking : (b : Bool) → Ranges (withUnanswered p b)
+  asking b =
+      record { live = v .live; least = v .least; most = v .most; room = v .room; smallest = v .smallest; largest = v .largest; commands = v .commands }
+
+  unless-kept : (r : Option Refusal) (o : Outcome) → (r ≡ none → Kept (o .port)) → Kept (unless r p o .port)
+  unless-kept none o f = f refl
+  unless-kept (some r) o f = inr v
+
+  changed : (f : Open → Bool) (g : Open → Open) → ((c : Open) → find f (p .held) ≡ some c → OpenRanges c → OpenRanges (g c))
+      → Kept (withHeld p (p .announced) (change f g (p .held)))
+  changed f g h =
+      inr (fewer (p .announced) (change f g (p .held)) (omega (arith, v .room, length-change f g (p .held))) (all-change OpenRanges f g (p .held) (v .commands) h))
+
+module _ {p : Port} (v : Ranges p) where
+  -- a message that pays what is due
+  paid : Ranges (withHeld p (p .announced + due p) (p .held))
+  paid = fewer v (p .announced + due p) (p .held) (omega (arith, v .room, v .most)) (v .commands)
+
+  -- commands left out
+  shorter : (a : ℕ) (f : Open → Bool) → a ≤ p .announced → Ranges (withHeld p a (without f (p .held)))
+  shorter a f h = fewer v a (without f (p .held)) (omega (arith, v .room, length-without f (p .held))) (all-without OpenRanges f (p .held) (v .commands))
+
+module _ {p : Port} (v : Ranges p) where
+  take-kept : (room : ℕ) (s : List ℕ) (t : Tables) → Bytes s → Kept (takeDef p room s t .port)
+  take-kept room s t b = go (readMessage (p .agreed) (p .formats) s) (read-sane s t b (p .agreed) (p .formats))
+    where
+      by : (hang bad : Bool) (m : Message) (r : Refusal) → Kept (cond hang (hangUp p r) (cond bad (answerBad p m r) (silent p (Refused r))) .port)
+      by true bad m r = inl refl
+      by false true m r = inr (paid (fewer v (p .announced - 1) (p .held) (omega (arith, v .room)) (v .commands)))
+      by false false m r = inr v
+
+      accept : (m : Message) → Sane s t m → firstOf (takeChecks p room s t m) ≡ none → Kept (accepted p s t m .port)
+      accept (Bad r) k e = inl refl
+      accept (Cmd c) k e =
+          let q = passes (takeChecks p room s t (Cmd c)) e in
+          inr
+          (fewer v (p .announced - 1) (p .held ++ (newOpen c s t ∷ []))
+          (omega (arith, v .room, length-append (p .held) (newOpen c s t ∷ []), eqb-false (p .announced) 0 (q .1 .1 .0)))
+          (all-snoc OpenRanges (p .held) (newOpen c s t) (v .commands) (k (not-false (fieldsFit c s t) (q .1 .1 .1 .1 .1 .0)))))
+      accept (TskMgmt k) a e = inr (paid (shorter v (p .announced - 1) (λ (c : Open). aborts k (c .tag) (c .lun)) (omega arith)))
+      accept (CredRsp g) k e = inr (asking v false)
+      accept ILogout k e = inl refl
+
+      end : (r : Option Refusal) (m : Message) → Sane s t m → firstOf (takeChecks p room s t m) ≡ r → Kept (takeBy r p s t m .port)
+      end none m k e = accept m k e
+      end (some r) m k e = by (hangsUp (numberOf r)) (eqb (numberOf r) 10) m r
+
+      go : (m : Message) → Sane s t m → Kept (takeBy (firstOf (takeChecks p room s t m)) p s t m .port)
+      go m k = end (firstOf (takeChecks p room s t m)) m k refl
+
+  plan-kept : (tag out inn : ℕ) → out < 2 ^ 32 → inn < 2 ^ 32 → Kept (planDef p tag out inn .port)
+  plan-kept tag out inn ho hi =
+      unless-kept v (firstOf (planChecks p tag)) _ λ e.
+      changed v (hasTag tag) (withPlan out inn) λ c f r.
+      let u = r .unplanned (rw f at (passes (planChecks p tag) e .1 .1 .0)) in
+      record { out = requires (c .out) out (r .out) (u .0) ho; inn = requires (c .inn) inn (r .inn) (u .1) hi; unplanned = λ z. absurd (true≢false z) }
+    where
+      requires : (s : Side) (n : ℕ) → SideRanges s → s .required ≡ 0 → n < 2 ^ 32 → SideRanges (requiring n s)
+      requires s n r z h = record { reach = r .reach; sum = r .sum; small = r .small; handed = omega (arith, r .handed); required = h }
+
+  step-kept : (tag : ℕ) (d : Direction) → Kept (stepDef p tag d .port)
+  step-kept tag d = unless-kept v (firstOf (stepChecks p tag)) _ λ _. go (nextOf (p .maximum) d (find (hasTag tag) (p .held))) refl
+    where
+      hands : (s : Side) (o : Piece) → SideRanges s → next (p .maximum) (s .handed) (min (s .required) (s .total)) (s .segs) ≡ some o → SideRanges (handing (o .len) s)
+      hands s o r e =
+          let f = piece-fits (p .maximum) 0 (s .handed) (min (s .required) (s .total)) (s .segs) o (v .smallest) e in
+          record { reach = r .reach; sum = r .sum; small = r .small; handed = f .upto; required = r .required }
+
+      more : (d : Direction) (c : Open) (o : Piece) → nextOf (p .maximum) d (some c) ≡ some o → OpenRanges c → OpenRanges (advanced d (o .len) c)
+      more Out c o e r = record { out = hands (c .out) o (r .out) e; inn = r .inn; unplanned = r .unplanned }
+      more In c o e r = record { out = r .out; inn = hands (c .inn) o (r .inn) e; unplanned = r .unplanned }
+
+      go : (o : Option Piece) → nextOf (p .maximum) d (find (hasTag tag) (p .held)) ≡ o → Kept (handOut p tag d o .port)
+      go none e = inr v
+      go (some o) e = changed v (hasTag tag) (advanced d (o .len)) λ c f r. more d c o (rw f at e) r
+
+  add-kept : (k : ℕ) → Kept (addDef p k .port)
+  add-kept k =
+      unless-kept v (firstOf (addChecks p k)) _ λ e.
+      inr (wanting v (p .wanted + k) (omega (arith, v .least)) (ltb-false 16 (p .wanted + k) (passes (addChecks p k) e .1 .1 .0)))
+
+  withdraw-kept : (k : ℕ) → Kept (withdrawDef p k .port)
+  withdraw-kept k =
+      unless-kept v (firstOf (withdrawChecks p k)) _ λ e.
+      inr (wanting v (p .wanted - k) (omega (arith, leb-false (p .wanted) k (passes (withdrawChecks p k) e .1 .1 .0))) (omega (arith, v .most)))
+
+  finish-kept : (room tag status : ℕ) (sense : List ℕ) → Kept (finishDef p room tag status sense .port)
+  finish-kept room tag status sense =
+      unless-kept v (firstOf (finishChecks p room tag status sense)) _ λ _. inr (paid (shorter v (p .announced) (hasTag tag) (omega arith)))
+
+  grant-kept : (room : ℕ) → Kept (grantDef p room .port)
+  grant-kept room = unless-kept v (firstOf (grantChecks p room)) _ λ _. inr (paid (asking v true))
+
+  close-kept : (room reason : ℕ) → Kept (closeDef p room reason .port)
+  close-kept room reason = unless-kept v (firstOf (short room ∷ closed p ∷ [])) _ λ _. inl refl
+
+login-kept : (c : Settings) (room : ℕ) (s : List ℕ) → Kept (loginDef c room s .port)
+login-kept c room s = go (firstOf (loginChecks c room s)) refl
+  where
+    opens : badSettings c ≡ false → (r : Option ℕ) → Kept (judged r c s .port)
+    opens e none =
+        let a = neither (eqb (c .buffers) 0) _ e in
+        let b = neither (ltb 16 (c .buffers)) _ (a .1) in
+        let m = neither (eqb (c .maximum) 0) (ltb 1048576 (c .maximum)) (neither (badMaximum (c .maximum)) _ (b .1) .0) in
+        let few = ltb-false 16 (c .buffers) (b .0) in
+        inr (record {
+          live = refl;
+          least = omega (arith, eqb-false (c .buffers) 0 (a .0));
+          most = few;
+          room = omega arith;
+          smallest = omega (arith, eqb-false (c .maximum) 0 (m .0));
+          largest = ltb-false 1048576 (c .maximum) (m .1);
+          commands = tt;
+        })
+    opens e (some r) = inl refl
+
+    go : (r : Option Refusal) → firstOf (loginChecks c room s) ≡ r → Kept (loginBy r c s .port)
+    go none e = opens (passes (loginChecks c room s) e .1 .0) (firstOf (rejections c s))
+    go (some r) e = inl refl
+
+-- ── the law
+
+-- a call that leaves the closed port as it is, and whose other results are fine
+carry : {p : Port} (f : Port → Port) → f closedPort ≡ closedPort → (Ranges p → Kept (f p)) → Kept p → Kept (f p)
+carry f z g k = ⊎-elim (λ e. inl (ap f e ∙ z)) g k
+
+-- the closed port stays, whatever the room
+take-shut : (b : Bool) (s : List ℕ) (t : Tables) (m : Message) → takeBy (cond b (some ShortBuffer) (some Closed)) closedPort s t m .port ≡ closedPort
+take-shut true s t m = refl
+take-shut false s t m = refl
+
+unless-shut : (b : Bool) (o : Outcome) → unless (cond b (some ShortBuffer) (some Closed)) closedPort o .port ≡ closedPort
+unless-shut true o = refl
+unless-shut false o = refl
+
+-- every port that a login made and calls changed is closed, as the one value closedPort, or has the ranges
+pub reached : {p : Port} → Reached p → Kept p
+reached (logged-in c room s) = login-kept c room s
+reached (took r room s t b) = carry (λ p. takeDef p room s t .port) (take-shut (ltb room bufferSize) s t _) (λ v. take-kept v room s t b) (reached r)
+reached (planned r tag out inn ho hi) = carry (λ p. planDef p tag out inn .port) refl (λ v. plan-kept v tag out inn ho hi) (reached r)
+reached (stepped r tag d) = carry (λ p. stepDef p tag d .port) refl (λ v. step-kept v tag d) (reached r)
+reached (finished r room tag status sense) =
+    carry (λ p. finishDef p room tag status sense .port) (unless-shut (ltb room bufferSize) _) (λ v. finish-kept v room tag status sense) (reached r)
+reached (added r k) = carry (λ p. addDef p k .port) refl (λ v. add-kept v k) (reached r)
+reached (withdrew r k) = carry (λ p. withdrawDef p k .port) refl (λ v. withdraw-kept v k) (reached r)
+reached (granted r room) = carry (λ p. grantDef p room .port) (unless-shut (ltb room bufferSize) _) (λ v. grant-kept v room) (reached r)
+reached (hung-up r room reason) =
+    carry (λ p. closeDef p room reason .port) (unless-shut (ltb room bufferSize) _) (λ v. close-kept v room reason) (reached r)
+
+-- so a port that is open has the ranges
+pub open-ranges : {p : Port} → Reached p → p .live ≡ true → Ranges p
+open-ranges r e = ⊎-elim (λ z. absurd (true≢false (sym e ∙ ap (λ (q : Port). q .live) z))) (λ v. v) (reached r)
+
+-- and one that is closed is that value
+pub closed-one : {p : Port} → Reached p → p .live ≡ false → p ≡ closedPort
+closed-one r e = ⊎-elim (λ z. z) (λ v. absurd (true≢false (sym (v .live) ∙ e))) (reached r)
+
+-- and of a port with the ranges the address of a piece that a step hands out is the same in 64 bits
+pub step-same : {p : Port} → Ranges p → (tag : ℕ) (d : Direction) (o : Piece)
+    → nextOf (p .maximum) d (find (hasTag tag) (p .held)) ≡ some o → wrapped o ≡ o
+step-same {p} v tag d o = go (find (hasTag tag) (p .held)) refl
+  where
+    side : (d : Direction) (c : Open) → OpenRanges c → SideRanges (sideOf d c)
+    side Out c r = r .out
+    side In c r = r .inn
+
+    go : (x : Option Open) → find (hasTag tag) (p .held) ≡ x → nextOf (p .maximum) d x ≡ some o → wrapped o ≡ o
+    go none f e = absurd (Option·none-ne-some o e)
+    go (some c) f e =
+        let r = side d c (all-find OpenRanges (hasTag tag) (p .held) c (v .commands) f) in
+        wrapped-same (p .maximum) (sideOf d c .handed) (min (sideOf d c .required) (sideOf d c .total)) (sideOf d c .segs) o (r .reach) (v .smallest) e
