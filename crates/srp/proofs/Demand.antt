@@ -1,6 +1,6 @@
 -- Demand 3, of whatever makes the calls as the definitions have them: one theorem over lists of events.
--- It is stated in specs/Machine.antt (Demand). Its premises are N ≤ 16, 1 ≤ M (both from the login's settings), a run whose calls meet
--- their definitions (Meets), and an initiator that sends requests only with a limit of at least 1 (Fair). That the initiator answers each
+-- It is stated in specs/Machine.antt (Demand). Its premises are an accepted login, a run whose calls meet their definitions (Meets), and an
+-- initiator that sends requests only with a limit of at least 1 (Fair). That the initiator answers each
 -- credit request at most once, which demand 3 allows to assume, is not needed.
 -- Assumes nothing.
 use mathlib.Core.Path.{_≡_, refl, ap, sym, _∙_, subst}
@@ -13,20 +13,22 @@ use native.Mathlib.Omega.{arith}
 use Rattle.srp.specs.Lists.{find}
 use Rattle.srp.specs.Refusals.{numberOf, firstOf}
 use Rattle.srp.specs.Requests.{isRequest}
-use Rattle.srp.specs.Credit.{Open, Port}
+use Rattle.srp.specs.Credit.{Port}
+use Rattle.srp.specs.Login.{Settings, loginChecks, rejections, opened, judged, loginBy, loginDef}
 use Rattle.srp.specs.Take.{Outcome, Tables, hasTag, takeChecks, accepted, refusedBy, takeBy, takeRead, takeDef}
 use Rattle.srp.specs.Calls.{unless, isPlanned, planChecks, nextOf, handOut, stepChecks, finishChecks, addChecks, withdrawChecks, grantChecks}
-use Rattle.srp.specs.Machine.{Track, tracks-tag, hasPlan, Event, sends, delivers, takes, plans, steps, finishes, adds, withdraws, grants, Machine, wantedBy, refusalIn, Until, Terms, read, settle, after, byLogout, closes, takeFront, call, Allowed, takeSeen, frontSeen, Refuses, Answers, Then, Run, Fair, Demand, Meets, start}
+use Rattle.srp.specs.Machine.{Track, tracks-tag, hasPlan, Event, sends, delivers, takes, plans, steps, finishes, adds, withdraws, grants, Machine, wantedBy, refusalIn, Until, Terms, read, settle, after, byLogout, closes, takeFront, call, Allowed, takeSeen, frontSeen, Refuses, Answers, Then, Run, Fair, Demand, Meets, start, termsOf}
 use Rattle.srp.specs.declared.Refusal.{Refusal}
 use Rattle.srp.specs.declared.Direction.{Direction}
 use Rattle.srp.specs.declared.Piece.{Piece}
 use Rattle.srp.specs.declared.Message.{Message}
 use Rattle.srp.specs.declared.Message.the-variants.{Bad, Cmd, TskMgmt, CredRsp, ILogout}
 use Rattle.srp.specs.declared.Reply.{Reply}
-use Rattle.srp.specs.declared.Reply.the-variants.{Refused, Performed}
+use Rattle.srp.specs.declared.Reply.the-variants.{Refused, Performed, Accepted}
 use Rattle.srp.proofs.Checks.{passes}
+use Rattle.srp.proofs.Ranges.{Reached, logged-in, open-ranges}
 use Rattle.srp.proofs.Reading.{ByType, read-by-type}
-use Rattle.srp.proofs.Invariant.{openIn, Settled, Ok, find-same, open-same, lacks, now, Fine}
+use Rattle.srp.proofs.Invariant.{openIn, Ok, find-same, open-same, lacks, now, Fine}
 use Rattle.srp.proofs.Taking.{refused-as, take-same, take-fine, take-credited}
 use Rattle.srp.proofs.Steps.{send-fine, deliver-fine, add-fine, withdraw-fine, grant-fine, finish-fine, plan-fine, step-fine, step-right}
 
@@ -136,14 +138,6 @@ meanwhile : {A B C : Type 0} (b : Bool) → Until b A → Until b B → (A → B
 meanwhile true a b f = tt
 meanwhile false a b f = f a b
 
--- "the port as the login returned it": W = A = N, no command open, no credit request unanswered
-pub record Starts (T : Terms) (p : Port) : Type 0 where
-  pub settled : Settled T p
-  pub wanted : p .wanted ≡ T .buffers
-  pub announced : p .announced ≡ T .buffers
-  pub held : p .held ≡ []
-  pub unanswered : p .unanswered ≡ false
-
 module _ (T : Terms) {S : Type 0} (view : S → Port) (Call : S → Machine → Event → Reply → List (List ℕ) → S → Type 0) (meets : Meets T view Call) (some-M : 1 ≤ T .maximum) where
   from : (es : List Event) (s : S) (m : Machine) (run : Run T view Call s m es) → Ok T m (view s) → Fair T view Call s m es run → Demand T view Call s m es run
   unfolding Kept
@@ -155,18 +149,40 @@ module _ (T : Terms) {S : Type 0} (view : S → Port) (Call : S → Machine → 
         meanwhile (closes T m e (run .0) (run .1)) (k .1) (f .1) (λ a b. from es (run .2) (after T m e (run .0) (run .1)) (run .4) a b),
       )
 
-  pub demand-3 : T .buffers ≤ 16 → (s : S) → Starts T (view s) → (es : List Event) (run : Run T view Call s (start (T .buffers)) es)
-      → Fair T view Call s (start (T .buffers)) es run → Demand T view Call s (start (T .buffers)) es run
-  demand-3 few s b es run f =
-      from es s (start (T .buffers)) run
-      (record {
-        settled = b .settled;
-        small = omega (arith, b .wanted);
-        credit = omega (arith, b .announced);
-        wanted = omega (arith, b .wanted);
-        commands = b .held;
-        sound = tt;
-        unanswered = b .unanswered;
-        distinct = tt;
-      })
-      f
+-- an accepted login opens the port
+opens : (c : Settings) (room : ℕ) (l : List ℕ) → loginDef c room l .reply ≡ Accepted → loginDef c room l .port ≡ opened c l
+opens c room l = go (firstOf (loginChecks c room l))
+  where
+    unrejected : (w : Option ℕ) → judged w c l .reply ≡ Accepted → judged w c l .port ≡ opened c l
+    unrejected none e = refl
+    unrejected (some n) e = let z : _≡_ {A = ℕ} 0 1 = cc in absurd (omega arith)
+
+    go : (v : Option Refusal) → loginBy v c l .reply ≡ Accepted → loginBy v c l .port ≡ opened c l
+    go none e = unrejected (firstOf (rejections c l)) e
+    go (some r) e = let z : _≡_ {A = ℕ} 0 1 = cc in absurd (omega arith)
+
+module _ (c : Settings) (room : ℕ) (l : List ℕ) (agreed : loginDef c room l .reply ≡ Accepted) where
+  -- the invariant as the login returned the port
+  begins : Ok (termsOf c l) (start (c .buffers)) (opened c l) × (1 ≤ c .maximum)
+  begins =
+      let v = open-ranges (subst Reached (opens c room l agreed) (logged-in c room l)) refl in (
+        record {
+          settled = (refl, refl, refl, refl);
+          small = v .most;
+          credit = omega arith;
+          wanted = refl;
+          commands = refl;
+          sound = tt;
+          unanswered = refl;
+          distinct = tt;
+        },
+        v .smallest,
+      )
+
+  -- demand 3: of every list of events that follows an accepted login, whatever makes the calls, if each call is equal to its definition
+  pub demand-3 : {S : Type 0} (view : S → Port) (Call : S → Machine → Event → Reply → List (List ℕ) → S → Type 0) → Meets (termsOf c l) view Call
+      → (s : S) → view s ≡ loginDef c room l .port → (es : List Event) (run : Run (termsOf c l) view Call s (start (c .buffers)) es)
+      → Fair (termsOf c l) view Call s (start (c .buffers)) es run → Demand (termsOf c l) view Call s (start (c .buffers)) es run
+  demand-3 view Call meets s e es run f =
+      from (termsOf c l) view Call meets (begins .1) es s (start (c .buffers)) run
+      (subst (λ (p : Port). Ok (termsOf c l) (start (c .buffers)) p) (sym (e ∙ opens c room l agreed)) (begins .0)) f

@@ -14,3 +14,4 @@ pub mod Steps
 pub mod Demand
 pub mod Owed
 pub mod Ranges
+pub mod Itself

@@ -11,7 +11,7 @@ use lib.Dec.{eqb, ltb, leb}
 use lib.IntN.{ℤ, pos, subℕ, _+ℤ_}
 use lib.ListN.{length, take}
 use Rattle.srp.specs.Bytes.{get, typeOf}
-use Rattle.srp.specs.Messages.{delta, rsp, credReq, tLogout}
+use Rattle.srp.specs.Messages.{delta, requestedLength, formatBits, rsp, credReq, tLogout}
 use Rattle.srp.specs.Refusals.{numberOf, Check, firstOf, short}
 use Rattle.srp.specs.Lists.{find, change, without, All, isSome}
 use Rattle.srp.specs.Descriptors.{Segment, segments}
@@ -20,6 +20,7 @@ use Rattle.srp.specs.Cutting.{cuts, bytesIn}
 use Rattle.srp.specs.Credit.{Port, owed}
 use Rattle.srp.specs.Take.{Outcome, silent, Tables, tablesFit, fieldsFit, aborts, takeDef}
 use Rattle.srp.specs.Calls.{kindOf, badSense, listing, planDef, stepDef, finishDef, addDef, withdrawDef, grantDef}
+use Rattle.srp.specs.Login.{Settings}
 use Rattle.srp.specs.declared.Refusal.{Refusal}
 use Rattle.srp.specs.declared.Refusal.the-variants.{TableLength, Fields, Argument, NoCredit, TagOpen, TagNotOpen, CreditResponse, Unanswered, NotOwed, Wanted, Unplanned, Planned}
 use Rattle.srp.specs.declared.Direction.{Direction}
@@ -304,6 +305,9 @@ pub record Terms : Type 0 where
   pub maximum : ℕ
   pub agreed : ℕ
   pub formats : ℕ
+
+abbrev pub termsOf : Settings → List ℕ → Terms
+termsOf c login = record { buffers = c .buffers; maximum = c .maximum; agreed = get requestedLength login; formats = get formatBits login }
 
 module _ (T : Terms) where
   abbrev pub read : List ℕ → Message

@@ -1,0 +1,61 @@
+-- Demand 3 is not empty: the definitions themselves make the calls, every list of events has its run of them, and P8's sum is read off the theorem.
+-- Assumes nothing.
+use mathlib.Core.Path.{_≡_, refl}
+use mathlib.Core.Bool.{true}
+use mathlib.Core.List.{List, [], _∷_}
+use Prim.Native.Nat.{ℕ}
+use lib.Dec.{lit≤}
+use lib.IntN.{pos, negsuc, subℕ, _+ℤ_}
+use Rattle.srp.specs.Requests.{readMessage}
+use Rattle.srp.specs.Credit.{Port}
+use Rattle.srp.specs.Take.{Outcome}
+use Rattle.srp.specs.Login.{Settings, loginDef}
+use Rattle.srp.specs.Machine.{Event, sends, takes, withdraws, Machine, Terms, termsOf, start, after, call, Run, Fair, Demand, Meets}
+use Rattle.srp.specs.Rows.{login, own, settings, no-data, no-tables}
+use Rattle.srp.specs.declared.Reply.{Reply}
+use Rattle.srp.specs.declared.Reply.the-variants.{Accepted}
+use Rattle.srp.proofs.Demand.{demand-3}
+
+module _ (T : Terms) where
+  abbrev pub Call : Port → Machine → Event → Reply → List (List ℕ) → Port → Type 0
+  Call p m e r ss q = call T p m e ≡ record { reply = r; port = q; wrote = ss }
+
+  -- the definitions are equal to themselves
+  pub meets : Meets T (λ p. p) Call
+  meets p m e r ss q c = c
+
+  -- every list of events has a run
+  abbrev pub run : (es : List Event) (p : Port) (m : Machine) → Run T (λ p. p) Call p m es
+  run [] p m = tt
+  run (e ∷ es) p m =
+      let o : Outcome = call T p m e in
+      (o .reply, o .wrote, o .port, refl, run es (o .port) (after T m e (o .reply) (o .wrote)))
+
+module _ (c : Settings) (room : ℕ) (l : List ℕ) (agreed : loginDef c room l .reply ≡ Accepted) where
+  abbrev pub itself : (es : List Event) → Run (termsOf c l) (λ p. p) (Call (termsOf c l)) (loginDef c room l .port) (start (c .buffers)) es
+  itself es = run (termsOf c l) es (loginDef c room l .port) (start (c .buffers))
+
+  -- demand 3 of the definitions
+  pub demand : (es : List Event) → Fair (termsOf c l) (λ p. p) (Call (termsOf c l)) (loginDef c room l .port) (start (c .buffers)) es (itself es)
+      → Demand (termsOf c l) (λ p. p) (Call (termsOf c l)) (loginDef c room l .port) (start (c .buffers)) es (itself es)
+  demand es f = demand-3 c room l agreed (λ p. p) (Call (termsOf c l)) (meets (termsOf c l)) (loginDef c room l .port) refl es (itself es) f
+
+-- ── P8, drawn from the theorem
+
+abbrev c4 : Settings
+c4 = settings 4 512 1364 true true
+
+abbrev l4 : List ℕ
+l4 = login 1364 6 0 own
+
+abbrev p8 : List Event
+p8 = sends (no-data 1) ∷ takes 132 no-tables ∷ sends (no-data 2) ∷ takes 132 no-tables ∷ withdraws 3 ∷ []
+
+fair : Fair (termsOf c4 l4) (λ p. p) (Call (termsOf c4 l4)) (loginDef c4 132 l4 .port) (start 4) p8 (itself c4 132 l4 refl p8)
+unfolding readMessage
+fair = ((λ _. lit≤ tt), (tt, ((λ _. lit≤ tt), (tt, (tt, tt)))))
+
+-- two requests held and two still announced, so D = -3
+pub p8-sum : pos 4 +ℤ negsuc 2 ≡ subℕ 4 3
+unfolding readMessage
+p8-sum = demand c4 132 l4 refl p8 fair .2 .2 .2 .2 .2 .sum
