@@ -12,7 +12,7 @@ use Rattle.srp.specs.Messages.{layouts}
 use Rattle.srp.proofs.Fields.{both, length-put, get-put, get-put-apart, apart-sym, get-append, zeros-read}
 
 -- fields apart from the one that is written are as they were
-gets-apart : (f : Field) (fs : List Field) (v : ℕ) (s : List ℕ) → inside (length s) f ≡ true → v < bound f → apartFrom f fs ≡ true → gets fs (put f v s) ≡ gets fs s
+pub gets-apart : (f : Field) (fs : List Field) (v : ℕ) (s : List ℕ) → inside (length s) f ≡ true → v < bound f → apartFrom f fs ≡ true → gets fs (put f v s) ≡ gets fs s
 gets-apart f [] v s ok h e = refl
 gets-apart f (g ∷ gs) v s ok h e =
     let a = both (apart f g) (apartFrom f gs) e in

@@ -15,3 +15,5 @@ pub mod Demand
 pub mod Owed
 pub mod Ranges
 pub mod Itself
+pub mod Commands
+pub mod Unread

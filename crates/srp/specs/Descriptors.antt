@@ -39,18 +39,18 @@ descriptorSize format count = cond (eqb format 1) 16 (cond (eqb format 2) (20 + 
 abbrev pub agrees : ℕ → ℕ → Bool
 agrees formats f = eqb f 0 || ((eqb f 1 || eqb f 2) && eqb (formats / 2 ^ f % 2) 1)
 
--- the descriptor that starts at byte `at` of the message s
+-- the descriptor that starts at byte `at` of the message s; "The count is unread for 0 and 1"
 abbrev pub descriptorOf : ℕ → ℕ → ℕ → List ℕ → Descriptor
 descriptorOf format count at s =
     record {
       format = format;
-      count = count;
+      count = cond (eqb format 2) count 0;
       at = at;
       len = cond (eqb format 2) (get (behind at segmentLength) s) 0;
       total = cond (eqb format 2) (get (behind at totalLength) s) 0;
     }
 
--- refusals 7 and 8: "count above 32 or 16c above the table's length"; "The count is unread for 0 and 1"
+-- refusals 7 and 8: "count above 32 or 16c above the table's length"
 abbrev pub badCount : Descriptor → Bool
 badCount d = eqb (d .format) 2 && (ltb 32 (d .count) || ltb (d .len) (16 * d .count))
 

@@ -14,3 +14,4 @@ pub mod Outside
 pub mod Machine
 pub mod Initiator
 pub mod Rows
+pub mod Unread

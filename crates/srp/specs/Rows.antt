@@ -316,6 +316,9 @@ fields =
     (record { out = []; inn = two }) ∷ plans 9 700 250 ∷ steps 9 Out ∷ steps 9 In ∷ steps 9 Out ∷ steps 9 In ∷ steps 9 Out ∷ lists 16 ∷ finish 9 ∷ [])
     (command 9 0 16 ∷ performed ∷ reads 7 0x1000 512 0 ∷ writes 7 0x2000 100 0 ∷ reads 7 0x1200 188 512 ∷ writes 7 0x4000 150 100 ∷ done
     ∷ listed ((9 ∷ 0 ∷ 700 ∷ 250 ∷ []) ∷ []) ∷ performed ∷ good 1 9 0x20 0 50 ∷ [])
+    -- a last piece of one byte
+    ∷ open4 (takes-in (cmd 0 1 0 0 9 0 0 (segment 0x1000 7 513)) ∷ plans 9 0 513 ∷ steps-in 3)
+    (command 9 0 16 ∷ performed ∷ writes 7 0x1000 512 0 ∷ writes 7 0x1200 1 512 ∷ done ∷ [])
     -- address + length = 2^64 is fine, one more is not
     ∷ one (cmd 0 1 0 0 9 0 0 (segment 0xffffffffffffff00 7 256)) (command 9 0 16 ∷ [])
     ∷ bad-fields (cmd 0 1 0 0 9 0 0 (segment 0xffffffffffffff00 7 257)) []
@@ -430,7 +433,7 @@ logins =
     ∷ logged plain (login 1000 6 3 (replicate 16 0)) (rejected 0x10000 ∷ rejection 0x10000 6 ∷ [])
     ∷ logged plain (login 1000 6 0 (replicate 16 7)) (rejected 0x10003 ∷ rejection 0x10003 6 ∷ [])
     -- accepted: the requested length, SOLNTSUP, the supported formats
-    ∷ alone (logs-in (settings 16 1048576 64 false false) 132 (login 64 0 0xcc own) ∷ counts ∷ takes-in (replicate 65 2) ∷ [])
+    ∷ alone (logs-in (settings 16 1048576 1364 false false) 132 (login 64 0 0xcc own) ∷ counts ∷ takes-in (replicate 65 2) ∷ [])
     (accepted ∷ message (0xc0 ∷ 0 ∷ 0 ∷ 0 ∷ bytesOf 4 16 ++ (bytesOf 8 77 ++ (bytesOf 4 64 ++ (bytesOf 4 132 ++ (0 ∷ 2 ∷ replicate 26 0))))) ∷ counters 16 16 0 (pos 0)
     ∷ refused 3 ∷ bye 0 0 ∷ [])
     -- a login uses no earlier port

@@ -48,16 +48,13 @@ pub record Response : Type 0 where
   pub code : Option ℕ
   pub sense : List ℕ
 
--- "four response bytes if any (last is RSP_CODE)"
 abbrev pub responseBytes : Option ℕ → List ℕ
 responseBytes none = []
 responseBytes (some code) = 0 ∷ 0 ∷ 0 ∷ code ∷ []
 
--- the 36 fixed bytes
-abbrev pub responseHeader : Response → List ℕ
-responseHeader r =
-    write rsp
-    (bit (r .solnt)
+abbrev pub responseValues : Response → List ℕ
+responseValues r =
+    bit (r .solnt)
     ∷ r .delta
     ∷ r .tag
     ∷ bit (isSome (r .code))
@@ -71,10 +68,11 @@ responseHeader r =
     ∷ amount (r .inn)
     ∷ length (r .sense)
     ∷ length (responseBytes (r .code))
-    ∷ [])
+    ∷ []
 
+-- 36 fixed bytes, "four response bytes if any (last is RSP_CODE), then sense"
 abbrev pub response : Response → List ℕ
-response r = responseHeader r ++ (responseBytes (r .code) ++ r .sense)
+response r = write rsp (responseValues r) ++ (responseBytes (r .code) ++ r .sense)
 
 -- "Response bytes stand in task answers and refusal 10 (code 02h), status 0, residuals 0"
 abbrev pub answer : Bool → ℕ → ℕ → ℕ → List ℕ
