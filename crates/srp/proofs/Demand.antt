@@ -5,17 +5,17 @@
 -- Assumes nothing.
 use mathlib.Core.Path.{_≡_, refl, ap, sym, _∙_, subst}
 use mathlib.Core.Logic.{_↔_}
-use mathlib.Core.Bool.{Bool, true, false, cond, not, true≢false}
+use mathlib.Core.Bool.{Bool, true, false, true≢false}
 use mathlib.Core.List.{List, [], _∷_}
-use mathlib.Core.Option.{Option, none, some, Option·map, Option·none-ne-some, Option·some-ne-none, Option·some-injective}
-use Prim.Native.Nat.{ℕ, _+_, _-_, _≤_}
+use mathlib.Core.Option.{Option, none, some, Option·map, Option·none-ne-some, Option·some-injective}
+use Prim.Native.Nat.{ℕ, _-_, _≤_}
 use native.Mathlib.Omega.{arith}
 use Rattle.srp.specs.Lists.{find}
-use Rattle.srp.specs.Refusals.{numberOf, firstOf}
+use Rattle.srp.specs.Refusals.{firstOf}
 use Rattle.srp.specs.Requests.{isRequest}
 use Rattle.srp.specs.Credit.{Port}
 use Rattle.srp.specs.Login.{Settings, loginChecks, rejections, opened, judged, loginBy, loginDef}
-use Rattle.srp.specs.Take.{Outcome, Tables, hasTag, takeChecks, accepted, refusedBy, takeBy, takeRead, takeDef}
+use Rattle.srp.specs.Take.{Outcome, Tables, hasTag, takeChecks, accepted, takeBy, takeRead}
 use Rattle.srp.specs.Calls.{unless, isPlanned, planChecks, nextOf, handOut, stepChecks, finishChecks, addChecks, withdrawChecks, grantChecks}
 use Rattle.srp.specs.Machine.{Track, tracks-tag, hasPlan, Event, sends, delivers, takes, plans, steps, finishes, adds, withdraws, grants, Machine, wantedBy, refusalIn, Until, Terms, read, settle, after, byLogout, closes, takeFront, call, Allowed, takeSeen, frontSeen, Refuses, Answers, Then, Run, Fair, Demand, Meets, start, termsOf}
 use Rattle.srp.specs.declared.Refusal.{Refusal}

@@ -4,20 +4,20 @@ use mathlib.Core.Path.{_≡_, refl, ap, sym, _∙_}
 use mathlib.Core.Bool.{Bool, true, false, cond, _||_, or-false}
 use mathlib.Core.List.{List, [], _∷_, _++_, map}
 use mathlib.Core.Option.{Option, none, some, Option·map}
-use Prim.Native.Nat.{ℕ, zero, suc, _+_, _-_, _≤_, _<_, _^_, min}
+use Prim.Native.Nat.{ℕ, suc, _+_, _-_, _≤_, _<_, _^_}
 use native.Mathlib.Omega.{arith}
 use lib.Dec.{ltb}
 use lib.IntN.{ℤ, pos, negsuc, subℕ, _+ℤ_}
-use lib.ListN.{length, take, length-append, length-map}
+use lib.ListN.{length, length-map}
 use borrow.Author.Tests.{le-ltb, ltb-true, ltb-false}
 use Rattle.srp.specs.Lists.{find, All, isSome}
 use Rattle.srp.specs.Descriptors.{sumOf, reachable}
 use Rattle.srp.specs.Cutting.{bytesIn}
-use Rattle.srp.specs.Credit.{Side, Open, Port, owed, due, withHeld, withUnanswered}
+use Rattle.srp.specs.Credit.{Side, Open, Port, owed, due, withCredit, withHeld, withWanted, withUnanswered}
 use Rattle.srp.specs.Writing.{answer}
 use Rattle.srp.specs.Take.{Outcome, silent, answering, hasTag, isOpen}
-use Rattle.srp.specs.Calls.{recordOf, listing, handing}
-use Rattle.srp.specs.Machine.{deltaOf, deltas, isResponse, isCreditRequest, isTargetLogout, requests, Progress, Track, oneMore, tracks-tag, shownAs, Machine, four, lack, holds, joined, join, saysLogout, Until, Distinct, InOrder, Terms, Sum, ByLack, Lift, Now}
+use Rattle.srp.specs.Calls.{recordOf, handing}
+use Rattle.srp.specs.Machine.{deltaOf, deltas, isCreditRequest, requests, Progress, Track, oneMore, tracks-tag, shownAs, Machine, four, lack, holds, withTracks, withLimit, withBuffers, withWaiting, joined, join, saysLogout, Until, Distinct, InOrder, Terms, Sum, ByLack, Lift, Now}
 use Rattle.srp.specs.declared.Piece.{Piece}
 use Rattle.srp.specs.declared.Reply.{Reply}
 use Rattle.srp.proofs.CutLaws.{bytesIn-append}
@@ -138,6 +138,67 @@ nothing-lifts m = record { by-lack = tt; rises = four-join m []; one-at-most = o
 pub lifts : {T : Terms} (m : Machine) (s : List ℕ) → ByLack T m s → Lift T m (s ∷ [])
 lifts m s l = record { by-lack = (l, tt); rises = four-join m (s ∷ []); one-at-most = omega arith }
 
+-- ── the invariant when a part moves
+
+module _ {T : Terms} {m : Machine} {p : Port} (h : Ok T m p) where
+  -- other commands, and a message less in the queue to the port
+  pub with-commands : (a : ℕ) (cs : List Open) (queue : List (List ℕ)) (ts : List Track) → a ≡ m .limit + requests queue + deltas (m .toInitiator)
+      → cs ≡ map openIn ts → All (Sound (T .maximum)) ts → Distinct ts → Ok T (withTracks m queue ts) (withHeld p a cs)
+  with-commands a cs queue ts e c s d =
+      record {
+        settled = h .settled;
+        small = h .small;
+        credit = e;
+        wanted = h .wanted;
+        commands = c;
+        sound = s;
+        unanswered = h .unanswered;
+        distinct = d;
+      }
+
+  -- another limit and other queues
+  pub with-limit : (n : ℕ) (queue back : List (List ℕ)) → p .announced ≡ n + requests queue + deltas back → Ok T (withLimit m n queue back) p
+  with-limit n queue back e =
+      record {
+        settled = h .settled;
+        small = h .small;
+        credit = e;
+        wanted = h .wanted;
+        commands = h .commands;
+        sound = h .sound;
+        unanswered = h .unanswered;
+        distinct = h .distinct;
+      }
+
+  -- another number of wanted buffers
+  pub with-wanted : (w a k : ℕ) → w ≤ 16 → w + k ≡ T .buffers + a → Ok T (withBuffers m a k) (withWanted p w)
+  with-wanted w a k small e =
+      record {
+        settled = h .settled;
+        small = small;
+        credit = h .credit;
+        wanted = e;
+        commands = h .commands;
+        sound = h .sound;
+        unanswered = h .unanswered;
+        distinct = h .distinct;
+      }
+
+  -- other queues, and whether a credit request is unanswered
+  pub with-waiting : (a : ℕ) (queue back : List (List ℕ)) (u w : Bool) → a ≡ m .limit + requests queue + deltas back → u ≡ w
+      → Ok T (withWaiting m queue back w) (withCredit p (p .wanted) a (p .held) u)
+  with-waiting a queue back u w e f =
+      record {
+        settled = h .settled;
+        small = h .small;
+        credit = e;
+        wanted = h .wanted;
+        commands = h .commands;
+        sound = h .sound;
+        unanswered = f;
+        distinct = h .distinct;
+      }
+
 module _ {T : Terms} {m : Machine} {p : Port} (h : Ok T m p) where
   -- a call that writes nothing and leaves the invariant
   pub quiet : (r : Reply) → Fine T m false (silent p r)
@@ -154,16 +215,9 @@ module _ {T : Terms} {m : Machine} {p : Port} (h : Ok T m p) where
         lift = lifts m (message (due p)) (λ _. k .delta ∙ lacks h);
         keep =
             rw (k .stays)
-            (record {
-              settled = h .settled;
-              small = h .small;
-              credit = omega (arith, h .credit, deltas-snoc (m .toInitiator) (message (due p)), k .delta);
-              wanted = h .wanted;
-              commands = h .commands;
-              sound = h .sound;
-              unanswered = w ∙ ap (λ (x : Bool). m .waiting || x) (sym (k .credit));
-              distinct = h .distinct;
-            });
+            (with-waiting h (p .announced + due p) (m .toPort) (m .toInitiator ++ (message (due p) ∷ [])) b (m .waiting || isCreditRequest (message (due p)))
+            (omega (arith, h .credit, deltas-snoc (m .toInitiator) (message (due p)), k .delta))
+            (w ∙ ap (λ (x : Bool). m .waiting || x) (sym (k .credit))));
       }
 
   -- a response

@@ -1,7 +1,7 @@
 -- Plan, step, finish, add, withdraw and grant, sending and delivery keep the invariant; steps hand out a command's own cuts in order.
 -- Assumes nothing.
 use mathlib.Core.Path.{_≡_, refl, ap, sym, _∙_, subst}
-use mathlib.Core.Bool.{Bool, true, false, cond, not, true≢false, or-true}
+use mathlib.Core.Bool.{Bool, true, false, cond, true≢false, or-true}
 use mathlib.Core.List.{List, [], _∷_, _++_, map}
 use mathlib.Core.Option.{Option, none, some, Option·map, Option·none-ne-some}
 use Prim.Native.Nat.{ℕ, suc, _+_, _-_, _≤_, min}
@@ -17,12 +17,11 @@ use Rattle.srp.specs.Cutting.{bytesIn, next}
 use Rattle.srp.specs.Credit.{Open, Port, due, withHeld, withWanted, withUnanswered}
 use Rattle.srp.specs.Writing.{residualOf, solicited, creditRequest}
 use Rattle.srp.specs.Take.{Outcome, silent, answering, hasTag, isOpen}
-use Rattle.srp.specs.Calls.{unless, isPlanned, planned, planChecks, planDef, kindOf, sideOf, advanced, nextOf, wrapped, handOut, stepChecks, stepDef, finalResponse, finishChecks, finishDef, addChecks, addDef, withdrawChecks, withdrawDef, grantChecks, grantDef}
-use Rattle.srp.specs.Machine.{deltas, requests, Progress, Track, plannedFor, oneMore, given, progressOf, tracks-tag, Event, sends, plans, steps, finishes, adds, withdraws, grants, Machine, refusalIn, withTracks, withBuffers, delivered, Distinct, wholeOf, Prefix, Right, Terms, settle, Allowed}
+use Rattle.srp.specs.Calls.{unless, isPlanned, planned, planChecks, planDef, kindOf, advanced, nextOf, wrapped, handOut, stepChecks, stepDef, finalResponse, finishChecks, finishDef, addChecks, addDef, withdrawChecks, withdrawDef, grantChecks, grantDef}
+use Rattle.srp.specs.Machine.{deltaOf, deltas, requests, Progress, Track, plannedFor, oneMore, given, progressOf, tracks-tag, sends, plans, steps, finishes, adds, withdraws, grants, Machine, withTracks, delivered, Distinct, wholeOf, Prefix, Right, Terms, settle, Allowed}
 use Rattle.srp.specs.declared.Refusal.{Refusal}
 use Rattle.srp.specs.declared.Direction.{Direction}
 use Rattle.srp.specs.declared.Direction.the-variants.{Out, In}
-use Rattle.srp.specs.declared.Kind.{Kind}
 use Rattle.srp.specs.declared.Piece.{Piece}
 use Rattle.srp.specs.declared.Reply.{Reply}
 use Rattle.srp.specs.declared.Reply.the-variants.{Refused, Performed, Operation, Done}
@@ -31,7 +30,7 @@ use Rattle.srp.proofs.ListLaws.{without-map, change-map, all-without, a
 use Rattle.srp.proofs.Tags.{distinct-without, distinct-change}
 use Rattle.srp.proofs.CutLaws.{next-at, take-more, some-below, none-above, wrapped-same}
 use Rattle.srp.proofs.Deltas.{response-carries, request-carries}
-use Rattle.srp.proofs.Invariant.{sideIn, openIn, side-more, Sound, Ok, find-same, Fine, nothing-lifts, quiet, few, answered, responds}
+use Rattle.srp.proofs.Invariant.{openIn, side-more, Sound, Ok, find-same, with-commands, with-limit, with-wanted, Fine, quiet, few, answered, responds}
 
 -- ── a command's own cuts
 
@@ -108,69 +107,21 @@ affordable false l a = omega arith
 module _ {T : Terms} {m : Machine} {p : Port} (h : Ok T m p) where
   pub send-fine : (s : List ℕ) → Allowed T m (sends s) → Fine T (settle T m (sends s) Performed) false (silent p Performed)
   send-fine s a =
-      record {
-        lift = nothing-lifts (settle T m (sends s) Performed);
-        keep =
-            record {
-              settled = h .settled;
-              small = h .small;
-              credit = omega (arith, h .credit, requests-snoc (m .toPort) s, affordable (isRequest s) (m .limit) a);
-              wanted = h .wanted;
-              commands = h .commands;
-              sound = h .sound;
-              unanswered = h .unanswered;
-              distinct = h .distinct;
-            };
-      }
+      quiet
+      (with-limit h (m .limit - cond (isRequest s) 1 0) (m .toPort ++ (s ∷ [])) (m .toInitiator)
+      (omega (arith, h .credit, requests-snoc (m .toPort) s, affordable (isRequest s) (m .limit) a)))
+      Performed
 
   pub deliver-fine : (q : List (List ℕ)) → m .toInitiator ≡ q → Fine T (delivered m q) false (silent p Performed)
   deliver-fine [] e = quiet h Performed
-  deliver-fine (s ∷ ss) e =
-      record {
-        lift = nothing-lifts (delivered m (s ∷ ss));
-        keep =
-            record {
-              settled = h .settled;
-              small = h .small;
-              credit = omega (arith, h .credit, ap deltas e);
-              wanted = h .wanted;
-              commands = h .commands;
-              sound = h .sound;
-              unanswered = h .unanswered;
-              distinct = h .distinct;
-            };
-      }
+  deliver-fine (s ∷ ss) e = quiet (with-limit h (m .limit + deltaOf s) (m .toPort) ss (omega (arith, h .credit, ap deltas e))) Performed
 
   -- ── the owner's calls
 
   -- the invariant at other commands
   recast : (cs : List Open) (ts : List Track) → cs ≡ map openIn ts → All (Sound (T .maximum)) ts → Distinct ts
       → Ok T (withTracks m (m .toPort) ts) (withHeld p (p .announced) cs)
-  recast cs ts c s d =
-      record {
-        settled = h .settled;
-        small = h .small;
-        credit = h .credit;
-        wanted = h .wanted;
-        commands = c;
-        sound = s;
-        unanswered = h .unanswered;
-        distinct = d;
-      }
-
-  -- the invariant at another number of wanted buffers
-  resized : (w a k : ℕ) → w ≤ 16 → w + k ≡ T .buffers + a → Ok T (withBuffers m a k) (withWanted p w)
-  resized w a k few-w e =
-      record {
-        settled = h .settled;
-        small = few-w;
-        credit = h .credit;
-        wanted = e;
-        commands = h .commands;
-        sound = h .sound;
-        unanswered = h .unanswered;
-        distinct = h .distinct;
-      }
+  recast cs ts c s d = with-commands h (p .announced) cs (m .toPort) ts (h .credit) c s d
 
   -- a refusal alters nothing
   unless-fine : (v : Option Refusal) (m′ : Reply → Machine) (o : Outcome) → ((r : Refusal) → m′ (Refused r) ≡ m) → (v ≡ none → Fine T (m′ (o .reply)) false o)
@@ -182,14 +133,14 @@ module _ {T : Terms} {m : Machine} {p : Port} (h : Ok T m p) where
   add-fine k =
       unless-fine (firstOf (addChecks p k)) (λ r. settle T m (adds k) r) (silent (withWanted p (p .wanted + k)) Performed) (λ n. refl) λ z.
       let c = passes (addChecks p k) z in
-      quiet (resized (p .wanted + k) (m .added + k) (m .withdrawn) (ltb-false 16 (p .wanted + k) (c .1 .1 .0)) (omega (arith, h .wanted))) Performed
+      quiet (with-wanted h (p .wanted + k) (m .added + k) (m .withdrawn) (ltb-false 16 (p .wanted + k) (c .1 .1 .0)) (omega (arith, h .wanted))) Performed
 
   pub withdraw-fine : (k : ℕ) → Fine T (settle T m (withdraws k) (withdrawDef p k .reply)) false (withdrawDef p k)
   withdraw-fine k =
       unless-fine (firstOf (withdrawChecks p k)) (λ r. settle T m (withdraws k) r) (silent (withWanted p (p .wanted - k)) Performed) (λ n. refl) λ z.
       let c = passes (withdrawChecks p k) z in
       quiet
-      (resized (p .wanted - k) (m .added) (m .withdrawn + k) (omega (arith, h .small)) (omega (arith, h .wanted, leb-false (p .wanted) k (c .1 .1 .0))))
+      (with-wanted h (p .wanted - k) (m .added) (m .withdrawn + k) (omega (arith, h .small)) (omega (arith, h .wanted, leb-false (p .wanted) k (c .1 .1 .0))))
       Performed
 
   pub grant-fine : (room : ℕ) → Fine T (settle T m (grants room) (grantDef p room .reply)) false (grantDef p room)

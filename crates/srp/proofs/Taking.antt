@@ -1,36 +1,34 @@
 -- Take keeps the invariant, lifts by what is lacking, and refuses no request for credit.
 -- Assumes nothing.
 use mathlib.Core.Path.{_≡_, refl, ap, sym, _∙_, subst}
-use mathlib.Core.Bool.{Bool, true, false, cond, not, _&&_, _||_, true≢false, false≢true}
+use mathlib.Core.Bool.{Bool, true, false, cond, not, true≢false, false≢true}
 use mathlib.Core.List.{List, [], _∷_, _++_, map}
 use mathlib.Core.Option.{Option, none, some}
-use Prim.Native.Nat.{ℕ, zero, suc, _+_, _-_, _≤_, _<_}
+use Prim.Native.Nat.{ℕ, suc, _+_, _-_}
 use native.Mathlib.Omega.{arith}
 use lib.Dec.{eqb}
-use lib.ListN.{length}
-use borrow.Author.Tests.{eqb-true, eqb-false, ne-eqb, not-false}
-use Rattle.srp.specs.Lists.{find, without, All, isSome}
-use Rattle.srp.specs.Refusals.{numberOf, Check, firstOf, hangsUp, reasonOf, short}
+use borrow.Author.Tests.{eqb-true, not-false}
+use Rattle.srp.specs.Lists.{without, All}
+use Rattle.srp.specs.Refusals.{numberOf, firstOf, hangsUp, reasonOf}
 use Rattle.srp.specs.Descriptors.{segments, reachable, goodFormat, goodFields}
 use Rattle.srp.specs.declared.Descriptor.{Descriptor}
 use Rattle.srp.specs.declared.Command.{Command}
 use Rattle.srp.specs.Requests.{isRequest, readMessage}
-use Rattle.srp.specs.Credit.{Open, Port, closedPort, due, withHeld, withUnanswered}
-use Rattle.srp.specs.Writing.{answer, targetLogout, solicited}
-use Rattle.srp.specs.Take.{Outcome, silent, answering, hangUp, Tables, fieldsFit, newOpen, aborts, taskCode, laterChecks, takeChecks, accepted, tagOf, ucsolntOf, answerBad, refusedBy, takeBy, takeRead, takeDef}
-use Rattle.srp.specs.Machine.{deltas, requests, Track, newTrack, Machine, refusalIn, withTracks, taken, staysQueued, tookBy, isLogout, Distinct, Terms, read, tookFront, frontLogout, takeFront}
+use Rattle.srp.specs.Credit.{Open, Port, withHeld}
+use Rattle.srp.specs.Writing.{targetLogout, solicited}
+use Rattle.srp.specs.Take.{Outcome, silent, hangUp, Tables, fieldsFit, newOpen, aborts, taskCode, takeChecks, accepted, tagOf, ucsolntOf, answerBad, refusedBy, takeBy, takeRead, takeDef}
+use Rattle.srp.specs.Machine.{deltas, requests, Track, newTrack, Machine, refusalIn, withTracks, staysQueued, tookBy, isLogout, Distinct, Terms, read, tookFront, frontLogout, takeFront}
 use Rattle.srp.specs.declared.Refusal.{Refusal}
 use Rattle.srp.specs.declared.Refusal.the-variants.{NoCredit}
 use Rattle.srp.specs.declared.Message.{Message}
 use Rattle.srp.specs.declared.Message.the-variants.{Bad, Cmd, TskMgmt, CredRsp, ILogout}
-use Rattle.srp.specs.declared.Reply.{Reply}
-use Rattle.srp.specs.declared.Reply.the-variants.{Refused, Performed, NewCommand, TaskAnswered, CreditSettled, LoggedOut}
+use Rattle.srp.specs.declared.Reply.the-variants.{Refused, Performed, NewCommand, TaskAnswered, CreditSettled}
 use Rattle.srp.proofs.Checks.{passes, hit}
 use Rattle.srp.proofs.ListLaws.{without-map, map-snoc, all-snoc, all-without}
 use Rattle.srp.proofs.Tags.{distinct-snoc, distinct-without}
 use Rattle.srp.proofs.Fields.{both}
-use Rattle.srp.proofs.Reading.{Between, ByType, between-hangs, read-by-type}
-use Rattle.srp.proofs.Invariant.{openIn, Sound, Ok, held, open-same, four-join, Fine, nothing-lifts, lifts, quiet, codes}
+use Rattle.srp.proofs.Reading.{ByType, between-hangs, read-by-type}
+use Rattle.srp.proofs.Invariant.{openIn, Sound, Ok, open-same, with-commands, with-waiting, Fine, nothing-lifts, lifts, quiet, codes}
 
 -- a reply's refusal, where take has one
 pub refused-as : (p : Port) (m : Message) (r : Refusal) → refusedBy p m r .reply ≡ Refused r
@@ -107,17 +105,7 @@ module _ {T : Terms} {m : Machine} {p : Port} (h : Ok T m p) (s : List ℕ) (ss 
     -- the invariant after a request has left the queue
     spent : isRequest s ≡ true → (cs : List Open) (ts : List Track) → cs ≡ map openIn ts → All (Sound (T .maximum)) ts → Distinct ts
         → Ok T (withTracks m ss ts) (withHeld p (p .announced - 1) cs)
-    spent b cs ts c so d =
-        record {
-          settled = h .settled;
-          small = h .small;
-          credit = omega (arith, some-credit b);
-          wanted = h .wanted;
-          commands = c;
-          sound = so;
-          unanswered = h .unanswered;
-          distinct = d;
-        }
+    spent b cs ts c so d = with-commands h (p .announced - 1) cs ss ts (omega (arith, some-credit b)) c so d
 
     -- a target's logout ends the list
     gone : (d : Message) (r : Refusal) → Fine T (tookBy m ss s t d (some r)) false (hangUp p r)
@@ -150,21 +138,7 @@ module _ {T : Terms} {m : Machine} {p : Port} (h : Ok T m p) (s : List ℕ) (ss 
         (all-without (Sound (T .maximum)) (λ (x : Track). aborts c (x .tag) (x .lun)) (m .tracks) (h .sound))
         (distinct-without (λ (x : Track). aborts c (x .tag) (x .lun)) (m .tracks) (h .distinct)) in
         codes o (TaskAnswered (c .tag) (c .lun)) (solicited (c .ucsolnt) (c .scsolnt) (taskCode (c .function))) (c .tag) (taskCode (c .function))
-    accept (CredRsp g) k z =
-        record {
-          lift = nothing-lifts (taken m ss s t (CredRsp g));
-          keep =
-              record {
-                settled = h .settled;
-                small = h .small;
-                credit = same-credit k;
-                wanted = h .wanted;
-                commands = h .commands;
-                sound = h .sound;
-                unanswered = refl;
-                distinct = h .distinct;
-              };
-        }
+    accept (CredRsp g) k z = quiet (with-waiting h (p .announced) ss (m .toInitiator) false false (same-credit k) refl) CreditSettled
     accept ILogout k z = record { lift = nothing-lifts (withTracks m ss []); keep = tt }
 
     -- a refusal: the message stays at 1 and 9, is answered at 10, and closes the channel at the others

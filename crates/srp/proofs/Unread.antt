@@ -11,7 +11,7 @@ use lib.Dec.{ltb, leb, eqb}
 use lib.ListN.{length, take, drop, take-append-drop}
 use lib.Seq.{length-take-le, take-all, drop-drop}
 use borrow.Author.Tests.{ltb-true, ltb-false, leb-true, ne-eqb}
-use Rattle.srp.specs.Bytes.{Field, bytes, bits, get, put, gets, kind, typeOf, bound, inside, apartFrom, sound}
+use Rattle.srp.specs.Bytes.{Field, get, put, gets, kind, typeOf, bound, inside, apartFrom, sound}
 use Rattle.srp.specs.Messages.{tag, lun, ucsolnt, scsolnt, outFormat, inFormat, outCount, inCount, additional, taskFunction, taskTag, formatBits, requestedLength, loginCrsolnt, loginLosolnt, channelAction, tskMgmt, cmd, iLogout, credRsp}
 use Rattle.srp.specs.Lists.{without}
 use Rattle.srp.specs.Refusals.{Check, firstOf}

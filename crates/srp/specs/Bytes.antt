@@ -1,10 +1,10 @@
 -- Numbers and bits in bytes, and layouts: a message's fields are described once, and read and written by that description.
 -- Document 01: "Fields are big-endian, bit 0 is the lowest. Reserved bytes and bits are written 0, not read."
-use mathlib.Core.Bool.{Bool, true, false, cond, not, _&&_, _||_}
+use mathlib.Core.Bool.{Bool, true, false, not, _&&_, _||_}
 use mathlib.Core.List.{List, [], _∷_, _++_}
 use Prim.Native.Nat.{ℕ, zero, suc, _+_, _*_, _/_, _%_, _^_, _<_}
 use lib.Dec.{ltb, leb, eqb}
-use lib.ListN.{length, take, drop, getD, set, replicate}
+use lib.ListN.{take, drop, getD, set, replicate}
 
 -- a big-endian number, behind the digits read so far
 abbrev pub number : ℕ → List ℕ → ℕ

@@ -1,7 +1,7 @@
 -- Document 01: the other calls on a port. "Other calls: 1, 21, 11, 24, 30, 29, 26, 27, 28, those that apply"; a refusal alters nothing.
 use mathlib.Core.Path.{_≡_}
-use mathlib.Core.Bool.{Bool, true, false, cond, not, _&&_, _||_}
-use mathlib.Core.List.{List, [], _∷_, _++_, map}
+use mathlib.Core.Bool.{Bool, true, false, not, _&&_, _||_}
+use mathlib.Core.List.{List, [], _∷_, map}
 use mathlib.Core.Option.{Option, none, some}
 use Prim.Native.Nat.{ℕ, _+_, _-_, _%_, _^_, min}
 use lib.Dec.{ltb, leb, eqb}
@@ -9,7 +9,7 @@ use lib.ListN.{length, take, drop}
 use Rattle.srp.specs.Lists.{find, change, without, Rearranged}
 use Rattle.srp.specs.Refusals.{Check, firstOf, short}
 use Rattle.srp.specs.Cutting.{piece, next}
-use Rattle.srp.specs.Credit.{Side, Open, Port, closedPort, owed, due, withHeld, withWanted, withUnanswered}
+use Rattle.srp.specs.Credit.{Side, Open, Port, closedPort, owed, due, withHeld, withWanted, withUnanswered, withSides}
 use Rattle.srp.specs.Writing.{residualOf, response, creditRequest, targetLogout, solicited}
 use Rattle.srp.specs.Take.{Outcome, silent, answering, closed, hasTag, isOpen}
 use Rattle.srp.specs.declared.Refusal.{Refusal}
@@ -21,7 +21,6 @@ use Rattle.srp.specs.declared.Kind.the-variants.{Read, Write}
 use Rattle.srp.specs.declared.Piece.{Piece}
 use Rattle.srp.specs.declared.Counters.{Counters}
 use Rattle.srp.specs.declared.Record.{Record}
-use Rattle.srp.specs.declared.Reply.{Reply}
 use Rattle.srp.specs.declared.Reply.the-variants.{Refused, Performed, Operation, Done, Counts, Listed}
 
 abbrev pub unless : Option Refusal → Port → Outcome → Outcome
@@ -38,16 +37,7 @@ abbrev pub requiring : ℕ → Side → Side
 requiring r s = record { segs = s .segs; total = s .total; required = r; handed = s .handed }
 
 abbrev pub planned : ℕ → ℕ → Open → Open
-planned out inn c =
-    record {
-      tag = c .tag;
-      lun = c .lun;
-      ucsolnt = c .ucsolnt;
-      scsolnt = c .scsolnt;
-      planned = true;
-      out = requiring out (c .out);
-      inn = requiring inn (c .inn);
-    }
+planned out inn c = withSides c true (requiring out (c .out)) (requiring inn (c .inn))
 
 abbrev pub planChecks : Port → ℕ → List Check
 planChecks p tag = closed p ∷ (not (isOpen p tag), TagNotOpen) ∷ (isPlanned (find (hasTag tag) (p .held)), Planned) ∷ []
@@ -73,26 +63,8 @@ handing n s = record { segs = s .segs; total = s .total; required = s .required;
 
 -- the command with n bytes more handed out
 abbrev pub advanced : Direction → ℕ → Open → Open
-advanced Out n c =
-    record {
-      tag = c .tag;
-      lun = c .lun;
-      ucsolnt = c .ucsolnt;
-      scsolnt = c .scsolnt;
-      planned = c .planned;
-      out = handing n (c .out);
-      inn = c .inn;
-    }
-advanced In n c =
-    record {
-      tag = c .tag;
-      lun = c .lun;
-      ucsolnt = c .ucsolnt;
-      scsolnt = c .scsolnt;
-      planned = c .planned;
-      out = c .out;
-      inn = handing n (c .inn);
-    }
+advanced Out n c = withSides c (c .planned) (handing n (c .out)) (c .inn)
+advanced In n c = withSides c (c .planned) (c .out) (handing n (c .inn))
 
 -- the next piece of a side's first min(R, B) bytes
 abbrev pub nextOf : ℕ → Direction → Option Open → Option Piece

@@ -1,6 +1,6 @@
 -- Document 01, "Credit": the state of one channel, W, A, H and D.
-use mathlib.Core.Bool.{Bool, true, false}
-use mathlib.Core.List.{List, [], _∷_}
+use mathlib.Core.Bool.{Bool, false}
+use mathlib.Core.List.{List, []}
 use Prim.Native.Nat.{ℕ, _+_, _-_}
 use lib.IntN.{ℤ, subℕ}
 use lib.ListN.{length}
@@ -62,29 +62,15 @@ due p = p .wanted - (p .announced + length (p .held))
 
 -- ── the port with other numbers
 
-abbrev pub withHeld : Port → ℕ → List Open → Port
-withHeld p a cs =
-    record {
-      live = p .live;
-      wanted = p .wanted;
-      announced = a;
-      held = cs;
-      unanswered = p .unanswered;
-      maximum = p .maximum;
-      agreed = p .agreed;
-      formats = p .formats;
-      crsolnt = p .crsolnt;
-      losolnt = p .losolnt;
-    }
-
-abbrev pub withWanted : Port → ℕ → Port
-withWanted p w =
+-- other W, A, open commands, and whether a credit request is unanswered; what the login agreed stays
+abbrev pub withCredit : Port → ℕ → ℕ → List Open → Bool → Port
+withCredit p w a cs u =
     record {
       live = p .live;
       wanted = w;
-      announced = p .announced;
-      held = p .held;
-      unanswered = p .unanswered;
+      announced = a;
+      held = cs;
+      unanswered = u;
       maximum = p .maximum;
       agreed = p .agreed;
       formats = p .formats;
@@ -92,17 +78,24 @@ withWanted p w =
       losolnt = p .losolnt;
     }
 
+abbrev pub withHeld : Port → ℕ → List Open → Port
+withHeld p a cs = withCredit p (p .wanted) a cs (p .unanswered)
+
+abbrev pub withWanted : Port → ℕ → Port
+withWanted p w = withCredit p w (p .announced) (p .held) (p .unanswered)
+
 abbrev pub withUnanswered : Port → Bool → Port
-withUnanswered p b =
+withUnanswered p u = withCredit p (p .wanted) (p .announced) (p .held) u
+
+-- a command with another state of its plan and its directions
+abbrev pub withSides : Open → Bool → Side → Side → Open
+withSides c planned out inn =
     record {
-      live = p .live;
-      wanted = p .wanted;
-      announced = p .announced;
-      held = p .held;
-      unanswered = b;
-      maximum = p .maximum;
-      agreed = p .agreed;
-      formats = p .formats;
-      crsolnt = p .crsolnt;
-      losolnt = p .losolnt;
+      tag = c .tag;
+      lun = c .lun;
+      ucsolnt = c .ucsolnt;
+      scsolnt = c .scsolnt;
+      planned = planned;
+      out = out;
+      inn = inn;
     }

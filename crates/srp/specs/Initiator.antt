@@ -1,6 +1,6 @@
 -- An SRP_CMD as an initiator writes it, for every pair of formats: what the layouts say of it reads back (proofs/Commands.antt).
 use mathlib.Core.List.{List, [], _∷_, _++_}
-use Prim.Native.Nat.{ℕ, _+_, _*_, _/_}
+use Prim.Native.Nat.{ℕ, _+_, _/_}
 use lib.ListN.{length}
 use Rattle.srp.specs.Bytes.{puts, write, zeros}
 use Rattle.srp.specs.Messages.{cmd, memoryDescriptor, tableDescriptor}

@@ -1,12 +1,12 @@
 -- Document 01, "Credit", from "The two-ended machine" on: the initiator, two queues and the port, fed the events' arguments, the calls' replies
 -- and the messages written, as bytes. Of the port's state the machine is given D alone.
 -- Then demand 3, of lists of events: what each part says stands beside it.
-use mathlib.Core.Path.{_≡_, refl}
+use mathlib.Core.Path.{_≡_}
 use mathlib.Core.Logic.{_↔_}
 use mathlib.Core.Bool.{Bool, true, false, cond, not, _&&_, _||_}
 use mathlib.Core.List.{List, [], _∷_, _++_, map}
 use mathlib.Core.Option.{Option, none, some}
-use Prim.Native.Nat.{ℕ, zero, suc, _+_, _-_, _≤_, min}
+use Prim.Native.Nat.{ℕ, suc, _+_, _-_, _≤_}
 use lib.Dec.{eqb, ltb, leb}
 use lib.IntN.{ℤ, pos, subℕ, _+ℤ_}
 use lib.ListN.{length, take}
@@ -28,7 +28,6 @@ use Rattle.srp.specs.declared.Direction.the-variants.{Out, In}
 use Rattle.srp.specs.declared.Kind.{Kind}
 use Rattle.srp.specs.declared.Piece.{Piece}
 use Rattle.srp.specs.declared.Command.{Command}
-use Rattle.srp.specs.declared.TaskRequest.{TaskRequest}
 use Rattle.srp.specs.declared.Message.{Message}
 use Rattle.srp.specs.declared.Message.the-variants.{Bad, Cmd, TskMgmt, CredRsp, ILogout}
 use Rattle.srp.specs.declared.Record.{Record}
@@ -93,18 +92,22 @@ newTrack c s t =
       inn = fresh (segments (c .inn) s (t .inn));
     }
 
+abbrev pub withProgress : Track → Bool → Progress → Progress → Track
+withProgress t planned out inn =
+    record { tag = t .tag; lun = t .lun; ucsolnt = t .ucsolnt; scsolnt = t .scsolnt; planned = planned; out = out; inn = inn }
+
 abbrev pub needing : ℕ → Progress → Progress
 needing r g = record { segs = g .segs; required = r; operations = g .operations }
 
 abbrev pub plannedFor : ℕ → ℕ → Track → Track
-plannedFor out inn t = record { tag = t .tag; lun = t .lun; ucsolnt = t .ucsolnt; scsolnt = t .scsolnt; planned = true; out = needing out (t .out); inn = needing inn (t .inn) }
+plannedFor out inn t = withProgress t true (needing out (t .out)) (needing inn (t .inn))
 
 abbrev pub oneMore : Piece → Progress → Progress
 oneMore o g = record { segs = g .segs; required = g .required; operations = g .operations ++ (o ∷ []) }
 
 abbrev pub given : Direction → Piece → Track → Track
-given Out o t = record { tag = t .tag; lun = t .lun; ucsolnt = t .ucsolnt; scsolnt = t .scsolnt; planned = t .planned; out = oneMore o (t .out); inn = t .inn }
-given In o t = record { tag = t .tag; lun = t .lun; ucsolnt = t .ucsolnt; scsolnt = t .scsolnt; planned = t .planned; out = t .out; inn = oneMore o (t .inn) }
+given Out o t = withProgress t (t .planned) (oneMore o (t .out)) (t .inn)
+given In o t = withProgress t (t .planned) (t .out) (oneMore o (t .inn))
 
 abbrev pub progressOf : Direction → Track → Progress
 progressOf Out t = t .out

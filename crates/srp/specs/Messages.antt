@@ -1,7 +1,6 @@
 -- The layouts of the ten messages: document 01's "Requests", "What the port writes" and "Login", from source document 000.
 -- Each field has one name wherever it stands at one place. What is not named here is reserved.
 use mathlib.Core.List.{List, [], _∷_}
-use Prim.Native.Nat.{ℕ}
 use Rattle.srp.specs.Bytes.{Field, bytes, bits, Layout}
 
 -- ── fields of several messages

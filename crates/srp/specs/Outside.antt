@@ -1,8 +1,8 @@
 -- Document 01, "Open commands, C calls, cutlist": look and the cut as C calls them, and what cutlist prints.
-use mathlib.Core.Bool.{Bool, true, false, cond, not, _&&_, _||_}
+use mathlib.Core.Bool.{true, false, cond, not, _||_}
 use mathlib.Core.List.{List, [], _∷_, _++_}
-use mathlib.Core.Option.{Option, none, some}
-use Prim.Native.Nat.{ℕ, zero, suc, _+_, _*_, _/_, _%_, _^_}
+use mathlib.Core.Option.{none, some}
+use Prim.Native.Nat.{ℕ, zero, suc, _+_, _/_, _%_, _^_}
 use lib.Dec.{ltb, eqb}
 use Rattle.srp.specs.Bytes.{bytesOf, puts, zeros}
 use Rattle.srp.specs.Messages.{memoryDescriptor}

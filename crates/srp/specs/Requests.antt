@@ -1,9 +1,9 @@
 -- Document 01, "Requests", and of "Descriptors" look: how a message is read, with the refusals 3 to 8 in take's order.
-use mathlib.Core.Bool.{Bool, true, false, cond, not, _&&_, _||_}
+use mathlib.Core.Bool.{Bool, cond, not, _||_}
 use mathlib.Core.List.{List, [], _∷_, _++_}
 use mathlib.Core.Option.{Option, none, some}
 use Prim.Native.Nat.{ℕ, _+_, _*_, _%_}
-use lib.Dec.{ltb, leb, eqb}
+use lib.Dec.{ltb, eqb}
 use lib.ListN.{length, take, drop}
 use Rattle.srp.specs.Bytes.{get, typeOf}
 use Rattle.srp.specs.Messages.{tag, lun, ucsolnt, scsolnt, taskFunction, taskTag, outFormat, inFormat, outCount, inCount, additional, tskMgmt, cmd, iLogout, credRsp}

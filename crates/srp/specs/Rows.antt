@@ -1,15 +1,13 @@
 -- Document 01, "Bench rows": P1 to P10 of the definitions, and further rows that guard each definition, as one table.
 -- Messages and answers are built here byte by byte from document 01's text and not by the layouts.
-use mathlib.Core.Path.{_≡_, refl}
 use mathlib.Core.Bool.{Bool, true, false, cond}
 use mathlib.Core.List.{List, [], _∷_, _++_, map}
-use mathlib.Core.Option.{Option, none, some}
-use Prim.Native.Nat.{ℕ, zero, suc, _+_, _*_, _/_, _%_, _^_}
+use Prim.Native.Nat.{ℕ, zero, suc, _+_}
 use lib.IntN.{ℤ, pos, negsuc}
-use lib.ListN.{length, take, replicate}
+use lib.ListN.{take, replicate}
 use Rattle.srp.specs.Bytes.{bytesOf}
 use Rattle.srp.specs.Refusals.{numberOf}
-use Rattle.srp.specs.Requests.{readMessage, cdbDef}
+use Rattle.srp.specs.Requests.{cdbDef}
 use Rattle.srp.specs.Credit.{Port, closedPort}
 use Rattle.srp.specs.Take.{Outcome, Tables, takeDef}
 use Rattle.srp.specs.Calls.{planDef, stepDef, finishDef, addDef, withdrawDef, grantDef, closeDef, countersDef, listDef, listing}
