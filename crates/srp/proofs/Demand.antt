@@ -17,7 +17,7 @@ use Rattle.srp.specs.Credit.{Port}
 use Rattle.srp.specs.Login.{Settings, loginChecks, rejections, opened, judged, loginBy, loginDef}
 use Rattle.srp.specs.Take.{Outcome, Tables, hasTag, takeChecks, accepted, takeBy, takeRead}
 use Rattle.srp.specs.Calls.{unless, isPlanned, planChecks, nextOf, handOut, stepChecks, finishChecks, addChecks, withdrawChecks, grantChecks}
-use Rattle.srp.specs.Machine.{Track, tracks-tag, hasPlan, Event, sends, delivers, takes, plans, steps, finishes, adds, withdraws, grants, Machine, wantedBy, refusalIn, Until, Terms, read, settle, after, byLogout, closes, takeFront, call, Allowed, takeSeen, frontSeen, Refuses, Answers, Then, Run, Fair, Demand, Meets, start, termsOf}
+use Rattle.srp.specs.Machine.{Track, trackHasTag, hasPlan, Event, sends, delivers, takes, plans, steps, finishes, adds, withdraws, grants, Machine, wantedBy, refusalIn, Until, Terms, read, settle, after, byLogout, closes, takeFront, call, Allowed, takeSeen, frontSeen, Refuses, Answers, Then, Run, Fair, Demand, Meets, start, termsOf}
 use Rattle.srp.specs.declared.Refusal.{Refusal}
 use Rattle.srp.specs.declared.Direction.{Direction}
 use Rattle.srp.specs.declared.Piece.{Piece}
@@ -29,17 +29,15 @@ use Rattle.srp.proofs.Checks.{passes}
 use Rattle.srp.proofs.Ranges.{Reached, logged-in, open-ranges}
 use Rattle.srp.proofs.Reading.{ByType, read-by-type}
 use Rattle.srp.proofs.Invariant.{openIn, Ok, find-same, open-same, lacks, now, Fine}
-use Rattle.srp.proofs.Taking.{refused-as, take-same, take-fine, take-credited}
+use Rattle.srp.proofs.Refusing.{unrefused, unless-iff, read-iff}
+use Rattle.srp.proofs.Taking.{take-same, take-fine, take-credited}
 use Rattle.srp.proofs.Steps.{send-fine, deliver-fine, add-fine, withdraw-fine, grant-fine, finish-fine, plan-fine, step-fine, step-right}
 
 -- ── refusals, by the port's state and by what the machine has counted
 
-unrefused : (r : Reply) (f : Refusal) → refusalIn r ≡ none → r ≡ Refused f → ⊥
-unrefused r f e g = Option·none-ne-some f (sym e ∙ ap refusalIn g)
-
 module _ {T : Terms} {m : Machine} {p : Port} (h : Ok T m p) where
-  plan-same : (tag : ℕ) → isPlanned (find (hasTag tag) (p .held)) ≡ hasPlan (find (tracks-tag tag) (m .tracks))
-  plan-same tag = ap isPlanned (find-same h tag) ∙ by-case (find (tracks-tag tag) (m .tracks))
+  plan-same : (tag : ℕ) → isPlanned (find (hasTag tag) (p .held)) ≡ hasPlan (find (trackHasTag tag) (m .tracks))
+  plan-same tag = ap isPlanned (find-same h tag) ∙ by-case (find (trackHasTag tag) (m .tracks))
     where
       by-case : (o : Option Track) → isPlanned (Option·map openIn o) ≡ hasPlan o
       by-case none = refl
@@ -55,34 +53,11 @@ module _ {T : Terms} {m : Machine} {p : Port} (h : Ok T m p) where
   seen-same room s t (CredRsp g) = rw (h .settled .0, h .unanswered)
   seen-same room s t ILogout = rw (h .settled .0)
 
-  -- the port's first refusal is v, the machine's k
-  unless-iff : (v k : Option Refusal) (o : Outcome) → v ≡ k → refusalIn (o .reply) ≡ none → (f : Refusal) → (unless v p o .reply ≡ Refused f) ↔ (k ≡ some f)
-  unless-iff none k o e u f = ((λ g. absurd (unrefused (o .reply) f u g)), λ g. absurd (Option·none-ne-some f (e ∙ g)))
-  unless-iff (some r) k o e u f = ((λ g. sym e ∙ (let z : r ≡ f = cc in ap some z)), λ g. ap Refused (Option·some-injective r f (e ∙ g)))
-
-  take-iff : (room : ℕ) (s : List ℕ) (t : Tables) (d : Message) (b : Bool) → ByType b d → (f : Refusal)
-      → (takeRead p room s t d .reply ≡ Refused f) ↔ (firstOf (takeSeen T m room s t d) ≡ some f)
-  take-iff room s t d b l f = go (firstOf (takeChecks p room s t d)) refl
-    where
-      first : (d : Message) → firstOf (takeChecks p room s t d) ≡ none → accepted p s t d .reply ≡ Refused f → ⊥
-      first (Bad r) e g = true≢false (passes (takeChecks p room s t (Bad r)) e .1 .1 .0)
-      first (Cmd c) e g = unrefused _ f refl g
-      first (TskMgmt c) e g = unrefused _ f refl g
-      first (CredRsp c) e g = unrefused _ f refl g
-      first ILogout e g = unrefused _ f refl g
-
-      go : (v : Option Refusal) → firstOf (takeChecks p room s t d) ≡ v → (takeBy v p s t d .reply ≡ Refused f) ↔ (firstOf (takeSeen T m room s t d) ≡ some f)
-      go none e = ((λ g. absurd (first d e g)), λ g. absurd (Option·none-ne-some f (sym e ∙ seen-same room s t d ∙ g)))
-      go (some r) e = (
-        (λ g. sym (seen-same room s t d) ∙ e ∙ (let z : r ≡ f = cc (refused-as p d r) in ap some z)),
-        λ g. refused-as p d r ∙ ap Refused (Option·some-injective r f (sym e ∙ seen-same room s t d ∙ g)),
-      )
-
   front-iff : (room : ℕ) (t : Tables) (q : List (List ℕ)) (f : Refusal) → (takeFront T p room t q .reply ≡ Refused f) ↔ (firstOf (frontSeen T m room t q) ≡ some f)
   front-iff room t [] f = ((λ g. absurd (unrefused Performed f refl g)), λ g. absurd (Option·none-ne-some f g))
   front-iff room t (s ∷ ss) f =
       subst (λ (o : Outcome). (o .reply ≡ Refused f) ↔ (firstOf (takeSeen T m room s t (read T s)) ≡ some f)) (sym (take-same h room t s))
-      (take-iff room s t (read T s) (isRequest s) (read-by-type (T .agreed) (T .formats) s) f)
+      (read-iff p room s t (read T s) _ (seen-same room s t (read T s)) f)
 
   hand-unrefused : (tag : ℕ) (d : Direction) (v : Option Piece) → refusalIn (handOut p tag d v .reply) ≡ none
   hand-unrefused tag d none = refl
@@ -93,14 +68,14 @@ module _ (T : Terms) (some-M : 1 ≤ T .maximum) (m : Machine) (p : Port) (h : O
   refuses (sends s) f = ((λ g. absurd (unrefused Performed f refl g)), λ g. absurd (Option·none-ne-some f g))
   refuses delivers f = ((λ g. absurd (unrefused Performed f refl g)), λ g. absurd (Option·none-ne-some f g))
   refuses (takes room t) f = front-iff h room t (m .toPort) f
-  refuses (plans tag a b) f = unless-iff h (firstOf (planChecks p tag)) _ _ (rw (h .settled .0, open-same h tag, plan-same h tag)) refl f
+  refuses (plans tag a b) f = unless-iff p (firstOf (planChecks p tag)) _ _ (rw (h .settled .0, open-same h tag, plan-same h tag)) refl f
   refuses (steps tag d) f =
-      unless-iff h (firstOf (stepChecks p tag)) _ _ (rw (h .settled .0, open-same h tag, plan-same h tag))
+      unless-iff p (firstOf (stepChecks p tag)) _ _ (rw (h .settled .0, open-same h tag, plan-same h tag))
       (hand-unrefused h tag d (nextOf (p .maximum) d (find (hasTag tag) (p .held)))) f
-  refuses (finishes room tag st se) f = unless-iff h (firstOf (finishChecks p room tag st se)) _ _ (rw (h .settled .0, open-same h tag)) refl f
-  refuses (adds k) f = unless-iff h (firstOf (addChecks p k)) _ _ (rw (h .settled .0, wanted-same h)) refl f
-  refuses (withdraws k) f = unless-iff h (firstOf (withdrawChecks p k)) _ _ (rw (h .settled .0, wanted-same h)) refl f
-  refuses (grants room) f = unless-iff h (firstOf (grantChecks p room)) _ _ (rw (h .settled .0, h .unanswered, lacks h)) refl f
+  refuses (finishes room tag st se) f = unless-iff p (firstOf (finishChecks p room tag st se)) _ _ (rw (h .settled .0, open-same h tag)) refl f
+  refuses (adds k) f = unless-iff p (firstOf (addChecks p k)) _ _ (rw (h .settled .0, wanted-same h)) refl f
+  refuses (withdraws k) f = unless-iff p (firstOf (withdrawChecks p k)) _ _ (rw (h .settled .0, wanted-same h)) refl f
+  refuses (grants room) f = unless-iff p (firstOf (grantChecks p room)) _ _ (rw (h .settled .0, h .unanswered, lacks h)) refl f
 
   fine : (e : Event) → Allowed T m e → Fine T (settle T m e (call T p m e .reply)) (byLogout T m e (call T p m e .reply)) (call T p m e)
   fine (sends s) a = send-fine h s a

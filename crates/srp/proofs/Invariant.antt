@@ -17,7 +17,7 @@ use Rattle.srp.specs.Credit.{Side, Open, Port, owed, due, withCredit, wi
 use Rattle.srp.specs.Writing.{answer}
 use Rattle.srp.specs.Take.{Outcome, silent, answering, hasTag, isOpen}
 use Rattle.srp.specs.Calls.{recordOf, handing}
-use Rattle.srp.specs.Machine.{deltaOf, deltas, isCreditRequest, requests, Progress, Track, oneMore, tracks-tag, shownAs, Machine, four, lack, holds, withTracks, withLimit, withBuffers, withWaiting, joined, join, saysLogout, Until, Distinct, InOrder, Terms, Sum, ByLack, Lift, Now}
+use Rattle.srp.specs.Machine.{deltaOf, deltas, isCreditRequest, requests, Progress, Track, oneMore, trackHasTag, shownAs, Machine, four, lack, holds, withTracks, withLimit, withBuffers, withWaiting, joined, join, saysLogout, Until, Distinct, InOrder, Terms, Sum, ByLack, Lift, Now}
 use Rattle.srp.specs.declared.Piece.{Piece}
 use Rattle.srp.specs.declared.Reply.{Reply}
 use Rattle.srp.proofs.CutLaws.{bytesIn-append}
@@ -97,11 +97,11 @@ module _ {T : Terms} {m : Machine} {p : Port} (h : Ok T m p) where
       let f : four m ≡ p .announced + length (p .held) = omega (arith, held, h .credit) in
       rw (f, sub-add, ← h .wanted, sub-back)
 
-  pub find-same : (tag : ℕ) → find (hasTag tag) (p .held) ≡ Option·map openIn (find (tracks-tag tag) (m .tracks))
+  pub find-same : (tag : ℕ) → find (hasTag tag) (p .held) ≡ Option·map openIn (find (trackHasTag tag) (m .tracks))
   find-same tag = ap (find (hasTag tag)) (h .commands) ∙ find-map openIn (hasTag tag) (m .tracks)
 
   pub open-same : (tag : ℕ) → isOpen p tag ≡ holds m tag
-  open-same tag = ap isSome (find-same tag) ∙ some-map openIn (find (tracks-tag tag) (m .tracks))
+  open-same tag = ap isSome (find-same tag) ∙ some-map openIn (find (trackHasTag tag) (m .tracks))
 
   pub lacks : due p ≡ lack (T .buffers) m
   lacks = omega (arith, held, h .credit, h .wanted)

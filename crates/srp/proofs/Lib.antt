@@ -17,3 +17,4 @@ pub mod Ranges
 pub mod Itself
 pub mod Commands
 pub mod Unread
+pub mod Refusing

@@ -56,7 +56,7 @@ module _ (agreed formats : ℕ) (s : List ℕ) where
   neither : eqb (typeOf s) 0x02 ≡ false → eqb (typeOf s) 0x01 ≡ false → isRequest s ≡ false
   neither e f = rw (e, f)
 
-  by-type : ByType (isRequest s) (byType formats s)
+  by-type : ByType (isRequest s) (byType (typeOf s) formats s)
   by-type =
       either (isRequest s) (eqb (typeOf s) 0x02) _ _
       (λ e. unless-bad (isRequest s) (firstOf (commandChecks formats s)) (Cmd (commandOf s)) of-command (rw e (or-true (eqb (typeOf s) 0x01)))) λ e₂.
@@ -67,4 +67,4 @@ module _ (agreed formats : ℕ) (s : List ℕ) where
   -- a message is read as its type byte says
   pub read-by-type : ByType (isRequest s) (readMessage agreed formats s)
   unfolding readMessage
-  read-by-type = unless-bad (isRequest s) (firstOf (lengthChecks agreed s)) (byType formats s) short-or-long by-type
+  read-by-type = unless-bad (isRequest s) (firstOf (lengthChecks agreed s)) (byType (typeOf s) formats s) short-or-long by-type

@@ -18,7 +18,7 @@ use Rattle.srp.specs.Credit.{Open, Port, due, withHeld, withWanted, with
 use Rattle.srp.specs.Writing.{residualOf, solicited, creditRequest}
 use Rattle.srp.specs.Take.{Outcome, silent, answering, hasTag, isOpen}
 use Rattle.srp.specs.Calls.{unless, isPlanned, planned, planChecks, planDef, kindOf, advanced, nextOf, wrapped, handOut, stepChecks, stepDef, finalResponse, finishChecks, finishDef, addChecks, addDef, withdrawChecks, withdrawDef, grantChecks, grantDef}
-use Rattle.srp.specs.Machine.{deltaOf, deltas, requests, Progress, Track, plannedFor, oneMore, given, progressOf, tracks-tag, sends, plans, steps, finishes, adds, withdraws, grants, Machine, withTracks, delivered, Distinct, wholeOf, Prefix, Right, Terms, settle, Allowed}
+use Rattle.srp.specs.Machine.{deltaOf, deltas, requests, Progress, Track, plannedFor, oneMore, given, progressOf, trackHasTag, sends, plans, steps, finishes, adds, withdraws, grants, Machine, withTracks, delivered, Distinct, wholeOf, Prefix, saidOf, Right, Terms, settle, Allowed}
 use Rattle.srp.specs.declared.Refusal.{Refusal}
 use Rattle.srp.specs.declared.Direction.{Direction}
 use Rattle.srp.specs.declared.Direction.the-variants.{Out, In}
@@ -56,15 +56,15 @@ module _ (M : ℕ) (g : Progress) (some-M : 1 ≤ M) (q : Prefix M g) where
     next-right : (d : Direction) → Right M d g (Operation (kindOf d) o)
     next-right d =
         record {
+          in-turn = λ u. sym (ap (saidOf d) (turn ∙ e));
           done-iff = λ u. ((λ f. let z : _≡_ {A = ℕ} 0 1 = cc in absurd (omega arith)), λ f. absurd (omega (arith, ap length f, some-below (wholeOf M g) (length (g .operations)) o (turn ∙ e))));
-          in-turn = λ k o′ f. ((cc), next-take ∙ (cc));
         }
 
   last-right : (d : Direction) → nextIn ≡ none → Right M d g Done
   last-right d e =
       record {
+        in-turn = λ u. sym (ap (saidOf d) (turn ∙ e));
         done-iff = λ u. (λ f. q ∙ take-all (length (g .operations)) (wholeOf M g) (none-above (wholeOf M g) (length (g .operations)) (turn ∙ e)), λ f. refl);
-        in-turn = λ k o f. let z : _≡_ {A = ℕ} 0 1 = cc in absurd (omega arith);
       }
 
 order-of : (M : ℕ) (d : Direction) (t : Track) → Sound M t → Prefix M (progressOf d t)
@@ -153,15 +153,15 @@ module _ {T : Terms} {m : Machine} {p : Port} (h : Ok T m p) where
       unless-fine (firstOf (finishChecks p room tag st se)) (λ r. settle T m (finishes room tag st se) r)
       (answering (withHeld p (p .announced) (without (hasTag tag) (p .held))) Performed (finalResponse (find (hasTag tag) (p .held)) st se)) (λ n. refl) λ z.
       let c = passes (finishChecks p room tag st se) z in
-      let o = recast (without (hasTag tag) (p .held)) (without (tracks-tag tag) (m .tracks)) (rw (h .commands) (without-map openIn (hasTag tag) (m .tracks)))
-      (all-without (Sound (T .maximum)) (tracks-tag tag) (m .tracks) (h .sound)) (distinct-without (tracks-tag tag) (m .tracks) (h .distinct)) in
+      let o = recast (without (hasTag tag) (p .held)) (without (trackHasTag tag) (m .tracks)) (rw (h .commands) (without-map openIn (hasTag tag) (m .tracks)))
+      (all-without (Sound (T .maximum)) (trackHasTag tag) (m .tracks) (h .sound)) (distinct-without (trackHasTag tag) (m .tracks) (h .distinct)) in
       ends (find (hasTag tag) (p .held)) (not-false (isOpen p tag) (c .1 .1 .1 .0)) o
     where
       p′ : Port
       p′ = withHeld p (p .announced) (without (hasTag tag) (p .held))
 
       m′ : Machine
-      m′ = withTracks m (m .toPort) (without (tracks-tag tag) (m .tracks))
+      m′ = withTracks m (m .toPort) (without (trackHasTag tag) (m .tracks))
 
       ends : (c : Option Open) → isSome c ≡ true → Ok T m′ p′ → Fine T m′ false (answering p′ Performed (finalResponse c st se))
       ends none e o = absurd (true≢false (sym e))
@@ -181,7 +181,7 @@ module _ {T : Terms} {m : Machine} {p : Port} (h : Ok T m p) where
           (few o))
 
   -- the port's command is the machine's
-  found : (tag : ℕ) (t : Track) → find (tracks-tag tag) (m .tracks) ≡ some t → find (hasTag tag) (p .held) ≡ some (openIn t)
+  found : (tag : ℕ) (t : Track) → find (trackHasTag tag) (m .tracks) ≡ some t → find (hasTag tag) (p .held) ≡ some (openIn t)
   found tag t f = find-same h tag ∙ ap (Option·map openIn) f
 
   pub plan-fine : (tag a b : ℕ) → Fine T (settle T m (plans tag a b) (planDef p tag a b .reply)) false (planDef p tag a b)
@@ -190,24 +190,24 @@ module _ {T : Terms} {m : Machine} {p : Port} (h : Ok T m p) where
       (silent (withHeld p (p .announced) (change (hasTag tag) (planned a b) (p .held))) Performed) (λ n. refl) λ z.
       let c = passes (planChecks p tag) z in
       quiet
-      (recast (change (hasTag tag) (planned a b) (p .held)) (change (tracks-tag tag) (plannedFor a b) (m .tracks))
+      (recast (change (hasTag tag) (planned a b) (p .held)) (change (trackHasTag tag) (plannedFor a b) (m .tracks))
       (rw (h .commands) (change-map openIn (hasTag tag) (planned a b) (plannedFor a b) (m .tracks) (λ t f. refl)))
-      (all-change (Sound (T .maximum)) (tracks-tag tag) (plannedFor a b) (m .tracks) (h .sound) (λ t f s. sound-plan (T .maximum) a b t s (sym (ap isPlanned (found tag t f)) ∙ c .1 .1 .0)))
-      (distinct-change (tracks-tag tag) (plannedFor a b) (λ t. refl) (m .tracks) (h .distinct)))
+      (all-change (Sound (T .maximum)) (trackHasTag tag) (plannedFor a b) (m .tracks) (h .sound) (λ t f s. sound-plan (T .maximum) a b t s (sym (ap isPlanned (found tag t f)) ∙ c .1 .1 .0)))
+      (distinct-change (trackHasTag tag) (plannedFor a b) (λ t. refl) (m .tracks) (h .distinct)))
       Performed
 
   module _ (some-M : 1 ≤ T .maximum) where
     -- a command's next piece, in the port and in the machine
-    next-of : (tag : ℕ) (d : Direction) (t : Track) (v : Option Piece) → nextOf (p .maximum) d (find (hasTag tag) (p .held)) ≡ v → find (tracks-tag tag) (m .tracks) ≡ some t
+    next-of : (tag : ℕ) (d : Direction) (t : Track) (v : Option Piece) → nextOf (p .maximum) d (find (hasTag tag) (p .held)) ≡ v → find (trackHasTag tag) (m .tracks) ≡ some t
         → next (T .maximum) (bytesIn (progressOf d t .operations)) (min (progressOf d t .required) (sumOf (progressOf d t .segs))) (progressOf d t .segs) ≡ v
     next-of tag Out t v e f = sym (ap (nextOf (T .maximum) Out) (found tag t f)) ∙ rw (h .settled .1) at e
     next-of tag In t v e f = sym (ap (nextOf (T .maximum) In) (found tag t f)) ∙ rw (h .settled .1) at e
 
-    sound-of : (tag : ℕ) (t : Track) → find (tracks-tag tag) (m .tracks) ≡ some t → Sound (T .maximum) t
-    sound-of tag t f = all-find (Sound (T .maximum)) (tracks-tag tag) (m .tracks) t (h .sound) f
+    sound-of : (tag : ℕ) (t : Track) → find (trackHasTag tag) (m .tracks) ≡ some t → Sound (T .maximum) t
+    sound-of tag t f = all-find (Sound (T .maximum)) (trackHasTag tag) (m .tracks) t (h .sound) f
 
     -- its address is the segment's, and wraps nowhere
-    unwrapped : (tag : ℕ) (d : Direction) (t : Track) (o : Piece) → nextOf (p .maximum) d (find (hasTag tag) (p .held)) ≡ some o → find (tracks-tag tag) (m .tracks) ≡ some t
+    unwrapped : (tag : ℕ) (d : Direction) (t : Track) (o : Piece) → nextOf (p .maximum) d (find (hasTag tag) (p .held)) ≡ some o → find (trackHasTag tag) (m .tracks) ≡ some t
         → wrapped o ≡ o
     unwrapped tag d t o e f =
         wrapped-same (T .maximum) (bytesIn (progressOf d t .operations)) (min (progressOf d t .required) (sumOf (progressOf d t .segs))) (progressOf d t .segs) o
@@ -218,14 +218,14 @@ module _ {T : Terms} {m : Machine} {p : Port} (h : Ok T m p) where
     hand-fine tag d c none e = quiet h Done
     hand-fine tag d c (some o) e =
         quiet
-        (recast (change (hasTag tag) (advanced d (o .len)) (p .held)) (change (tracks-tag tag) (given d (wrapped o)) (m .tracks))
+        (recast (change (hasTag tag) (advanced d (o .len)) (p .held)) (change (trackHasTag tag) (given d (wrapped o)) (m .tracks))
         (rw (h .commands) (change-map openIn (hasTag tag) (advanced d (o .len)) (given d (wrapped o)) (m .tracks) (λ t f. moves d (wrapped o) t)))
-        (all-change (Sound (T .maximum)) (tracks-tag tag) (given d (wrapped o)) (m .tracks) (h .sound) (λ t f s.
+        (all-change (Sound (T .maximum)) (trackHasTag tag) (given d (wrapped o)) (m .tracks) (h .sound) (λ t f s.
         sound-given (T .maximum) d (wrapped o) t s (sym (ap isPlanned (found tag t f)) ∙ not-false _ (c .1 .1 .0)) (prefix t f s)))
-        (distinct-change (tracks-tag tag) (given d (wrapped o)) (λ t. same-tag d (wrapped o) t) (m .tracks) (h .distinct)))
+        (distinct-change (trackHasTag tag) (given d (wrapped o)) (λ t. same-tag d (wrapped o) t) (m .tracks) (h .distinct)))
         (Operation (kindOf d) (wrapped o))
       where
-        prefix : (t : Track) → find (tracks-tag tag) (m .tracks) ≡ some t → Sound (T .maximum) t → Prefix (T .maximum) (oneMore (wrapped o) (progressOf d t))
+        prefix : (t : Track) → find (trackHasTag tag) (m .tracks) ≡ some t → Sound (T .maximum) t → Prefix (T .maximum) (oneMore (wrapped o) (progressOf d t))
         prefix t f s =
             subst (λ (x : Piece). Prefix (T .maximum) (oneMore x (progressOf d t))) (sym (unwrapped tag d t o e f))
             (next-prefix (T .maximum) (progressOf d t) some-M (order-of (T .maximum) d t s) o (next-of tag d t (some o) e f))
@@ -236,18 +236,14 @@ module _ {T : Terms} {m : Machine} {p : Port} (h : Ok T m p) where
         hand-fine tag d (passes (stepChecks p tag) z) (nextOf (p .maximum) d (find (hasTag tag) (p .held))) refl
 
     -- a step hands out the next of the command's own cuts, or says done when there is none
-    pub step-right : (tag : ℕ) (d : Direction) (t : Track) → find (tracks-tag tag) (m .tracks) ≡ some t → Right (T .maximum) d (progressOf d t) (stepDef p tag d .reply)
+    pub step-right : (tag : ℕ) (d : Direction) (t : Track) → find (trackHasTag tag) (m .tracks) ≡ some t → Right (T .maximum) d (progressOf d t) (stepDef p tag d .reply)
     step-right tag d t f = go (firstOf (stepChecks p tag)) (nextOf (p .maximum) d (find (hasTag tag) (p .held))) refl
       where
         s : Sound (T .maximum) t
         s = sound-of tag t f
 
         go : (r : Option Refusal) (v : Option Piece) → nextOf (p .maximum) d (find (hasTag tag) (p .held)) ≡ v → Right (T .maximum) d (progressOf d t) (unless r p (handOut p tag d v) .reply)
-        go (some r) v e =
-            record {
-              done-iff = λ u. absurd (Option·none-ne-some r (sym u));
-              in-turn = λ k o q. let z : _≡_ {A = ℕ} 0 1 = cc in absurd (omega arith);
-            }
+        go (some r) v e = record { in-turn = λ u. absurd (Option·none-ne-some r (sym u)); done-iff = λ u. absurd (Option·none-ne-some r (sym u)) }
         go none none e = last-right (T .maximum) (progressOf d t) some-M (order-of (T .maximum) d t s) d (next-of tag d t none e f)
         go none (some o) e =
             subst (λ (x : Piece). Right (T .maximum) d (progressOf d t) (Operation (kindOf d) x)) (sym (unwrapped tag d t o e f))

@@ -8,13 +8,13 @@ use Prim.Native.Nat.{ℕ}
 use lib.Dec.{eqb}
 use borrow.Author.Tests.{eqb-false, ne-eqb}
 use Rattle.srp.specs.Lists.{find, without, change, isSome}
-use Rattle.srp.specs.Machine.{Track, tracks-tag, Absent, Distinct}
+use Rattle.srp.specs.Machine.{Track, trackHasTag, Absent, Distinct}
 
 -- the first has another tag, and none of the rest has this one
 apart : (n : ℕ) (t : Track) (ts : List Track) → Absent n (t ∷ ts) → (eqb n (t .tag) ≡ false) × Absent n ts
 apart n t ts a = go (eqb n (t .tag)) refl a
   where
-    go : (b : Bool) → eqb n (t .tag) ≡ b → isSome (cond b (some t) (find (tracks-tag n) ts)) ≡ false → (eqb n (t .tag) ≡ false) × Absent n ts
+    go : (b : Bool) → eqb n (t .tag) ≡ b → isSome (cond b (some t) (find (trackHasTag n) ts)) ≡ false → (eqb n (t .tag) ≡ false) × Absent n ts
     go true e f = absurd (true≢false f)
     go false e f = (e, f)
 

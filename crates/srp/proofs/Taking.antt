@@ -27,19 +27,9 @@ use Rattle.srp.proofs.Checks.{passes, hit}
 use Rattle.srp.proofs.ListLaws.{without-map, map-snoc, all-snoc, all-without}
 use Rattle.srp.proofs.Tags.{distinct-snoc, distinct-without}
 use Rattle.srp.proofs.Fields.{both}
+use Rattle.srp.proofs.Refusing.{refused-as}
 use Rattle.srp.proofs.Reading.{ByType, between-hangs, read-by-type}
 use Rattle.srp.proofs.Invariant.{openIn, Sound, Ok, open-same, with-commands, with-waiting, Fine, nothing-lifts, lifts, quiet, codes}
-
--- a reply's refusal, where take has one
-pub refused-as : (p : Port) (m : Message) (r : Refusal) → refusedBy p m r .reply ≡ Refused r
-refused-as p m r = go (hangsUp (numberOf r)) (eqb (numberOf r) 10)
-  where
-    go : (a b : Bool)
-        → let o : Outcome = cond a (hangUp p r) (cond b (answerBad p m r) (silent p (Refused r))) in
-        o .reply ≡ Refused r
-    go true b = refl
-    go false true = refl
-    go false false = refl
 
 module _ {T : Terms} {m : Machine} {p : Port} (h : Ok T m p) (s : List ℕ) (ss : List (List ℕ)) (e : m .toPort ≡ s ∷ ss) where
   some-credit : isRequest s ≡ true → p .announced ≡ suc (m .limit + requests ss + deltas (m .toInitiator))

@@ -15,3 +15,4 @@ pub mod Machine
 pub mod Initiator
 pub mod Rows
 pub mod Unread
+pub mod Order

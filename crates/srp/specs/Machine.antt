@@ -9,7 +9,7 @@ use mathlib.Core.Option.{Option, none, some}
 use Prim.Native.Nat.{ℕ, suc, _+_, _-_, _≤_}
 use lib.Dec.{eqb, ltb, leb}
 use lib.IntN.{ℤ, pos, subℕ, _+ℤ_}
-use lib.ListN.{length, take}
+use lib.ListN.{length, take, getElem?}
 use Rattle.srp.specs.Bytes.{get, typeOf}
 use Rattle.srp.specs.Messages.{delta, requestedLength, formatBits, rsp, credReq, tLogout}
 use Rattle.srp.specs.Refusals.{numberOf, Check, firstOf, short}
@@ -113,8 +113,8 @@ abbrev pub progressOf : Direction → Track → Progress
 progressOf Out t = t .out
 progressOf In t = t .inn
 
-abbrev pub tracks-tag : ℕ → Track → Bool
-tracks-tag tag t = eqb tag (t .tag)
+abbrev pub trackHasTag : ℕ → Track → Bool
+trackHasTag tag t = eqb tag (t .tag)
 
 abbrev pub hasPlan : Option Track → Bool
 hasPlan none = false
@@ -166,7 +166,7 @@ abbrev pub wantedBy : ℕ → Machine → ℕ
 wantedBy N m = N + m .added - m .withdrawn
 
 abbrev pub holds : Machine → ℕ → Bool
-holds m tag = isSome (find (tracks-tag tag) (m .tracks))
+holds m tag = isSome (find (trackHasTag tag) (m .tracks))
 
 -- ── the machine with other parts
 
@@ -278,7 +278,7 @@ Until false X = X
 
 -- no command of these has the tag; no two have one tag
 abbrev pub Absent : ℕ → List Track → Type 0
-Absent tag ts = isSome (find (tracks-tag tag) ts) ≡ false
+Absent tag ts = isSome (find (trackHasTag tag) ts) ≡ false
 
 abbrev pub Distinct : List Track → Type 0
 Distinct [] = Unit {0}
@@ -295,12 +295,16 @@ Prefix M g = g .operations ≡ take (length (g .operations)) (wholeOf M g)
 abbrev pub InOrder : ℕ → Track → Type 0
 InOrder M t = Prefix M (t .out) × Prefix M (t .inn)
 
--- a step's reply r: "An unrefused step says done exactly when all those of its command and direction were handed out before it";
--- else it is the next of them, as an RDMA Read for data-out and a Write for data-in
+-- what a step says of the piece whose turn it is
+abbrev pub saidOf : Direction → Option Piece → Reply
+saidOf d none = Done
+saidOf d (some o) = Operation (kindOf d) o
+
+-- an unrefused step's reply r is the next of them, in its direction's kind; and it "says done exactly when all those of its command and
+-- direction were handed out before it"
 pub record Right (M : ℕ) (d : Direction) (g : Progress) (r : Reply) : Type 0 where
+  pub in-turn : refusalIn r ≡ none → r ≡ saidOf d (getElem? (wholeOf M g) (length (g .operations)))
   pub done-iff : refusalIn r ≡ none → (r ≡ Done) ↔ (g .operations ≡ wholeOf M g)
-  pub in-turn : (k : Kind) (o : Piece) → r ≡ Operation k o
-      → (k ≡ kindOf d) × (take (suc (length (g .operations))) (wholeOf M g) ≡ g .operations ++ (o ∷ []))
 
 -- what the login settled: N, M, the agreed length and the agreed formats
 pub record Terms : Type 0 where
@@ -327,10 +331,10 @@ module _ (T : Terms) where
   settle m delivers r = delivered m (m .toInitiator)
   settle m (takes room t) r = tookFront m (m .toPort) t r
   settle m (plans tag out inn) r =
-      unlessRefused (refusalIn r) m (withTracks m (m .toPort) (change (tracks-tag tag) (plannedFor out inn) (m .tracks)))
-  settle m (steps tag d) r = handedTo (operationIn r) m (λ o. withTracks m (m .toPort) (change (tracks-tag tag) (given d o) (m .tracks)))
+      unlessRefused (refusalIn r) m (withTracks m (m .toPort) (change (trackHasTag tag) (plannedFor out inn) (m .tracks)))
+  settle m (steps tag d) r = handedTo (operationIn r) m (λ o. withTracks m (m .toPort) (change (trackHasTag tag) (given d o) (m .tracks)))
   settle m (finishes room tag status sense) r =
-      unlessRefused (refusalIn r) m (withTracks m (m .toPort) (without (tracks-tag tag) (m .tracks)))
+      unlessRefused (refusalIn r) m (withTracks m (m .toPort) (without (trackHasTag tag) (m .tracks)))
   settle m (adds k) r = unlessRefused (refusalIn r) m (withBuffers m (m .added + k) (m .withdrawn))
   settle m (withdraws k) r = unlessRefused (refusalIn r) m (withBuffers m (m .added) (m .withdrawn + k))
   settle m (grants room) r = m
@@ -425,8 +429,8 @@ module _ (T : Terms) where
   checks m (sends s) = []
   checks m delivers = []
   checks m (takes room t) = frontSeen m room t (m .toPort)
-  checks m (plans tag out inn) = (not (holds m tag), TagNotOpen) ∷ (hasPlan (find (tracks-tag tag) (m .tracks)), Planned) ∷ []
-  checks m (steps tag d) = (not (holds m tag), TagNotOpen) ∷ (not (hasPlan (find (tracks-tag tag) (m .tracks))), Unplanned) ∷ []
+  checks m (plans tag out inn) = (not (holds m tag), TagNotOpen) ∷ (hasPlan (find (trackHasTag tag) (m .tracks)), Planned) ∷ []
+  checks m (steps tag d) = (not (holds m tag), TagNotOpen) ∷ (not (hasPlan (find (trackHasTag tag) (m .tracks))), Unplanned) ∷ []
   checks m (finishes room tag status sense) = short room ∷ (badSense status sense, Argument) ∷ (not (holds m tag), TagNotOpen) ∷ []
   checks m (adds k) = (eqb k 0, Argument) ∷ (ltb 16 (wantedBy (T .buffers) m + k), Wanted) ∷ []
   checks m (withdraws k) = (eqb k 0, Argument) ∷ (leb (wantedBy (T .buffers) m) k, Wanted) ∷ []
@@ -442,7 +446,7 @@ module _ (T : Terms) where
   Answers m delivers r = Unit {0}
   Answers m (takes room t) r = r ≡ Refused NoCredit → ⊥
   Answers m (plans tag out inn) r = Unit {0}
-  Answers m (steps tag d) r = (t : Track) → find (tracks-tag tag) (m .tracks) ≡ some t → Right (T .maximum) d (progressOf d t) r
+  Answers m (steps tag d) r = (t : Track) → find (trackHasTag tag) (m .tracks) ≡ some t → Right (T .maximum) d (progressOf d t) r
   Answers m (finishes room tag status sense) r = Unit {0}
   Answers m (adds k) r = Unit {0}
   Answers m (withdraws k) r = Unit {0}

@@ -19,9 +19,12 @@ use Rattle.srp.specs.declared.Message.the-variants.{Bad, Cmd, TskMgmt, C
 use Rattle.srp.specs.declared.Look.{Look}
 use Rattle.srp.specs.declared.Look.the-variants.{LookRefused, Fetches}
 
--- "A request is an SRP_CMD or SRP_TSK_MGMT", known by its type byte; an empty message is none
+-- "A request is an SRP_CMD or SRP_TSK_MGMT", known by its type; an empty message is none
+abbrev pub isRequestType : ℕ → Bool
+isRequestType k = eqb k (tskMgmt .code) || eqb k (cmd .code)
+
 abbrev pub isRequest : List ℕ → Bool
-isRequest s = eqb (typeOf s) (tskMgmt .code) || eqb (typeOf s) (cmd .code)
+isRequest s = isRequestType (typeOf s)
 
 abbrev pub flag : ℕ → Bool
 flag n = eqb n 1
@@ -99,17 +102,18 @@ sized n s m = cond (eqb (length s) n) m (Bad Length)
 abbrev pub lengthChecks : ℕ → List ℕ → List Check
 lengthChecks agreed s = (ltb (length s) 16, Length) ∷ (ltb agreed (length s), Length) ∷ []
 
-abbrev pub byType : ℕ → List ℕ → Message
-byType formats s =
-    cond (eqb (typeOf s) (cmd .code)) (unlessBad (firstOf (commandChecks formats s)) (Cmd (commandOf s)))
-    (cond (eqb (typeOf s) (tskMgmt .code)) (sized (tskMgmt .size) s (TskMgmt (taskOf s)))
-    (cond (eqb (typeOf s) (iLogout .code)) (sized (iLogout .size) s ILogout)
-    (cond (eqb (typeOf s) (credRsp .code)) (sized (credRsp .size) s (CredRsp (get tag s)))
+-- a message of type k
+abbrev pub byType : ℕ → ℕ → List ℕ → Message
+byType k formats s =
+    cond (eqb k (cmd .code)) (unlessBad (firstOf (commandChecks formats s)) (Cmd (commandOf s)))
+    (cond (eqb k (tskMgmt .code)) (sized (tskMgmt .size) s (TskMgmt (taskOf s)))
+    (cond (eqb k (iLogout .code)) (sized (iLogout .size) s ILogout)
+    (cond (eqb k (credRsp .code)) (sized (credRsp .size) s (CredRsp (get tag s)))
     (Bad OtherType))))
 
 -- a message to a port with this agreed length and these agreed formats
 unfoldable pub readMessage : ℕ → ℕ → List ℕ → Message
-readMessage agreed formats s = unlessBad (firstOf (lengthChecks agreed s)) (byType formats s)
+readMessage agreed formats s = unlessBad (firstOf (lengthChecks agreed s)) (byType (typeOf s) formats s)
 
 -- ── look
 

@@ -1,0 +1,122 @@
+-- Demand 1 of the definitions: every call is refused by the first of its checks that hits, and only so, in document 01's order.
+-- Assumes nothing.
+use mathlib.Core.Path.{_≡_, refl, ap, sym, _∙_, subst}
+use mathlib.Core.Logic.{_↔_}
+use mathlib.Core.Bool.{Bool, true, false, cond, not, _&&_, _||_, true≢false}
+use mathlib.Core.List.{List, [], _∷_, _++_}
+use mathlib.Core.Option.{Option, none, some, Option·none-ne-some, Option·some-injective}
+use Prim.Native.Nat.{ℕ}
+use lib.Dec.{ltb, eqb}
+use lib.ListN.{length}
+use borrow.Author.Tests.{eqb-true}
+use Rattle.srp.specs.Bytes.{get, typeOf}
+use Rattle.srp.specs.Messages.{tag, outFormat, inFormat}
+use Rattle.srp.specs.Descriptors.{agrees, badCount}
+use Rattle.srp.specs.Refusals.{numberOf, Check, firstOf, hangsUp}
+use Rattle.srp.specs.Requests.{exactLength, outDescriptor, inDescriptor, commandChecks, commandOf, taskOf, unlessBad, sized, lengthChecks, byType, readMessage}
+use Rattle.srp.specs.Credit.{Port}
+use Rattle.srp.specs.Take.{Outcome, silent, hangUp, isOpen, Tables, tablesFit, fieldsFit, laterChecks, takeChecks, accepted, answerBad, refusedBy, takeBy, takeRead, takeDef}
+use Rattle.srp.specs.Calls.{unless}
+use Rattle.srp.specs.Machine.{refusalIn}
+use Rattle.srp.specs.Order.{orderOf, takeOrder}
+use Rattle.srp.specs.declared.Refusal.{Refusal}
+use Rattle.srp.specs.declared.Refusal.the-variants.{ShortBuffer, Length, OtherType, OutFormat, InFormat, OutCount, InCount, TableLength, Fields, Closed, NoCredit, TagOpen, CreditResponse}
+use Rattle.srp.specs.declared.Message.{Message}
+use Rattle.srp.specs.declared.Message.the-variants.{Bad, Cmd, TskMgmt, CredRsp, ILogout}
+use Rattle.srp.specs.declared.Reply.{Reply}
+use Rattle.srp.specs.declared.Reply.the-variants.{Refused}
+use Rattle.srp.proofs.Checks.{passes}
+
+-- a reply that is no refusal
+pub unrefused : (r : Reply) (f : Refusal) → refusalIn r ≡ none → r ≡ Refused f → ⊥
+unrefused r f e g = Option·none-ne-some f (sym e ∙ ap refusalIn g)
+
+-- a refusal is what the reply says, whatever else it does
+pub refused-as : (p : Port) (m : Message) (r : Refusal) → refusedBy p m r .reply ≡ Refused r
+refused-as p m r = go (hangsUp (numberOf r)) (eqb (numberOf r) 10)
+  where
+    go : (a b : Bool)
+        → let o : Outcome = cond a (hangUp p r) (cond b (answerBad p m r) (silent p (Refused r))) in
+        o .reply ≡ Refused r
+    go true b = refl
+    go false true = refl
+    go false false = refl
+
+-- a call whose first check that hits is v, of checks that come to k
+pub unless-iff : (p : Port) (v k : Option Refusal) (o : Outcome) → v ≡ k → refusalIn (o .reply) ≡ none → (f : Refusal)
+    → (unless v p o .reply ≡ Refused f) ↔ (k ≡ some f)
+unless-iff p none k o e u f = ((λ g. absurd (unrefused (o .reply) f u g)), λ g. absurd (Option·none-ne-some f (e ∙ g)))
+unless-iff p (some r) k o e u f = ((λ g. sym e ∙ (let z : r ≡ f = cc in ap some z)), λ g. ap Refused (Option·some-injective r f (e ∙ g)))
+
+module _ (p : Port) (room : ℕ) (s : List ℕ) (t : Tables) where
+  -- take of a message that is read
+  pub read-iff : (d : Message) (k : Option Refusal) → firstOf (takeChecks p room s t d) ≡ k → (f : Refusal) → (takeRead p room s t d .reply ≡ Refused f) ↔ (k ≡ some f)
+  read-iff d k e f = go (firstOf (takeChecks p room s t d)) refl
+    where
+      first : (d : Message) → firstOf (takeChecks p room s t d) ≡ none → accepted p s t d .reply ≡ Refused f → ⊥
+      first (Bad r) z g = true≢false (passes (takeChecks p room s t (Bad r)) z .1 .1 .0)
+      first (Cmd c) z g = unrefused _ f refl g
+      first (TskMgmt c) z g = unrefused _ f refl g
+      first (CredRsp c) z g = unrefused _ f refl g
+      first ILogout z g = unrefused _ f refl g
+
+      go : (v : Option Refusal) → firstOf (takeChecks p room s t d) ≡ v → (takeBy v p s t d .reply ≡ Refused f) ↔ (k ≡ some f)
+      go none z = ((λ g. absurd (first d z g)), λ g. absurd (Option·none-ne-some f (sym z ∙ e ∙ g)))
+      go (some r) z = (
+        (λ g. sym e ∙ z ∙ (let q : r ≡ f = cc (refused-as p d r) in ap some q)),
+        λ g. refused-as p d r ∙ ap Refused (Option·some-injective r f (sym z ∙ e ∙ g)),
+      )
+
+  -- ── the one list
+
+  -- checks of reading stand before those of what was read
+  reading-first : (cs : List Check) (d : Message) → firstOf (laterChecks p s t (unlessBad (firstOf cs) d)) ≡ firstOf (cs ++ laterChecks p s t d)
+  reading-first [] d = refl
+  reading-first (c ∷ cs) d = go (c .0) (reading-first cs d)
+    where
+      go : (b : Bool) → firstOf (laterChecks p s t (unlessBad (firstOf cs) d)) ≡ firstOf (cs ++ laterChecks p s t d)
+          → firstOf (laterChecks p s t (unlessBad (cond b (some (c .1)) (firstOf cs)) d)) ≡ cond b (some (c .1)) (firstOf (cs ++ laterChecks p s t d))
+      go true ih = refl
+      go false ih = ih
+
+  -- a message of its type's length, or not
+  sized-first : (n : ℕ) (d : Message) → firstOf (laterChecks p s t (sized n s d)) ≡ cond (not (eqb (length s) n)) (some Length) (firstOf (laterChecks p s t d))
+  sized-first n d = go (eqb (length s) n)
+    where
+      go : (b : Bool) → firstOf (laterChecks p s t (cond b d (Bad Length))) ≡ cond (not b) (some Length) (firstOf (laterChecks p s t d))
+      go true = refl
+      go false = refl
+
+  -- checks 1, 21 and 3, which stand before the type is looked at
+  before : Option Refusal → Option Refusal
+  before v =
+      cond (ltb room 132) (some ShortBuffer)
+      (cond (not (p .live)) (some Closed) (cond (ltb (length s) 16) (some Length) (cond (ltb (p .agreed) (length s)) (some Length) v)))
+
+  SameAt : ℕ → Type 0
+  SameAt k = firstOf (orderOf k p room s t) ≡ before (firstOf (laterChecks p s t (byType k (p .formats) s)))
+
+  same-at : (k : ℕ) → SameAt k
+  unfolding SameAt before
+  same-at k =
+      by (eqb k 0x02) refl (λ e. subst SameAt (sym (eqb-true k 0x02 e)) (ap before (sym (reading-first (commandChecks (p .formats) s) (Cmd (commandOf s)))))) λ e₂.
+      by (eqb k 0x01) refl (λ e. subst SameAt (sym (eqb-true k 0x01 e)) (ap before (sym (sized-first 48 (TskMgmt (taskOf s)))))) λ e₁.
+      by (eqb k 0x03) refl (λ e. subst SameAt (sym (eqb-true k 0x03 e)) (ap before (sym (sized-first 16 ILogout)))) λ e₃.
+      by (eqb k 0x41) refl (λ e. subst SameAt (sym (eqb-true k 0x41 e)) (ap before (sym (sized-first 16 (CredRsp (get tag s)))))) λ e₄.
+      rw (e₂, e₁, e₃, e₄)
+    where
+      by : (b : Bool) {c : Bool} → c ≡ b → (c ≡ true → SameAt k) → (c ≡ false → SameAt k) → SameAt k
+      by true e f g = f e
+      by false e f g = g e
+
+  -- take's checks are document 01's, in its order
+  pub take-order : firstOf (takeOrder p room s t) ≡ firstOf (takeChecks p room s t (readMessage (p .agreed) (p .formats) s))
+  unfolding readMessage SameAt before
+  take-order =
+      same-at (typeOf s)
+      ∙ ap (λ (v : Option Refusal). cond (ltb room 132) (some ShortBuffer) (cond (not (p .live)) (some Closed) v))
+      (sym (reading-first (lengthChecks (p .agreed) s) (byType (typeOf s) (p .formats) s)))
+
+  -- demand 1: take draws the refusal that document 01 names, and no other
+  pub take-refused : (f : Refusal) → (takeDef p room s t .reply ≡ Refused f) ↔ (firstOf (takeOrder p room s t) ≡ some f)
+  take-refused f = read-iff (readMessage (p .agreed) (p .formats) s) (firstOf (takeOrder p room s t)) (sym take-order) f
