@@ -17,6 +17,11 @@ module _ {A : Type 0} where
       go true q f ih = absurd (Option·some-ne-none (c .1) f)
       go false q f ih = (q, ih f)
 
+  -- where every test is false, none hits
+  pub clear : (cs : List (Bool × A)) → All (λ c. c .0 ≡ false) cs → firstOf cs ≡ none
+  clear [] a = refl
+  clear (c ∷ cs) a = rw (a .0) (clear cs (a .1))
+
   -- the first that hits has what each has whose test is true
   pub hit : (P : A → Type 0) (cs : List (Bool × A)) → All (λ c. c .0 ≡ true → P (c .1)) cs → (r : A) → firstOf cs ≡ some r → P r
   hit P [] a r e = absurd (Option·none-ne-some r e)

@@ -12,6 +12,7 @@ use Rattle.srp.specs.Descriptors.{segmentsIn, segmentsOf, descriptorSize
 use Rattle.srp.specs.Requests.{flag, cdbLength, outAt, inAt, exactLength, commandOf}
 use Rattle.srp.specs.Initiator.{Buffer, noData, direct, indirect, formatOf, countOf, bufferBytes, Fields, values, commandBytes}
 use Rattle.srp.specs.declared.Descriptor.{Descriptor}
+use Rattle.srp.specs.declared.Command.{Command}
 use Rattle.srp.proofs.Layouts.{gets-append, read-back, Written, written}
 
 -- a field behind n bytes
@@ -21,10 +22,10 @@ get-behind (bits at low count) n s = rw (getD-drop n s at 0)
 
 -- where a starts at a byte of s, it is read there, and what follows it starts behind it
 module _ (s a b : List ℕ) (at n : ℕ) (e : drop at s ≡ a ++ b) (l : length a ≡ n) where
-  there : take n (drop at s) ≡ a
+  pub there : take n (drop at s) ≡ a
   there = rw (e, take-at a b n l)
 
-  next : drop (at + n) s ≡ b
+  pub next : drop (at + n) s ≡ b
   next = rw (← (drop-drop n at s), e, drop-at a b n l)
 
 -- ── one descriptor
@@ -89,21 +90,26 @@ buffer-says (indirect a h n t c) f s rest at e =
 
 -- ── a command
 
+-- the command c, its descriptors in the message s
+abbrev pub commandIn : Fields → List ℕ → Command
+commandIn c s =
+    record {
+      tag = c .tag;
+      lun = c .lun;
+      ucsolnt = flag (c .ucsolnt);
+      scsolnt = flag (c .scsolnt);
+      cdb = 16 + 4 * c .n;
+      out = descriptorOf (formatOf (c .out)) (countOf (c .out)) (48 + 4 * c .n) s;
+      inn = descriptorOf (formatOf (c .inn)) (countOf (c .inn)) (48 + 4 * c .n + length (bufferBytes (c .out))) s;
+    }
+
 -- what the bytes s of the command c are read as
 pub record Reads (c : Fields) (s : List ℕ) : Type 0 where
   pub code : typeOf s ≡ cmd .code
   pub fields : gets (cmd .fields) s ≡ values c
   pub long : length s ≡ exactLength s
   pub cdb : take (cdbLength s) (drop 32 s) ≡ c .cdb
-  pub command : commandOf s ≡ record {
-    tag = c .tag;
-    lun = c .lun;
-    ucsolnt = flag (c .ucsolnt);
-    scsolnt = flag (c .scsolnt);
-    cdb = 16 + 4 * c .n;
-    out = descriptorOf (formatOf (c .out)) (countOf (c .out)) (48 + 4 * c .n) s;
-    inn = descriptorOf (formatOf (c .inn)) (countOf (c .inn)) (48 + 4 * c .n + length (bufferBytes (c .out))) s;
-  }
+  pub command : commandOf s ≡ commandIn c s
   pub out : Says (c .out) (commandOf s .out) s
   pub inn : Says (c .inn) (commandOf s .inn) s
 

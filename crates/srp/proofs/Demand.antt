@@ -5,18 +5,17 @@
 -- Assumes nothing.
 use mathlib.Core.Path.{_≡_, refl, ap, sym, _∙_, subst}
 use mathlib.Core.Logic.{_↔_}
-use mathlib.Core.Bool.{Bool, true, false, true≢false}
+use mathlib.Core.Bool.{Bool, true, false}
 use mathlib.Core.List.{List, [], _∷_}
-use mathlib.Core.Option.{Option, none, some, Option·map, Option·none-ne-some, Option·some-injective}
+use mathlib.Core.Option.{Option, none, some, Option·map, Option·none-ne-some}
 use Prim.Native.Nat.{ℕ, _-_, _≤_}
 use native.Mathlib.Omega.{arith}
 use Rattle.srp.specs.Lists.{find}
 use Rattle.srp.specs.Refusals.{firstOf}
-use Rattle.srp.specs.Requests.{isRequest}
 use Rattle.srp.specs.Credit.{Port}
 use Rattle.srp.specs.Login.{Settings, loginChecks, rejections, opened, judged, loginBy, loginDef}
-use Rattle.srp.specs.Take.{Outcome, Tables, hasTag, takeChecks, accepted, takeBy, takeRead}
-use Rattle.srp.specs.Calls.{unless, isPlanned, planChecks, nextOf, handOut, stepChecks, finishChecks, addChecks, withdrawChecks, grantChecks}
+use Rattle.srp.specs.Take.{Outcome, Tables, hasTag, takeChecks}
+use Rattle.srp.specs.Calls.{isPlanned, planChecks, nextOf, handOut, stepChecks, finishChecks, addChecks, withdrawChecks, grantChecks}
 use Rattle.srp.specs.Machine.{Track, trackHasTag, hasPlan, Event, sends, delivers, takes, plans, steps, finishes, adds, withdraws, grants, Machine, wantedBy, refusalIn, Until, Terms, read, settle, after, byLogout, closes, takeFront, call, Allowed, takeSeen, frontSeen, Refuses, Answers, Then, Run, Fair, Demand, Meets, start, termsOf}
 use Rattle.srp.specs.declared.Refusal.{Refusal}
 use Rattle.srp.specs.declared.Direction.{Direction}
@@ -25,9 +24,7 @@ use Rattle.srp.specs.declared.Message.{Message}
 use Rattle.srp.specs.declared.Message.the-variants.{Bad, Cmd, TskMgmt, CredRsp, ILogout}
 use Rattle.srp.specs.declared.Reply.{Reply}
 use Rattle.srp.specs.declared.Reply.the-variants.{Refused, Performed, Accepted}
-use Rattle.srp.proofs.Checks.{passes}
 use Rattle.srp.proofs.Ranges.{Reached, logged-in, open-ranges}
-use Rattle.srp.proofs.Reading.{ByType, read-by-type}
 use Rattle.srp.proofs.Invariant.{openIn, Ok, find-same, open-same, lacks, now, Fine}
 use Rattle.srp.proofs.Refusing.{unrefused, unless-iff, read-iff}
 use Rattle.srp.proofs.Taking.{take-same, take-fine, take-credited}
@@ -125,7 +122,7 @@ module _ (T : Terms) {S : Type 0} (view : S → Port) (Call : S → Machine → 
       )
 
 -- an accepted login opens the port
-opens : (c : Settings) (room : ℕ) (l : List ℕ) → loginDef c room l .reply ≡ Accepted → loginDef c room l .port ≡ opened c l
+pub opens : (c : Settings) (room : ℕ) (l : List ℕ) → loginDef c room l .reply ≡ Accepted → loginDef c room l .port ≡ opened c l
 opens c room l = go (firstOf (loginChecks c room l))
   where
     unrejected : (w : Option ℕ) → judged w c l .reply ≡ Accepted → judged w c l .port ≡ opened c l

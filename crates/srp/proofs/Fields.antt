@@ -5,15 +5,17 @@ use mathlib.Core.Bool.{Bool, true, false, not, _&&_, _||_, or-comm, false≢true
 use mathlib.Core.Logic.{_⊎_, inl, inr, ⊎-elim}
 use mathlib.Core.List.{List, [], _∷_, _++_, append-assoc}
 use Prim.Native.Nat.{ℕ, zero, suc, _+_, _-_, _/_, _%_, _^_, _≤_, _<_}
-use native.Mathlib.Nat.{zero-add, zero-div, zero-mod}
+use native.Mathlib.Nat.{zero-add, zero-div, zero-mod, mod-lt}
 use native.Mathlib.Numerals.{add-one}
 use native.Mathlib.Omega.{arith}
 use lib.Dec.{ltb, leb, eqb}
 use lib.ListN.{length, take, drop, getD, set, length-append, length-drop, take-append-drop}
 use lib.Seq.{length-take-le, take-append-le, drop-append-le, take-at, drop-at, drop-drop, drop-nil, take-nil, set-split, getD-set-same, getD-set-other}
+use lib.Pow.{pow-pos}
 use borrow.Author.Tests.{ltb-true, leb-true, eqb-true, eqb-false, eq-eqb, ne-eqb}
 use Rattle.srp.specs.Bytes.{number, bytesOf, Field, bytes, bits, get, put, replaced, zeros, bound, inside, apart}
-use Rattle.srp.proofs.Numbers.{length-bytes, number-read, bits-read, bits-apart}
+use Rattle.srp.proofs.ListLaws.{all-drop}
+use Rattle.srp.proofs.Numbers.{length-bytes, Bytes, number-below, number-read, bits-read, bits-apart}
 
 -- a test of two, and of one of two
 pub both : (a b : Bool) → (a && b) ≡ true → (a ≡ true) × (b ≡ true)
@@ -100,6 +102,11 @@ get-is (bits at low count) s = ap (λ (x : ℕ). x / 2 ^ low % 2 ^ count) (byte-
 
 get-same : (f : Field) (s t : List ℕ) → take (size f) (drop (start f) s) ≡ take (size f) (drop (start f) t) → get f s ≡ get f t
 get-same f s t e = get-is f s ∙ ap (λ (x : List ℕ). taken f (number 0 x)) e ∙ sym (get-is f t)
+
+-- of bytes every field is below its bound
+pub get-below : (f : Field) (s : List ℕ) → Bytes s → get f s < bound f
+get-below (bytes at wide) s b = omega (arith, number-below wide 0 (drop at s) (all-drop (λ b. b < 256) at s b))
+get-below (bits at low count) s b = mod-lt (getD s at 0 / 2 ^ low) (pow-pos count)
 
 -- a field inside n bytes ends there
 fits : (n : ℕ) (f : Field) → inside n f ≡ true → ends f ≤ n

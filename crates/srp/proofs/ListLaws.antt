@@ -4,9 +4,9 @@ use mathlib.Core.Path.{_≡_, refl, ap, subst}
 use mathlib.Core.Bool.{Bool, true, false, cond}
 use mathlib.Core.List.{List, [], _∷_, _++_, map}
 use mathlib.Core.Option.{some, Option·map, Option·none-ne-some, Option·some-injective}
-use Prim.Native.Nat.{suc, _≤_}
+use Prim.Native.Nat.{ℕ, zero, suc, _≤_}
 use native.Mathlib.Omega.{arith}
-use lib.ListN.{length}
+use lib.ListN.{length, take, drop}
 use Rattle.srp.specs.Lists.{find, change, without, All}
 
 -- a function goes out of a choice
@@ -44,6 +44,17 @@ module _ {A B : Type 0} (f : A → B) where
   map-snoc (y ∷ l) x = rw (map-snoc l x)
 
 module _ {A : Type 0} (P : A → Type 0) where
+  -- all of the first n, and of those behind them
+  pub all-take : (n : ℕ) (l : List A) → All P l → All P (take n l)
+  all-take zero l a = tt
+  all-take (suc n) [] a = tt
+  all-take (suc n) (x ∷ l) a = (a .0, all-take n l (a .1))
+
+  pub all-drop : (n : ℕ) (l : List A) → All P l → All P (drop n l)
+  all-drop zero l a = a
+  all-drop (suc n) [] a = tt
+  all-drop (suc n) (x ∷ l) a = all-drop n l (a .1)
+
   -- all of two lists
   pub all-append : (l m : List A) → All P l → All P m → All P (l ++ m)
   all-append [] m a h = h

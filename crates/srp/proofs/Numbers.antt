@@ -2,14 +2,16 @@
 -- Assumes nothing.
 use mathlib.Core.Path.{_≡_, refl, sym, ap, _∙_}
 use mathlib.Core.Logic.{_⊎_, ⊎-elim}
+use mathlib.Core.List.{List, [], _∷_}
 use Prim.Native.Nat.{ℕ, zero, suc, _+_, _-_, _*_, _/_, _%_, _^_, _≤_, _<_}
-use native.Mathlib.Nat.{add-comm, add-assoc, pow-succ', one-le-pow, mod-lt, mod-eq-of-lt}
+use native.Mathlib.Nat.{add-comm, add-assoc, pow-succ', one-le-pow, mod-lt, mod-eq-of-lt, mul-le-mul-right}
 use native.Mathlib.Omega.{arith}
 use lib.Arith.{digits-lt, mod-mul}
-use lib.ListN.{length}
+use lib.ListN.{length, take}
 use lib.Pow as Pow
 use lib.Pow.{pow-add, pow-pos, field, high, mod-mod-pow, shr-shr}
 use Rattle.srp.specs.Bytes.{number, bytesOf, replaced}
+use Rattle.srp.specs.Lists.{All}
 
 -- a number's lowest k bytes are k
 pub length-bytes : (k v : ℕ) → length (bytesOf k v) ≡ k
@@ -25,6 +27,17 @@ number-bytes (suc k) acc v =
 -- a number below 256^k is read back from its k bytes
 pub number-read : (k v : ℕ) → v < 256 ^ k → number 0 (bytesOf k v) ≡ v
 number-read k v h = rw (number-bytes k 0 v, mod-eq-of-lt h) (omega arith)
+
+-- each is a byte
+abbrev pub Bytes : List ℕ → Type 0
+Bytes s = All (λ b. b < 256) s
+
+-- of bytes the first k are read as a number below 256^k, behind the digits read before
+pub number-below : (k acc : ℕ) (l : List ℕ) → Bytes l → number acc (take k l) < (acc + 1) * 256 ^ k
+number-below zero acc l a = omega arith
+number-below (suc k) acc [] a = omega (arith, mul-le-mul-right (acc + 1) (one-le-pow (suc k) 256 (omega arith)))
+number-below (suc k) acc (b ∷ l) a =
+    rw (pow-succ' 256 k) (omega (arith, number-below k (acc * 256 + b) l (a .1), mul-le-mul-right (256 ^ k) (a .0)))
 
 -- ── a byte with other bits, `low` to `low + count`
 

@@ -1,5 +1,6 @@
--- What every port that a login made and calls changed has: 1 ≤ W ≤ 16, A + H ≤ 16, 1 ≤ M ≤ 2^20; of each direction of an open command every
--- segment inside 2^64, B the sum of the lengths and below 2^32, at most min(R, B) bytes handed out. And a closed port is one value.
+-- What every port that a login made and calls changed has: 1 ≤ W ≤ 16, A + H ≤ 16, 1 ≤ M ≤ 2^20; of an open command a tag below
+-- 2^64 and in each direction every segment inside 2^64, B the sum of the lengths and below 2^32, at most min(R, B) bytes handed out. And a
+-- closed port is one value.
 -- Assumes nothing.
 use mathlib.Core.Path.{_≡_, refl, ap, sym, _∙_}
 use mathlib.Core.Logic.{_⊎_, inl, inr, ⊎-elim}
@@ -11,12 +12,12 @@ use native.Mathlib.Omega.{arith}
 use lib.Dec.{ltb, eqb}
 use lib.ListN.{length, take, drop, length-append, length-take}
 use borrow.Author.Tests.{ltb-false, leb-false, eqb-true, eqb-false, not-false}
-use Rattle.srp.specs.Bytes.{number, get, typeOf}
-use Rattle.srp.specs.Messages.{outFormat, inFormat, outCount, inCount, tskMgmt, cmd, iLogout, credRsp}
+use Rattle.srp.specs.Bytes.{bytes, number, get}
+use Rattle.srp.specs.Messages.{tag, outFormat, inFormat, outCount, inCount, segmentLength}
 use Rattle.srp.specs.Lists.{find, change, without, All}
 use Rattle.srp.specs.Refusals.{numberOf, firstOf, hangsUp, bufferSize, short}
 use Rattle.srp.specs.Descriptors.{segmentsIn, segmentsOf, segments, sumOf, reachable, descriptorOf, goodTable, copiesAgree, goodFields}
-use Rattle.srp.specs.Requests.{outAt, inAt, outDescriptor, inDescriptor, commandOf, unlessBad, lengthChecks, commandChecks, readMessage}
+use Rattle.srp.specs.Requests.{outAt, inAt, outDescriptor, inDescriptor, commandOf, readMessage}
 use Rattle.srp.specs.Cutting.{next, badMaximum}
 use Rattle.srp.specs.Credit.{Side, Open, Port, closedPort, due, withHeld, withWanted, withUnanswered}
 use Rattle.srp.specs.Take.{Outcome, silent, hangUp, closed, answerBad, Tables, fieldsFit, newSide, newOpen, aborts, takeChecks, accepted, takeBy, takeDef, hasTag}
@@ -31,16 +32,14 @@ use Rattle.srp.specs.declared.Direction.{Direction}
 use Rattle.srp.specs.declared.Direction.the-variants.{Out, In}
 use Rattle.srp.specs.declared.Piece.{Piece}
 use Rattle.srp.specs.declared.Reply.the-variants.{Refused}
-use Rattle.srp.proofs.Fields.{both}
-use Rattle.srp.proofs.ListLaws.{all-snoc, all-without, all-find, all-change, length-change, length-without}
+use Rattle.srp.proofs.Numbers.{Bytes}
+use Rattle.srp.proofs.Fields.{both, get-below}
+use Rattle.srp.proofs.ListLaws.{all-take, all-drop, all-snoc, all-without, all-find, all-change, length-change, length-without}
 use Rattle.srp.proofs.Checks.{passes}
+use Rattle.srp.proofs.Reading.{read-has}
 use Rattle.srp.proofs.CutLaws.{piece-fits, wrapped-same}
 
 -- ── the claim
-
--- each is a byte
-abbrev pub Bytes : List ℕ → Type 0
-Bytes s = All (λ b. b < 256) s
 
 -- one direction: its segments end by 2^64, `total` is B
 pub record SideRanges (s : Side) : Type 0 where
@@ -50,8 +49,9 @@ pub record SideRanges (s : Side) : Type 0 where
   pub handed : s .handed ≤ min (s .required) (s .total)
   pub required : s .required < 2 ^ 32
 
--- an open command: R is 0 until it is planned
+-- an open command: its tag has 8 bytes, and R is 0 until it is planned
 pub record OpenRanges (c : Open) : Type 0 where
+  pub tag : c .tag < 2 ^ 64
   pub out : SideRanges (c .out)
   pub inn : SideRanges (c .inn)
   pub unplanned : c .planned ≡ false → (c .out .required ≡ 0) × (c .inn .required ≡ 0)
@@ -84,34 +84,14 @@ Kept p = (p ≡ closedPort) ⊎ Ranges p
 
 -- ── a message's segments
 
-neither : (a b : Bool) → (a || b) ≡ false → (a ≡ false) × (b ≡ false)
+-- neither of two
+pub neither : (a b : Bool) → (a || b) ≡ false → (a ≡ false) × (b ≡ false)
 neither true b e = absurd (true≢false e)
 neither false b e = (refl, e)
 
-all-drop : {A : Type 0} (P : A → Type 0) (n : ℕ) (l : List A) → All P l → All P (drop n l)
-all-drop P zero l a = a
-all-drop P (suc n) [] a = tt
-all-drop P (suc n) (x ∷ l) a = all-drop P n l (a .1)
-
-all-take : {A : Type 0} (P : A → Type 0) (n : ℕ) (l : List A) → All P l → All P (take n l)
-all-take P zero l a = tt
-all-take P (suc n) [] a = tt
-all-take P (suc n) (x ∷ l) a = (a .0, all-take P n l (a .1))
-
--- a number of up to 4 bytes
-four : (l : List ℕ) → Bytes l → number 0 (take 4 l) < 2 ^ 32
-four [] a = omega arith
-four (b ∷ []) a = omega (arith, a .0)
-four (b ∷ c ∷ []) a = omega (arith, a .0, a .1 .0)
-four (b ∷ c ∷ d ∷ []) a = omega (arith, a .0, a .1 .0, a .1 .1 .0)
-four (b ∷ c ∷ d ∷ e ∷ l) a = omega (arith, a .0, a .1 .0, a .1 .1 .0, a .1 .1 .1 .0)
-
-four-at : (n : ℕ) (s : List ℕ) → Bytes s → number 0 (take 4 (drop n s)) < 2 ^ 32
-four-at n s a = four (drop n s) (all-drop (λ b. b < 256) n s a)
-
 one-segment : (k : ℕ) (l : List ℕ) → k ≤ 1 → Bytes l → sumOf (segmentsIn k l) < 2 ^ 32
 one-segment zero l h a = omega arith
-one-segment (suc zero) l h a = omega (arith, four-at 12 l a)
+one-segment (suc zero) l h a = omega (arith, get-below segmentLength l a)
 one-segment (suc (suc k)) l h a = absurd (omega arith)
 
 module _ (f count at : ℕ) (s table : List ℕ) (b : Bytes s) where
@@ -130,7 +110,7 @@ module _ (f count at : ℕ) (s table : List ℕ) (b : Bytes s) where
   small h = go (eqb f 2) refl h
     where
       total-small : (y : Bool) → cond y (number 0 (take 4 (drop (at + 16) s))) 0 < 2 ^ 32
-      total-small true = four-at (at + 16) s b
+      total-small true = get-below (bytes (at + 16) 4) s b
       total-small false = omega arith
 
       first : List ℕ
@@ -162,31 +142,18 @@ Sane s t (CredRsp g) = Unit {0}
 Sane s t ILogout = Unit {0}
 
 module _ (s : List ℕ) (t : Tables) (b : Bytes s) where
-  pick : (c : Bool) (x y : Message) → Sane s t x → Sane s t y → Sane s t (cond c x y)
-  pick true x y a b = a
-  pick false x y a b = b
-
-  otherwise : (r : Option Refusal) (m : Message) → Sane s t m → Sane s t (unlessBad r m)
-  otherwise none m a = a
-  otherwise (some r) m a = tt
-
   command-sane : Sane s t (Cmd (commandOf s))
   command-sane e =
       let g = both (goodFields (outDescriptor s) s (t .out)) (goodFields (inDescriptor s) s (t .inn)) e in
       record {
+        tag = get-below tag s b;
         out = new-ranges (get outFormat s) (get outCount s) (outAt s) s (t .out) b (g .0);
         inn = new-ranges (get inFormat s) (get inCount s) (inAt s) s (t .inn) b (g .1);
         unplanned = λ _. (refl, refl);
       }
 
   read-sane : (agreed formats : ℕ) → Sane s t (readMessage agreed formats s)
-  unfolding readMessage
-  read-sane agreed formats =
-      otherwise (firstOf (lengthChecks agreed s)) _
-      (pick (eqb (typeOf s) (cmd .code)) _ _ (otherwise (firstOf (commandChecks formats s)) _ command-sane)
-      (pick (eqb (typeOf s) (tskMgmt .code)) _ _ (pick (eqb (length s) (tskMgmt .size)) _ _ tt tt)
-      (pick (eqb (typeOf s) (iLogout .code)) _ _ (pick (eqb (length s) (iLogout .size)) _ _ tt tt)
-      (pick (eqb (typeOf s) (credRsp .code)) _ _ (pick (eqb (length s) (credRsp .size)) _ _ tt tt) tt))))
+  read-sane = read-has (Sane s t) (λ _. tt) s command-sane tt tt tt
 
 -- ── each call on a port that has them
 
@@ -254,7 +221,7 @@ module _ {p : Port} (v : Ranges p) where
       unless-kept v (firstOf (planChecks p tag)) _ λ e.
       changed v (hasTag tag) (withPlan out inn) λ c f r.
       let u = r .unplanned (rw f at (passes (planChecks p tag) e .1 .1 .0)) in
-      record { out = requires (c .out) out (r .out) (u .0) ho; inn = requires (c .inn) inn (r .inn) (u .1) hi; unplanned = λ z. absurd (true≢false z) }
+      record { tag = r .tag; out = requires (c .out) out (r .out) (u .0) ho; inn = requires (c .inn) inn (r .inn) (u .1) hi; unplanned = λ z. absurd (true≢false z) }
     where
       requires : (s : Side) (n : ℕ) → SideRanges s → s .required ≡ 0 → n < 2 ^ 32 → SideRanges (requiring n s)
       requires s n r z h = record { reach = r .reach; sum = r .sum; small = r .small; handed = omega (arith, r .handed); required = h }
@@ -268,8 +235,8 @@ module _ {p : Port} (v : Ranges p) where
           record { reach = r .reach; sum = r .sum; small = r .small; handed = f .upto; required = r .required }
 
       more : (d : Direction) (c : Open) (o : Piece) → nextOf (p .maximum) d (some c) ≡ some o → OpenRanges c → OpenRanges (advanced d (o .len) c)
-      more Out c o e r = record { out = hands (c .out) o (r .out) e; inn = r .inn; unplanned = r .unplanned }
-      more In c o e r = record { out = r .out; inn = hands (c .inn) o (r .inn) e; unplanned = r .unplanned }
+      more Out c o e r = record { tag = r .tag; out = hands (c .out) o (r .out) e; inn = r .inn; unplanned = r .unplanned }
+      more In c o e r = record { tag = r .tag; out = r .out; inn = hands (c .inn) o (r .inn) e; unplanned = r .unplanned }
 
       go : (o : Option Piece) → nextOf (p .maximum) d (find (hasTag tag) (p .held)) ≡ o → Kept (handOut p tag d o .port)
       go none e = inr v

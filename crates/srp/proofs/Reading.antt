@@ -1,4 +1,4 @@
--- What a message is read as goes with its type byte, and what is wrong with it is a refusal from 3 to 8.
+-- What a message is read as: one of five; it goes with its type byte, and what is wrong with it is a refusal from 3 to 8.
 -- Assumes nothing.
 use mathlib.Core.Path.{_≡_, refl}
 use mathlib.Core.Bool.{Bool, true, false, cond, or-true}
@@ -9,13 +9,35 @@ use native.Mathlib.Omega.{arith}
 use lib.Dec.{eqb}
 use lib.ListN.{length}
 use borrow.Author.Tests.{le-leb}
-use Rattle.srp.specs.Bytes.{typeOf}
+use Rattle.srp.specs.Bytes.{get, typeOf}
+use Rattle.srp.specs.Messages.{tag}
 use Rattle.srp.specs.Refusals.{numberOf, firstOf, hangsUp}
 use Rattle.srp.specs.Requests.{isRequest, commandChecks, commandOf, taskOf, unlessBad, sized, lengthChecks, byType, readMessage}
 use Rattle.srp.specs.declared.Refusal.{Refusal}
+use Rattle.srp.specs.declared.Refusal.the-variants.{Length, OtherType}
 use Rattle.srp.specs.declared.Message.{Message}
 use Rattle.srp.specs.declared.Message.the-variants.{Bad, Cmd, TskMgmt, CredRsp, ILogout}
 use Rattle.srp.proofs.Checks.{hit}
+
+-- a message is read as one of five
+module _ (P : Message → Type 0) (bad : (r : Refusal) → P (Bad r)) (s : List ℕ) where
+  pick : (c : Bool) (x y : Message) → P x → P y → P (cond c x y)
+  pick true x y a b = a
+  pick false x y a b = b
+
+  otherwise : (r : Option Refusal) (m : Message) → P m → P (unlessBad r m)
+  otherwise none m a = a
+  otherwise (some r) m a = bad r
+
+  -- so it has what each of them has
+  pub read-has : P (Cmd (commandOf s)) → P (TskMgmt (taskOf s)) → P ILogout → P (CredRsp (get tag s)) → (agreed formats : ℕ) → P (readMessage agreed formats s)
+  unfolding readMessage
+  read-has command task logout credit agreed formats =
+      otherwise (firstOf (lengthChecks agreed s)) _
+      (pick (eqb (typeOf s) 0x02) _ _ (otherwise (firstOf (commandChecks formats s)) _ command)
+      (pick (eqb (typeOf s) 0x01) _ _ (pick (eqb (length s) 48) _ _ task (bad Length))
+      (pick (eqb (typeOf s) 0x03) _ _ (pick (eqb (length s) 16) _ _ logout (bad Length))
+      (pick (eqb (typeOf s) 0x41) _ _ (pick (eqb (length s) 16) _ _ credit (bad Length)) (bad OtherType)))))
 
 abbrev pub Between : Refusal → Type 0
 Between r = (3 ≤ numberOf r) × (numberOf r ≤ 8)

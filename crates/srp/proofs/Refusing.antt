@@ -2,7 +2,7 @@
 -- Assumes nothing.
 use mathlib.Core.Path.{_≡_, refl, ap, sym, _∙_, subst}
 use mathlib.Core.Logic.{_↔_}
-use mathlib.Core.Bool.{Bool, true, false, cond, not, _&&_, _||_, true≢false}
+use mathlib.Core.Bool.{Bool, true, false, cond, not, true≢false}
 use mathlib.Core.List.{List, [], _∷_, _++_}
 use mathlib.Core.Option.{Option, none, some, Option·none-ne-some, Option·some-injective}
 use Prim.Native.Nat.{ℕ}
@@ -10,17 +10,16 @@ use lib.Dec.{ltb, eqb}
 use lib.ListN.{length}
 use borrow.Author.Tests.{eqb-true}
 use Rattle.srp.specs.Bytes.{get, typeOf}
-use Rattle.srp.specs.Messages.{tag, outFormat, inFormat}
-use Rattle.srp.specs.Descriptors.{agrees, badCount}
+use Rattle.srp.specs.Messages.{tag}
 use Rattle.srp.specs.Refusals.{numberOf, Check, firstOf, hangsUp}
-use Rattle.srp.specs.Requests.{exactLength, outDescriptor, inDescriptor, commandChecks, commandOf, taskOf, unlessBad, sized, lengthChecks, byType, readMessage}
+use Rattle.srp.specs.Requests.{commandChecks, commandOf, taskOf, unlessBad, sized, lengthChecks, byType, readMessage}
 use Rattle.srp.specs.Credit.{Port}
-use Rattle.srp.specs.Take.{Outcome, silent, hangUp, isOpen, Tables, tablesFit, fieldsFit, laterChecks, takeChecks, accepted, answerBad, refusedBy, takeBy, takeRead, takeDef}
+use Rattle.srp.specs.Take.{Outcome, silent, hangUp, Tables, laterChecks, takeChecks, accepted, answerBad, refusedBy, takeBy, takeRead, takeDef}
 use Rattle.srp.specs.Calls.{unless}
 use Rattle.srp.specs.Machine.{refusalIn}
 use Rattle.srp.specs.Order.{orderOf, takeOrder}
 use Rattle.srp.specs.declared.Refusal.{Refusal}
-use Rattle.srp.specs.declared.Refusal.the-variants.{ShortBuffer, Length, OtherType, OutFormat, InFormat, OutCount, InCount, TableLength, Fields, Closed, NoCredit, TagOpen, CreditResponse}
+use Rattle.srp.specs.declared.Refusal.the-variants.{ShortBuffer, Length, Closed}
 use Rattle.srp.specs.declared.Message.{Message}
 use Rattle.srp.specs.declared.Message.the-variants.{Bad, Cmd, TskMgmt, CredRsp, ILogout}
 use Rattle.srp.specs.declared.Reply.{Reply}

@@ -1,0 +1,163 @@
+-- The initiator's messages, written by the layouts, are read by the port as those fields; and look refuses of a command just what take does.
+-- Assumes nothing.
+use mathlib.Core.Path.{_≡_, refl, ap, _∙_}
+use mathlib.Core.Logic.{_↔_}
+use mathlib.Core.Bool.{Bool, true, false, cond, not, _||_}
+use mathlib.Core.List.{List, [], _∷_, _++_}
+use mathlib.Core.Option.{Option, none, some}
+use Prim.Native.Nat.{ℕ, _+_, _*_, _/_, _≤_}
+use native.Mathlib.Omega.{arith}
+use lib.Dec.{ltb, eqb}
+use lib.ListN.{length}
+use borrow.Author.Tests.{le-ltb, eq-eqb}
+use Rattle.srp.specs.Bytes.{get, gets, typeOf, write, InRange}
+use Rattle.srp.specs.Messages.{outFormat, inFormat, loginReq, tskMgmt, cmd, iLogout, credRsp}
+use Rattle.srp.specs.Refusals.{Check, firstOf}
+use Rattle.srp.specs.Descriptors.{agrees, descriptorOf, badCount, fetchOf}
+use Rattle.srp.specs.Requests.{flag, exactLength, outDescriptor, inDescriptor, commandOf, commandChecks, taskOf, unlessBad, lengthChecks, byType, readMessage, otherFormats, lookChecks, lookDef}
+use Rattle.srp.specs.Initiator.{Buffer, noData, direct, indirect, formatOf, countOf, Fields, values, commandBytes}
+use Rattle.srp.specs.Credit.{Port}
+use Rattle.srp.specs.Login.{Settings, opened, loginDef}
+use Rattle.srp.specs.declared.Refusal.{Refusal}
+use Rattle.srp.specs.declared.Refusal.the-variants.{OtherType}
+use Rattle.srp.specs.declared.Descriptor.{Descriptor}
+use Rattle.srp.specs.declared.Look.{Look}
+use Rattle.srp.specs.declared.Look.the-variants.{LookRefused, Fetches}
+use Rattle.srp.specs.declared.Message.{Message}
+use Rattle.srp.specs.declared.Message.the-variants.{Bad, Cmd, TskMgmt, CredRsp, ILogout}
+use Rattle.srp.specs.declared.Reply.the-variants.{Accepted}
+use Rattle.srp.proofs.Checks.{clear}
+use Rattle.srp.proofs.Layouts.{Written, written}
+use Rattle.srp.proofs.Commands.{Fit, Says, commandIn, Reads, command-read}
+use Rattle.srp.proofs.Demand.{opens}
+
+-- ── requests, credit responses and logouts
+
+module _ (agreed formats : ℕ) where
+  -- from 16 bytes to the agreed length, a message is read by its type
+  by-length : (s : List ℕ) → 16 ≤ length s → length s ≤ agreed → readMessage agreed formats s ≡ byType (typeOf s) formats s
+  unfolding readMessage
+  by-length s h k = rw (clear (lengthChecks agreed s) (le-ltb (length s) 16 h, (le-ltb agreed (length s) k, tt)))
+
+  task-read : (s : List ℕ) (u c t l f m : ℕ) → length s ≡ 48 → typeOf s ≡ 0x01 → gets (tskMgmt .fields) s ≡ u ∷ c ∷ t ∷ l ∷ f ∷ m ∷ [] → 48 ≤ agreed
+      → readMessage agreed formats s ≡ TskMgmt (record { tag = t; lun = l; ucsolnt = flag u; scsolnt = flag c; function = f; managed = m })
+  task-read s u c t l f m n k v h =
+      let e : taskOf s ≡ record { tag = t; lun = l; ucsolnt = flag u; scsolnt = flag c; function = f; managed = m } = cc in
+      by-length s (omega arith) (omega arith) ∙ rw (k, n, e)
+
+  -- a task management request is read as it was written
+  pub task-received : (u c t l f m : ℕ) → InRange (tskMgmt .fields) (u ∷ c ∷ t ∷ l ∷ f ∷ m ∷ []) → 48 ≤ agreed
+      → readMessage agreed formats (write tskMgmt (u ∷ c ∷ t ∷ l ∷ f ∷ m ∷ [])) ≡ TskMgmt (record { tag = t; lun = l; ucsolnt = flag u; scsolnt = flag c; function = f; managed = m })
+  task-received u c t l f m r h =
+      let w : Written tskMgmt (u ∷ c ∷ t ∷ l ∷ f ∷ m ∷ []) = written tskMgmt refl _ r in
+      task-read _ u c t l f m (w .long) (w .code) (w .values) h
+
+  logout-read : (s : List ℕ) → length s ≡ 16 → typeOf s ≡ 0x03 → 16 ≤ agreed → readMessage agreed formats s ≡ ILogout
+  logout-read s n k h = by-length s (omega arith) (omega arith) ∙ rw (k, n)
+
+  -- an initiator's logout is read as one
+  pub logout-received : (vs : List ℕ) → InRange (iLogout .fields) vs → 16 ≤ agreed → readMessage agreed formats (write iLogout vs) ≡ ILogout
+  logout-received vs r h = let w : Written iLogout vs = written iLogout refl vs r in logout-read _ (w .long) (w .code) h
+
+  credit-read : (s : List ℕ) (t : ℕ) → length s ≡ 16 → typeOf s ≡ 0x41 → gets (credRsp .fields) s ≡ t ∷ [] → 16 ≤ agreed → readMessage agreed formats s ≡ CredRsp t
+  credit-read s t n k v h = by-length s (omega arith) (omega arith) ∙ rw (k, n) cc
+
+  -- a credit response is read with its tag
+  pub credit-received : (t : ℕ) → InRange (credRsp .fields) (t ∷ []) → 16 ≤ agreed → readMessage agreed formats (write credRsp (t ∷ [])) ≡ CredRsp t
+  credit-received t r h = let w : Written credRsp (t ∷ []) = written credRsp refl _ r in credit-read _ t (w .long) (w .code) (w .values) h
+
+-- ── commands
+
+-- copies of at most 32 entries, and no more than the table has
+abbrev pub Copied : Buffer → Type 0
+Copied noData = Unit {0}
+Copied (direct a h n) = Unit {0}
+Copied (indirect a h n t w) = (length w ≤ 512) × (length w ≤ n)
+
+good-count : (b : Buffer) (at : ℕ) (d : Descriptor) (s : List ℕ) → Copied b → d ≡ descriptorOf (formatOf b) (countOf b) at s → Says b d s → badCount d ≡ false
+good-count noData at d s k e y = ap badCount e
+good-count (direct a h n) at d s k e y = ap badCount e
+good-count (indirect a h n t w) at d s k e y =
+    let f : d .format ≡ 2 = ap (λ (x : Descriptor). x .format) e in
+    let c : d .count ≡ length w / 16 = ap (λ (x : Descriptor). x .count) e in
+    rw (f, c, y .len, le-ltb 32 (length w / 16) (omega (arith, k .0)), le-ltb n (16 * (length w / 16)) (omega (arith, k .1)))
+
+-- a command whose formats are agreed, whose copies fit and that is not too long is read as it was written
+pub command-received : (agreed formats : ℕ) (c : Fields) → InRange (cmd .fields) (values c) → length (c .cdb) ≡ 16 + 4 * c .n → Fit (c .out) → Fit (c .inn)
+    → Copied (c .out) → Copied (c .inn) → agrees formats (formatOf (c .out)) ≡ true → agrees formats (formatOf (c .inn)) ≡ true → length (commandBytes c) ≤ agreed
+    → readMessage agreed formats (commandBytes c) ≡ Cmd (commandIn c (commandBytes c))
+command-received agreed formats c h l fo fi ko ki ao ai n = go (commandBytes c) (command-read c h l fo fi) n
+  where
+    go : (s : List ℕ) → Reads c s → length s ≤ agreed → readMessage agreed formats s ≡ Cmd (commandIn c s)
+    go s r n =
+        let v = r .fields in
+        let e = r .command in
+        let f : get outFormat s ≡ formatOf (c .out) = cc in
+        let g : get inFormat s ≡ formatOf (c .inn) = cc in
+        let o : outDescriptor s ≡ commandIn c s .out = cc in
+        let i : inDescriptor s ≡ commandIn c s .inn = cc in
+        let m : 48 ≤ length s = omega (arith, r .long) in
+        let x : eqb (length s) (exactLength s) ≡ true = eq-eqb (length s) (exactLength s) (r .long) in
+        let y = good-count (c .out) _ (outDescriptor s) s ko o (r .out) in
+        let y′ = good-count (c .inn) _ (inDescriptor s) s ki i (r .inn) in
+        let z = clear (commandChecks formats s) (le-ltb (length s) 48 m, (rw (f, ao), (rw (g, ai), (rw x, (y, (y′, tt)))))) in
+        by-length agreed formats s (omega arith) n ∙ rw (r .code, z, e)
+
+-- ── login
+
+-- the port that the values of a login request open
+abbrev pub openedBy : Settings → ℕ → ℕ → ℕ → ℕ → Port
+openedBy c n f r o =
+    record {
+      live = true;
+      wanted = c .buffers;
+      announced = c .buffers;
+      held = [];
+      unanswered = false;
+      maximum = c .maximum;
+      agreed = n;
+      formats = f;
+      crsolnt = flag r;
+      losolnt = flag o;
+    }
+
+login-read : (c : Settings) (s : List ℕ) (t n f r o a i g : ℕ) → gets (loginReq .fields) s ≡ t ∷ n ∷ f ∷ r ∷ o ∷ a ∷ i ∷ g ∷ [] → opened c s ≡ openedBy c n f r o
+login-read c s t n f r o a i g v = cc
+
+-- a login request that is accepted opens the port with the length, formats, CRSOLNT and LOSOLNT that were written into it
+pub login-received : (c : Settings) (room t n f r o a i g : ℕ) → InRange (loginReq .fields) (t ∷ n ∷ f ∷ r ∷ o ∷ a ∷ i ∷ g ∷ [])
+    → loginDef c room (write loginReq (t ∷ n ∷ f ∷ r ∷ o ∷ a ∷ i ∷ g ∷ [])) .reply ≡ Accepted
+    → loginDef c room (write loginReq (t ∷ n ∷ f ∷ r ∷ o ∷ a ∷ i ∷ g ∷ [])) .port ≡ openedBy c n f r o
+login-received c room t n f r o a i g h e =
+    let s : List ℕ = write loginReq (t ∷ n ∷ f ∷ r ∷ o ∷ a ∷ i ∷ g ∷ []) in
+    opens c room s e ∙ login-read c s t n f r o a i g (written loginReq refl _ h .values)
+
+-- ── look
+
+unless-both : (a b : List Check) (m : Message) → unlessBad (firstOf (a ++ b)) m ≡ unlessBad (firstOf a) (unlessBad (firstOf b) m)
+unless-both [] b m = refl
+unless-both (c ∷ a) b m = go (c .0) (unless-both a b m)
+  where
+    go : (x : Bool) → unlessBad (firstOf (a ++ b)) m ≡ unlessBad (firstOf a) (unlessBad (firstOf b) m)
+        → unlessBad (cond x (some (c .1)) (firstOf (a ++ b))) m ≡ unlessBad (cond x (some (c .1)) (firstOf a)) (unlessBad (firstOf b) m)
+    go true e = refl
+    go false e = e
+
+abbrev lookBy : Option Refusal → List ℕ → Look
+lookBy o s = elim o [ none ↦ Fetches (fetchOf (outDescriptor s) s) (fetchOf (inDescriptor s) s) | some r ↦ LookRefused r ]
+
+-- a message of type 02h, and settings in range
+module _ (agreed formats : ℕ) (s : List ℕ) (k : typeOf s ≡ cmd .code) (e : (ltb agreed 64 || (ltb 1364 agreed || otherFormats 6 formats)) ≡ false) where
+  -- take reads it as a command unless one of look's checks hits, and then as bad by that check's refusal
+  pub look-as-take : readMessage agreed formats s ≡ unlessBad (firstOf (lookChecks agreed formats s)) (Cmd (commandOf s))
+  unfolding readMessage
+  look-as-take =
+      rw (e, unless-both (lengthChecks agreed s) ((not (eqb (typeOf s) (cmd .code)), OtherType) ∷ commandChecks formats s) (Cmd (commandOf s)), k)
+
+  -- so look refuses just what take would refuse of the message alone, with the same number
+  pub look-refuses : (r : Refusal) → (lookDef agreed formats s ≡ LookRefused r) ↔ (readMessage agreed formats s ≡ Bad r)
+  look-refuses r = rw look-as-take (go (firstOf (lookChecks agreed formats s)))
+    where
+      go : (o : Option Refusal) → (lookBy o s ≡ LookRefused r) ↔ (unlessBad o (Cmd (commandOf s)) ≡ Bad r)
+      go none = ((λ q. let z : _≡_ {A = ℕ} 0 1 = cc in absurd (omega arith)), (λ q. let z : _≡_ {A = ℕ} 0 1 = cc in absurd (omega arith)))
+      go (some x) = ((λ q. cc), (λ q. cc))

@@ -1,0 +1,250 @@
+-- Demand 2, "what the port writes follows them too": every message that a call writes is one of five kinds, with values in the ranges of its
+-- layout's fields, so that it reads back as those values, and none is longer than 132 bytes.
+-- Assumes nothing.
+use mathlib.Core.Path.{_≡_, refl, ap, _∙_}
+use mathlib.Core.Logic.{_⊎_, inl, inr, ⊎-elim}
+use mathlib.Core.Bool.{Bool, true, false, cond, not, _&&_, _||_, true≢false}
+use mathlib.Core.List.{List, [], _∷_, _++_}
+use mathlib.Core.Option.{Option, none, some}
+use Prim.Native.Nat.{ℕ, _+_, _-_, _^_, _≤_, _<_}
+use native.Mathlib.Omega.{arith}
+use lib.Dec.{ltb, leb, eqb}
+use lib.ListN.{length, take, drop, length-append}
+use lib.Seq.{take-all}
+use borrow.Author.Tests.{ltb-false, leb-true}
+use Rattle.srp.specs.Bytes.{bit, get, gets, typeOf, write, InRange}
+use Rattle.srp.specs.Messages.{tag, requestedLength, rsp, credReq, tLogout, loginRsp, loginRej, responseLength, senseLength}
+use Rattle.srp.specs.Lists.{find, without, isSome, All}
+use Rattle.srp.specs.Refusals.{numberOf, firstOf, hangsUp, reasonOf, bufferSize, short}
+use Rattle.srp.specs.Requests.{readMessage}
+use Rattle.srp.specs.Credit.{Side, Open, Port, due, withHeld}
+use Rattle.srp.specs.Writing.{Residual, even, over, under, residualOf, amount, isOver, isUnder, Response, responseBytes, responseValues, response, answer, targetLogout, solicited}
+use Rattle.srp.specs.Take.{Outcome, silent, hangUp, closed, hasTag, Tables, aborts, wholeLun, taskCode, tagOf, ucsolntOf, answerBad, takeChecks, takeBy, takeDef}
+use Rattle.srp.specs.Calls.{unless, finalResponse, finishChecks, finishDef, grantChecks, grantDef, closeDef}
+use Rattle.srp.specs.Login.{Settings, badSettings, loginChecks, supported, rejections, judged, loginBy, loginDef}
+use Rattle.srp.specs.declared.Refusal.{Refusal}
+use Rattle.srp.specs.declared.Message.{Message}
+use Rattle.srp.specs.declared.Message.the-variants.{Bad, Cmd, TskMgmt, CredRsp, ILogout}
+use Rattle.srp.specs.declared.Reply.the-variants.{Refused}
+use Rattle.srp.proofs.Numbers.{Bytes}
+use Rattle.srp.proofs.Fields.{both, get-below}
+use Rattle.srp.proofs.Layouts.{Written, written}
+use Rattle.srp.proofs.Commands.{there, next}
+use Rattle.srp.proofs.ListLaws.{all-find}
+use Rattle.srp.proofs.Checks.{passes, hit}
+use Rattle.srp.proofs.Reading.{read-has}
+use Rattle.srp.proofs.Ranges.{SideRanges, OpenRanges, Reached, neither, reached}
+
+-- ── a response is read back
+
+-- what the bytes s of the response r are read as
+pub record Responds (r : Response) (s : List ℕ) : Type 0 where
+  pub code : typeOf s ≡ rsp .code
+  pub fields : gets (rsp .fields) s ≡ responseValues r
+  pub long : length s ≡ 36 + get responseLength s + get senseLength s
+  pub bytes : take (get responseLength s) (drop 36 s) ≡ responseBytes (r .code)
+  pub sense : take (get senseLength s) (drop (36 + get responseLength s) s) ≡ r .sense
+
+-- the fixed part w read, the rest is
+responds : (r : Response) (w s : List ℕ) → s ≡ w ++ (responseBytes (r .code) ++ r .sense) → length w ≡ 36 → typeOf s ≡ rsp .code → gets (rsp .fields) s ≡ responseValues r
+    → Responds r s
+responds r w s e l k v =
+    let b : List ℕ = responseBytes (r .code) in
+    let lr : get responseLength s ≡ length b = cc in
+    let ls : get senseLength s ≡ length (r .sense) = cc in
+    let d : drop 36 s ≡ b ++ r .sense = next s w (b ++ r .sense) 0 36 e l in
+    record {
+      code = k;
+      fields = v;
+      long = ap length e ∙ simp length-append (omega arith);
+      bytes = rw lr (there s b (r .sense) 36 (length b) d refl);
+      sense = rw (lr, ls, next s b (r .sense) 36 (length b) d refl) (take-all (length (r .sense)) (r .sense) (omega arith));
+    }
+
+-- a response is read back as it was written: its fields, its response bytes and its sense
+pub response-read : (r : Response) → InRange (rsp .fields) (responseValues r) → Responds r (response r)
+response-read r h =
+    let rest : List ℕ = responseBytes (r .code) ++ r .sense in
+    let m : Written rsp (responseValues r) = written rsp refl (responseValues r) h in
+    responds r (write rsp (responseValues r)) (response r) refl (m .long) (m .code-before rest) (m .values-before rest)
+
+-- ── the five kinds
+
+-- a response code that the port writes
+abbrev pub Code : ℕ → Type 0
+Code n = (n ≡ 0) ⊎ ((n ≡ 2) ⊎ (n ≡ 4))
+
+-- behind a response's fixed part: sense of up to 96 bytes, or response bytes
+abbrev pub Behind : Option ℕ → List ℕ → Type 0
+Behind none sense = length sense ≤ 96
+Behind (some code) sense = Code code × (sense ≡ [])
+
+-- the messages that the port writes, each by its layout with values in the fields' ranges
+pub data Sent : List ℕ → Type 0 where
+  a-response : (r : Response) → InRange (rsp .fields) (responseValues r) → Behind (r .code) (r .sense) → Sent (response r)
+  credit-request : (vs : List ℕ) → InRange (credReq .fields) vs → Sent (write credReq vs)
+  target-logout : (vs : List ℕ) → InRange (tLogout .fields) vs → Sent (write tLogout vs)
+  login-response : (vs : List ℕ) → InRange (loginRsp .fields) vs → Sent (write loginRsp vs)
+  login-rejection : (vs : List ℕ) → InRange (loginRej .fields) vs → Sent (write loginRej vs)
+
+few : (o : Option ℕ) (sense : List ℕ) → Behind o sense → length (responseBytes o) + length sense ≤ 96
+few none sense h = omega (arith, h)
+few (some code) sense h = omega (arith, ap length (h .1))
+
+-- a message that the port writes fits into the lent buffer
+pub sent-fits : {s : List ℕ} → Sent s → length s ≤ bufferSize
+sent-fits (a-response r h b) = simp length-append (omega (arith, written rsp refl (responseValues r) h .long, few (r .code) (r .sense) b))
+sent-fits (credit-request vs h) = omega (arith, written credReq refl vs h .long)
+sent-fits (target-logout vs h) = omega (arith, written tLogout refl vs h .long)
+sent-fits (login-response vs h) = omega (arith, written loginRsp refl vs h .long)
+sent-fits (login-rejection vs h) = omega (arith, written loginRej refl vs h .long)
+
+-- ── the values of each kind are in range
+
+one-bit : (b : Bool) → bit b < 2
+one-bit true = omega arith
+one-bit false = omega arith
+
+abbrev saying : Bool → ℕ → ℕ → ℕ → Residual → Residual → Option ℕ → List ℕ → Response
+saying u d t s o i c l = record { solnt = u; delta = d; tag = t; status = s; out = o; inn = i; code = c; sense = l }
+
+response-sent : (u : Bool) (delta tag status : ℕ) (out inn : Residual) (code : Option ℕ) (sense : List ℕ)
+    → delta ≤ 16 → tag < 2 ^ 64 → status < 256 → amount out < 2 ^ 32 → amount inn < 2 ^ 32 → Behind code sense
+    → Sent (response (saying u delta tag status out inn code sense))
+response-sent u delta tag status out inn code sense d t s o i b =
+    a-response (saying u delta tag status out inn code sense)
+    (omega (arith, few code sense b, one-bit u, one-bit (isSome code), one-bit (not (eqb (length sense) 0)), one-bit (isOver out), one-bit (isUnder out), one-bit (isOver inn), one-bit (isUnder inn)))
+    b
+
+answer-sent : (u : Bool) (tag code delta : ℕ) → delta ≤ 16 → tag < 2 ^ 64 → Code code → Sent (answer u tag code delta)
+answer-sent u tag code delta d t c = response-sent u delta tag 0 even even (some code) [] d t (omega arith) (omega arith) (omega arith) (c, refl)
+
+logout-sent : (b : Bool) (reason : ℕ) → reason < 2 ^ 32 → Sent (targetLogout b reason)
+logout-sent b reason h = target-logout (bit b ∷ reason ∷ 0 ∷ []) (omega (arith, one-bit b))
+
+residual-small : (s : Side) → SideRanges s → amount (residualOf s) < 2 ^ 32
+residual-small s r = go (ltb (s .total) (s .required)) (ltb (s .handed) (s .total))
+  where
+    go : (a b : Bool) → amount (cond a (over (s .required - s .total)) (cond b (under (s .total - s .handed)) even)) < 2 ^ 32
+    go true b = omega (arith, r .required)
+    go false true = omega (arith, r .small)
+    go false false = omega arith
+
+-- ── the calls
+
+task-code : (function : ℕ) → Code (taskCode function)
+task-code function = go (eqb function 1 || wholeLun function) (eqb function 0x40)
+  where
+    go : (a b : Bool) → Code (cond a 0 (cond b 4 2))
+    go true b = inl refl
+    go false true = inr (inr refl)
+    go false false = inr (inl refl)
+
+reason-small : (n : ℕ) → reasonOf n < 2 ^ 32
+reason-small n = go (leb 5 n && leb n 8) refl
+  where
+    go : (b : Bool) → (leb 5 n && leb n 8) ≡ b → cond b (n + 1) 0 < 2 ^ 32
+    go true e = omega (arith, leb-true n 8 (both (leb 5 n) (leb n 8) e .1))
+    go false e = omega arith
+
+-- a port whose W and open commands are in range
+module _ (p : Port) (w : p .wanted ≤ 16) (o : All OpenRanges (p .held)) where
+  due-small : (a : ℕ) (cs : List Open) → due (withHeld p a cs) ≤ 16
+  due-small a cs = omega arith
+
+  take-sent : (room : ℕ) (s : List ℕ) (t : Tables) → Bytes s → All Sent (takeDef p room s t .wrote)
+  take-sent room s t b =
+      go (readMessage (p .agreed) (p .formats) s)
+      (read-has (λ m. tagOf m < 2 ^ 64) (λ r. omega arith) s small small (omega arith) small (p .agreed) (p .formats))
+    where
+      small : get tag s < 2 ^ 64
+      small = get-below tag s b
+
+      hung : (r : Refusal) → All Sent (hangUp p r .wrote)
+      hung r = (logout-sent (p .losolnt) (reasonOf (numberOf r)) (reason-small (numberOf r)), tt)
+
+      by : (hang bad : Bool) (m : Message) (r : Refusal) → tagOf m < 2 ^ 64 → All Sent (cond hang (hangUp p r) (cond bad (answerBad p m r) (silent p (Refused r))) .wrote)
+      by true bad m r k = hung r
+      by false true m r k = (answer-sent (ucsolntOf m) (tagOf m) 2 _ (due-small (p .announced - 1) (p .held)) k (inr (inl refl)), tt)
+      by false false m r k = tt
+
+      end : (r : Option Refusal) (m : Message) → tagOf m < 2 ^ 64 → All Sent (takeBy r p s t m .wrote)
+      end none (Bad r) k = hung r
+      end none (Cmd c) k = tt
+      end none (TskMgmt j) k =
+          let d = due-small (p .announced - 1) (without (λ (c : Open). aborts j (c .tag) (c .lun)) (p .held)) in
+          (answer-sent (solicited (j .ucsolnt) (j .scsolnt) (taskCode (j .function))) (j .tag) (taskCode (j .function)) _ d k (task-code (j .function)), tt)
+      end none (CredRsp g) k = tt
+      end none ILogout k = tt
+      end (some r) m k = by (hangsUp (numberOf r)) (eqb (numberOf r) 10) m r k
+
+      go : (m : Message) → tagOf m < 2 ^ 64 → All Sent (takeBy (firstOf (takeChecks p room s t m)) p s t m .wrote)
+      go m k = end (firstOf (takeChecks p room s t m)) m k
+
+  unless-sent : (r : Option Refusal) (x : Outcome) → (r ≡ none → All Sent (x .wrote)) → All Sent (unless r p x .wrote)
+  unless-sent none x f = f refl
+  unless-sent (some r) x f = tt
+
+  finish-sent : (room tag status : ℕ) (sense : List ℕ) → status < 256 → All Sent (finishDef p room tag status sense .wrote)
+  finish-sent room tag status sense h = unless-sent (firstOf (finishChecks p room tag status sense)) _ λ e.
+      let q = passes (finishChecks p room tag status sense) e in
+      let a = neither (ltb 96 (length sense)) (ltb 0 (length sense) && not (eqb status 2)) (q .1 .1 .0) in
+      (go (find (hasTag tag) (p .held)) refl (q .1 .1 .1 .0) (ltb-false 96 (length sense) (a .0)), tt)
+    where
+      go : (x : Option Open) → find (hasTag tag) (p .held) ≡ x → not (isSome x) ≡ false → length sense ≤ 96
+          → Sent (finalResponse x status sense (due (withHeld p (p .announced) (without (hasTag tag) (p .held)))))
+      go none f e l = absurd (true≢false e)
+      go (some c) f e l =
+          let k = all-find OpenRanges (hasTag tag) (p .held) c o f in
+          response-sent (solicited (c .ucsolnt) (c .scsolnt) status) _ (c .tag) status (residualOf (c .out)) (residualOf (c .inn)) none sense
+          (due-small (p .announced) (without (hasTag tag) (p .held))) (k .tag) h (residual-small (c .out) (k .out)) (residual-small (c .inn) (k .inn)) l
+
+  grant-sent : (room : ℕ) → All Sent (grantDef p room .wrote)
+  grant-sent room = unless-sent (firstOf (grantChecks p room)) _ λ _.
+      (credit-request (bit (p .crsolnt) ∷ due p ∷ 1 ∷ []) (omega (arith, one-bit (p .crsolnt))), tt)
+
+  close-sent : (room reason : ℕ) → reason < 2 ^ 32 → All Sent (closeDef p room reason .wrote)
+  close-sent room reason h = unless-sent (firstOf (short room ∷ closed p ∷ [])) _ λ _. (logout-sent (p .losolnt) reason h, tt)
+
+-- what the calls on the port p write
+pub record Writes (p : Port) : Type 0 where
+  pub taking : (room : ℕ) (s : List ℕ) (t : Tables) → Bytes s → All Sent (takeDef p room s t .wrote)
+  pub finishing : (room tag status : ℕ) (sense : List ℕ) → status < 256 → All Sent (finishDef p room tag status sense .wrote)
+  pub granting : (room : ℕ) → All Sent (grantDef p room .wrote)
+  pub closing : (room reason : ℕ) → reason < 2 ^ 32 → All Sent (closeDef p room reason .wrote)
+
+-- every message that a call writes on a port that a login made is of the five kinds, with values in range
+pub every-write : {p : Port} → Reached p → Writes p
+every-write {p} r =
+    let w : p .wanted ≤ 16 = ⊎-elim (λ e. rw e (omega arith)) (λ v. v .most) (reached r) in
+    let o : All OpenRanges (p .held) = ⊎-elim (λ e. rw e tt) (λ v. v .commands) (reached r) in
+    record {
+      taking = take-sent p w o;
+      finishing = finish-sent p w o;
+      granting = grant-sent p w o;
+      closing = close-sent p w o;
+    }
+
+-- and so is each that a login writes
+pub login-writes : (c : Settings) (room : ℕ) (s : List ℕ) → Bytes s → All Sent (loginDef c room s .wrote)
+login-writes c room s b = go (firstOf (loginChecks c room s)) refl
+  where
+    formats : (i : Bool) → cond i 6 2 < 2 ^ 16
+    formats true = omega arith
+    formats false = omega arith
+
+    judge : badSettings c ≡ false → (r : Option ℕ) → firstOf (rejections c s) ≡ r → All Sent (judged r c s .wrote)
+    judge e none q =
+        let few = ltb-false 16 (c .buffers) (neither (ltb 16 (c .buffers)) _ (neither (eqb (c .buffers) 0) _ e .1) .0) in (
+          login-response (c .buffers ∷ get tag s ∷ get requestedLength s ∷ bufferSize ∷ supported c ∷ bit (c .solicited) ∷ [])
+              (omega (arith, few, get-below tag s b, get-below requestedLength s b, formats (c .indirect), one-bit (c .solicited))),
+          tt,
+        )
+    judge e (some reason) q =
+        let small = hit (λ n. n < 2 ^ 32) (rejections c s)
+        ((λ _. omega arith), ((λ _. omega arith), ((λ _. omega arith), ((λ _. omega arith), ((λ _. omega arith), ((λ _. omega arith), tt)))))) reason q in
+        (login-rejection (reason ∷ get tag s ∷ supported c ∷ []) (omega (arith, small, get-below tag s b, formats (c .indirect))), tt)
+
+    go : (r : Option Refusal) → firstOf (loginChecks c room s) ≡ r → All Sent (loginBy r c s .wrote)
+    go none e = judge (passes (loginChecks c room s) e .1 .0) (firstOf (rejections c s)) refl
+    go (some r) e = tt
