@@ -7,8 +7,6 @@ use Prim.Native.Nat.{ℕ, _<_}
 use lib.Dec.{eqb}
 use Rattle.srp.specs.Bytes.{Field, bytes, bits, get, put, typeOf, bound, inside}
 use Rattle.srp.specs.Messages.{outFormat, inFormat, outCount, inCount, taskFunction, taskTag, tskMgmt, cmd, iLogout, credRsp}
-use Rattle.srp.specs.declared.Direction.{Direction}
-use Rattle.srp.specs.declared.Direction.the-variants.{Out, In}
 
 -- of an SRP_CMD; its CDB's first bytes are handed back and not judged
 abbrev pub unreadCommand : List Field
@@ -29,23 +27,7 @@ unreadCredit = bytes 1 7 ∷ []
 abbrev pub unreadLogin : List Field
 unreadLogin = bytes 1 7 ∷ bytes 20 4 ∷ bits 26 2 2 ∷ bits 26 6 2 ∷ bytes 27 5 ∷ bytes 32 16 ∷ []
 
--- what a message of type k leaves unread
-abbrev pub unreadOf : ℕ → List Field
-unreadOf k =
-    cond (eqb k (cmd .code)) unreadCommand
-    (cond (eqb k (tskMgmt .code)) unreadTask
-    (cond (eqb k (iLogout .code)) unreadLogout
-    (cond (eqb k (credRsp .code)) unreadCredit [])))
-
 -- ── what depends on the message
-
-abbrev pub formatOf : Direction → Field
-formatOf Out = outFormat
-formatOf In = inFormat
-
-abbrev pub countOf : Direction → Field
-countOf Out = outCount
-countOf In = inCount
 
 -- one field more where the test holds
 abbrev pub also : Bool → Field → List Field → List Field
