@@ -5,7 +5,8 @@ use mathlib.Core.List.{List, [], _∷_, map}
 use Prim.Native.Nat.{ℕ}
 use lib.ListN.{length, replicate}
 use Rattle.srp.specs.Requests.{readMessage}
-use Rattle.srp.specs.Rows.{rows, found, expected, no-data, cmd, table, two}
+use Rattle.srp.specs.Rows.{found, expected, no-data, cmd}
+use Rattle.srp.specs.Table.{rows, table, two}
 
 pub rows-hold : map found rows ≡ map expected rows
 unfolding readMessage

@@ -17,7 +17,8 @@ use Rattle.srp.specs.Credit.{Side, Open, Port, owed, due, withCredit, wi
 use Rattle.srp.specs.Writing.{answer}
 use Rattle.srp.specs.Take.{Outcome, silent, answering, hasTag, isOpen}
 use Rattle.srp.specs.Calls.{recordOf, handing}
-use Rattle.srp.specs.Machine.{deltaOf, deltas, isCreditRequest, requests, Progress, Track, oneMore, trackHasTag, shownAs, Machine, four, lack, holds, withTracks, withLimit, withBuffers, withWaiting, joined, join, saysLogout, Until, Distinct, InOrder, Terms, Sum, ByLack, Lift, Now}
+use Rattle.srp.specs.Machine.{deltaOf, deltas, isCreditRequest, requests, Progress, Track, oneMore, trackHasTag, shownAs, Machine, four, lack, holds, withTracks, withLimit, withBuffers, withWaiting, joined, join, saysLogout, Terms}
+use Rattle.srp.specs.Demand.{Until, Distinct, InOrder, Sum, ByLack, Lift, Now}
 use Rattle.srp.specs.declared.Piece.{Piece}
 use Rattle.srp.specs.declared.Reply.{Reply}
 use Rattle.srp.proofs.CutLaws.{bytesIn-append}

@@ -10,7 +10,8 @@ use Rattle.srp.specs.Requests.{readMessage}
 use Rattle.srp.specs.Credit.{Port}
 use Rattle.srp.specs.Take.{Outcome}
 use Rattle.srp.specs.Login.{Settings, loginDef}
-use Rattle.srp.specs.Machine.{Event, sends, takes, withdraws, Machine, Terms, termsOf, start, after, call, Run, Fair, Demand, Meets}
+use Rattle.srp.specs.Machine.{Event, sends, takes, withdraws, Machine, Terms, termsOf, start, after, call}
+use Rattle.srp.specs.Demand.{Run, Fair, Demand, Meets}
 use Rattle.srp.specs.Rows.{login, own, settings, no-data, no-tables}
 use Rattle.srp.specs.declared.Reply.{Reply}
 use Rattle.srp.specs.declared.Reply.the-variants.{Accepted}

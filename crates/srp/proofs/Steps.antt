@@ -18,7 +18,8 @@ use Rattle.srp.specs.Credit.{Open, Port, due, withHeld, withWanted, with
 use Rattle.srp.specs.Writing.{residualOf, solicited, creditRequest}
 use Rattle.srp.specs.Take.{Outcome, silent, answering, hasTag, isOpen}
 use Rattle.srp.specs.Calls.{unless, isPlanned, planned, planChecks, planDef, kindOf, advanced, nextOf, wrapped, handOut, stepChecks, stepDef, finalResponse, finishChecks, finishDef, addChecks, addDef, withdrawChecks, withdrawDef, grantChecks, grantDef}
-use Rattle.srp.specs.Machine.{deltaOf, deltas, requests, Progress, Track, plannedFor, oneMore, given, progressOf, trackHasTag, sends, plans, steps, finishes, adds, withdraws, grants, Machine, withTracks, delivered, Distinct, wholeOf, Prefix, saidOf, Right, Terms, settle, Allowed}
+use Rattle.srp.specs.Machine.{deltaOf, deltas, requests, Progress, Track, plannedFor, oneMore, given, progressOf, trackHasTag, sends, plans, steps, finishes, adds, withdraws, grants, Machine, withTracks, delivered, Terms, settle}
+use Rattle.srp.specs.Demand.{Distinct, wholeOf, Prefix, saidOf, Right, Allowed}
 use Rattle.srp.specs.declared.Refusal.{Refusal}
 use Rattle.srp.specs.declared.Direction.{Direction}
 use Rattle.srp.specs.declared.Direction.the-variants.{Out, In}

@@ -8,7 +8,8 @@ use Prim.Native.Nat.{ℕ}
 use lib.Dec.{eqb}
 use borrow.Author.Tests.{eqb-false, ne-eqb}
 use Rattle.srp.specs.Lists.{find, without, change, isSome}
-use Rattle.srp.specs.Machine.{Track, trackHasTag, Absent, Distinct}
+use Rattle.srp.specs.Machine.{Track, trackHasTag}
+use Rattle.srp.specs.Demand.{Absent, Distinct}
 
 -- the first has another tag, and none of the rest has this one
 apart : (n : ℕ) (t : Track) (ts : List Track) → Absent n (t ∷ ts) → (eqb n (t .tag) ≡ false) × Absent n ts

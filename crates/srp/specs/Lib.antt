@@ -16,3 +16,5 @@ pub mod Initiator
 pub mod Rows
 pub mod Unread
 pub mod Order
+pub mod Table
+pub mod Demand
