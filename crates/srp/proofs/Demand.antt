@@ -25,7 +25,8 @@ use Rattle.srp.specs.declared.Message.{Message}
 use Rattle.srp.specs.declared.Message.the-variants.{Bad, Cmd, TskMgmt, CredRsp, ILogout}
 use Rattle.srp.specs.declared.Reply.{Reply}
 use Rattle.srp.specs.declared.Reply.the-variants.{Refused, Performed, Accepted}
-use Rattle.srp.proofs.Ranges.{Reached, logged-in, open-ranges}
+use Rattle.srp.proofs.Ranges.{open-ranges}
+use Rattle.srp.specs.Ranges.{Reached, logged-in}
 use Rattle.srp.proofs.Invariant.{openIn, Ok, find-same, open-same, lacks, now, Fine}
 use Rattle.srp.proofs.Refusing.{unrefused, unless-iff, read-iff}
 use Rattle.srp.proofs.Taking.{take-same, take-fine, take-credited}

@@ -15,7 +15,8 @@ use lib.Pow.{pow-pos}
 use borrow.Author.Tests.{ltb-true, leb-true, eqb-true, eqb-false, eq-eqb, ne-eqb}
 use Rattle.srp.specs.Bytes.{number, bytesOf, Field, bytes, bits, get, put, replaced, zeros, bound, inside, apart}
 use Rattle.srp.proofs.ListLaws.{all-drop}
-use Rattle.srp.proofs.Numbers.{length-bytes, Bytes, number-below, number-read, bits-read, bits-apart}
+use Rattle.srp.proofs.Numbers.{length-bytes, number-below, number-read, bits-read, bits-apart}
+use Rattle.srp.specs.Bytes.{Bytes}
 
 -- a test of two, and of one of two
 pub both : (a b : Bool) → (a && b) ≡ true → (a ≡ true) × (b ≡ true)

@@ -9,6 +9,7 @@ pub mod Refusing
 pub mod Alike
 pub mod Unread
 pub mod CutLaws
+pub mod Pieces
 pub mod Owed
 pub mod Ranges
 pub mod Sent

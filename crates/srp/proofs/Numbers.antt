@@ -10,8 +10,7 @@ use lib.Arith.{digits-lt, mod-mul}
 use lib.ListN.{length, take}
 use lib.Pow as Pow
 use lib.Pow.{pow-add, pow-pos, field, high, mod-mod-pow, shr-shr}
-use Rattle.srp.specs.Bytes.{number, bytesOf, replaced}
-use Rattle.srp.specs.Lists.{All}
+use Rattle.srp.specs.Bytes.{Bytes, number, bytesOf, replaced}
 
 -- a number's lowest k bytes are k
 pub length-bytes : (k v : ℕ) → length (bytesOf k v) ≡ k
@@ -27,10 +26,6 @@ number-bytes (suc k) acc v =
 -- a number below 256^k is read back from its k bytes
 pub number-read : (k v : ℕ) → v < 256 ^ k → number 0 (bytesOf k v) ≡ v
 number-read k v h = rw (number-bytes k 0 v, mod-eq-of-lt h) (omega arith)
-
--- each is a byte
-abbrev pub Bytes : List ℕ → Type 0
-Bytes s = All (λ b. b < 256) s
 
 -- of bytes the first k are read as a number below 256^k, behind the digits read before
 pub number-below : (k acc : ℕ) (l : List ℕ) → Bytes l → number acc (take k l) < (acc + 1) * 256 ^ k

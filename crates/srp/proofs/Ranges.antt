@@ -32,55 +32,13 @@ use Rattle.srp.specs.declared.Direction.{Direction}
 use Rattle.srp.specs.declared.Direction.the-variants.{Out, In}
 use Rattle.srp.specs.declared.Piece.{Piece}
 use Rattle.srp.specs.declared.Reply.the-variants.{Refused}
-use Rattle.srp.proofs.Numbers.{Bytes}
+use Rattle.srp.specs.Bytes.{Bytes}
+use Rattle.srp.specs.Ranges.{SideRanges, OpenRanges, Ranges, Reached, logged-in, took, planned, stepped, finished, added, withdrew, granted, hung-up, Kept}
 use Rattle.srp.proofs.Fields.{both, get-below}
 use Rattle.srp.proofs.ListLaws.{all-take, all-drop, all-snoc, all-without, all-find, all-change, length-change, length-without}
 use Rattle.srp.proofs.Checks.{passes}
 use Rattle.srp.proofs.Reading.{read-has}
-use Rattle.srp.proofs.CutLaws.{piece-fits, wrapped-same}
-
--- ── the claim
-
--- one direction: its segments end by 2^64, `total` is B
-pub record SideRanges (s : Side) : Type 0 where
-  pub reach : reachable (s .segs) ≡ true
-  pub sum : s .total ≡ sumOf (s .segs)
-  pub small : s .total < 2 ^ 32
-  pub handed : s .handed ≤ min (s .required) (s .total)
-  pub required : s .required < 2 ^ 32
-
--- an open command: its tag has 8 bytes, and R is 0 until it is planned
-pub record OpenRanges (c : Open) : Type 0 where
-  pub tag : c .tag < 2 ^ 64
-  pub out : SideRanges (c .out)
-  pub inn : SideRanges (c .inn)
-  pub unplanned : c .planned ≡ false → (c .out .required ≡ 0) × (c .inn .required ≡ 0)
-
--- a port that is open: W, A + H, M and its commands
-pub record Ranges (p : Port) : Type 0 where
-  pub live : p .live ≡ true
-  pub least : 1 ≤ p .wanted
-  pub most : p .wanted ≤ 16
-  pub room : p .announced + length (p .held) ≤ 16
-  pub smallest : 1 ≤ p .maximum
-  pub largest : p .maximum ≤ 1048576
-  pub commands : All OpenRanges (p .held)
-
--- the ports that a login made, accepted or not, and calls changed, whatever they answered; a message is bytes, and R below 2^32
-pub data Reached : Port → Type 0 where
-  logged-in : (c : Settings) (room : ℕ) (s : List ℕ) → Reached (loginDef c room s .port)
-  took : {p : Port} → Reached p → (room : ℕ) (s : List ℕ) (t : Tables) → Bytes s → Reached (takeDef p room s t .port)
-  planned : {p : Port} → Reached p → (tag out inn : ℕ) → out < 2 ^ 32 → inn < 2 ^ 32 → Reached (planDef p tag out inn .port)
-  stepped : {p : Port} → Reached p → (tag : ℕ) (d : Direction) → Reached (stepDef p tag d .port)
-  finished : {p : Port} → Reached p → (room tag status : ℕ) (sense : List ℕ) → Reached (finishDef p room tag status sense .port)
-  added : {p : Port} → Reached p → (k : ℕ) → Reached (addDef p k .port)
-  withdrew : {p : Port} → Reached p → (k : ℕ) → Reached (withdrawDef p k .port)
-  granted : {p : Port} → Reached p → (room : ℕ) → Reached (grantDef p room .port)
-  hung-up : {p : Port} → Reached p → (room reason : ℕ) → Reached (closeDef p room reason .port)
-
--- closed, as the one value, or open with the ranges
-abbrev pub Kept : Port → Type 0
-Kept p = (p ≡ closedPort) ⊎ Ranges p
+use Rattle.srp.proofs.Pieces.{piece-fits, wrapped-same}
 
 -- ── a message's segments
 

@@ -26,14 +26,15 @@ use Rattle.srp.specs.declared.Refusal.{Refusal}
 use Rattle.srp.specs.declared.Message.{Message}
 use Rattle.srp.specs.declared.Message.the-variants.{Bad, Cmd, TskMgmt, CredRsp, ILogout}
 use Rattle.srp.specs.declared.Reply.the-variants.{Refused}
-use Rattle.srp.proofs.Numbers.{Bytes}
+use Rattle.srp.specs.Bytes.{Bytes}
 use Rattle.srp.proofs.Fields.{both, get-below}
 use Rattle.srp.proofs.Layouts.{Written, written}
 use Rattle.srp.proofs.Commands.{there, next}
 use Rattle.srp.proofs.ListLaws.{all-find}
 use Rattle.srp.proofs.Checks.{passes, hit}
 use Rattle.srp.proofs.Reading.{read-has}
-use Rattle.srp.proofs.Ranges.{SideRanges, OpenRanges, Reached, neither, reached}
+use Rattle.srp.proofs.Ranges.{neither, reached}
+use Rattle.srp.specs.Ranges.{SideRanges, OpenRanges, Reached}
 
 -- ── a response is read back
 

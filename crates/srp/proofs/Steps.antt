@@ -29,7 +29,8 @@ use Rattle.srp.specs.declared.Reply.the-variants.{Refused, Performed, Op
 use Rattle.srp.proofs.Checks.{passes}
 use Rattle.srp.proofs.ListLaws.{without-map, change-map, all-without, all-find, all-change}
 use Rattle.srp.proofs.Tags.{distinct-without, distinct-change}
-use Rattle.srp.proofs.CutLaws.{next-at, take-more, some-below, none-above, wrapped-same}
+use Rattle.srp.proofs.CutLaws.{next-at, take-more, some-below, none-above}
+use Rattle.srp.proofs.Pieces.{wrapped-same}
 use Rattle.srp.proofs.Deltas.{response-carries, request-carries}
 use Rattle.srp.proofs.Invariant.{openIn, side-more, Sound, Ok, find-same, with-commands, with-limit, with-wanted, Fine, quiet, few, answered, responds}
 

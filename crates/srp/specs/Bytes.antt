@@ -4,7 +4,12 @@ use mathlib.Core.Bool.{Bool, true, false, not, _&&_, _||_}
 use mathlib.Core.List.{List, [], _∷_, _++_}
 use Prim.Native.Nat.{ℕ, zero, suc, _+_, _*_, _/_, _%_, _^_, _<_}
 use lib.Dec.{ltb, leb, eqb}
+use Rattle.srp.specs.Lists.{All}
 use lib.ListN.{take, drop, getD, set, replicate}
+
+-- every number of a message or buffer is a byte
+abbrev pub Bytes : List ℕ → Type 0
+Bytes s = All (λ b. b < 256) s
 
 -- a big-endian number, behind the digits read so far
 abbrev pub number : ℕ → List ℕ → ℕ
