@@ -3,7 +3,7 @@
 # prove the definitions and show the table of rows that was proved with them
 run:
 	@rt check srp
-	@sed -n '/^bench =/,/^    ∷ \[\]/p' crates/srp/specs/Rows.antt
+	@sed -n '/^bench =/,/^    ∷ \[\]/p' crates/srp/specs/Table.antt
 
 # the gate
 test:
