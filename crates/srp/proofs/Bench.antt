@@ -1,17 +1,28 @@
--- The rows of specs/Rows.antt hold, jointly, of the definitions.
+-- The rows of specs/Table.antt hold, jointly, of the definitions.
 -- Assumes nothing.
 use mathlib.Core.Path.{_≡_, refl}
 use mathlib.Core.List.{List, [], _∷_, map}
 use Prim.Native.Nat.{ℕ}
 use lib.ListN.{length, replicate}
+use Rattle.srp.specs.Bytes.{number, bytesOf}
 use Rattle.srp.specs.Requests.{readMessage}
+use Rattle.srp.specs.Answers.{returned, valuesOf}
+use Rattle.srp.specs.declared.Reply.{Reply}
 use Rattle.srp.specs.Rows.{found, expected, no-data, cmd}
-use Rattle.srp.specs.Table.{rows, table, two}
+use Rattle.srp.specs.Table.{rows, table, two-entries, answers, answerValues}
 
 pub rows-hold : map found rows ≡ map expected rows
 unfolding readMessage
 rows-hold = refl
 
 -- the lengths that P5 to P7 name
-pub lengths : map {A = List ℕ} length (no-data 9 ∷ cmd 0 0 0 0 9 0 7 (replicate 4 0) ∷ table 0 32 300 [] ∷ table 2 32 300 two ∷ []) ≡ 48 ∷ 52 ∷ 68 ∷ 100 ∷ []
+pub lengths : map {A = List ℕ} length (no-data 9 ∷ cmd 0 0 0 0 9 0 7 (replicate 4 0) ∷ table 0 32 300 [] ∷ table 2 32 300 two-entries ∷ []) ≡ 48 ∷ 52 ∷ 68 ∷ 100 ∷ []
 lengths = refl
+
+-- numbers stand with their highest byte first
+pub big-endian : (number 0 (1 ∷ 2 ∷ 3 ∷ 4 ∷ []) ≡ 0x01020304) × (bytesOf 4 0x01020304 ≡ 1 ∷ 2 ∷ 3 ∷ 4 ∷ [])
+big-endian = (refl, refl)
+
+-- each answer's number and values
+pub answers-hold : map (λ (r : Reply). (returned r, valuesOf r)) answers ≡ answerValues
+answers-hold = refl

@@ -12,7 +12,7 @@ use Rattle.srp.specs.Take.{Outcome}
 use Rattle.srp.specs.Login.{Settings, loginDef}
 use Rattle.srp.specs.Machine.{Event, sends, takes, withdraws, Machine, Terms, termsOf, start, after, call}
 use Rattle.srp.specs.Demand.{Run, Fair, Demand, Meets}
-use Rattle.srp.specs.Rows.{login, own, settings, no-data, no-tables}
+use Rattle.srp.specs.Rows.{login-req, own, settings, no-data, no-tables}
 use Rattle.srp.specs.declared.Reply.{Reply}
 use Rattle.srp.specs.declared.Reply.the-variants.{Accepted}
 use Rattle.srp.proofs.Demand.{demand-3}
@@ -47,7 +47,7 @@ abbrev c4 : Settings
 c4 = settings 4 512 1364 true true
 
 abbrev l4 : List ℕ
-l4 = login 1364 6 0 own
+l4 = login-req 1364 6 0 own
 
 abbrev p8 : List Event
 p8 = sends (no-data 1) ∷ takes 132 no-tables ∷ sends (no-data 2) ∷ takes 132 no-tables ∷ withdraws 3 ∷ []

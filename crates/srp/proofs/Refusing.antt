@@ -16,7 +16,7 @@ use Rattle.srp.specs.Requests.{commandChecks, commandOf, taskOf, unlessB
 use Rattle.srp.specs.Credit.{Port}
 use Rattle.srp.specs.Take.{Outcome, silent, hangUp, Tables, laterChecks, takeChecks, accepted, answerBad, refusedBy, takeBy, takeRead, takeDef}
 use Rattle.srp.specs.Calls.{unless}
-use Rattle.srp.specs.Machine.{refusalIn}
+use Rattle.srp.specs.Answers.{refusalIn}
 use Rattle.srp.specs.Order.{orderOf, takeOrder}
 use Rattle.srp.specs.declared.Refusal.{Refusal}
 use Rattle.srp.specs.declared.Refusal.the-variants.{ShortBuffer, Length, Closed}

@@ -17,7 +17,8 @@ use Rattle.srp.specs.Requests.{isRequest, readMessage}
 use Rattle.srp.specs.Credit.{Open, Port, withHeld}
 use Rattle.srp.specs.Writing.{targetLogout, solicited}
 use Rattle.srp.specs.Take.{Outcome, silent, hangUp, Tables, fieldsFit, newOpen, aborts, taskCode, takeChecks, accepted, tagOf, ucsolntOf, answerBad, refusedBy, takeBy, takeRead, takeDef}
-use Rattle.srp.specs.Machine.{deltas, requests, Track, newTrack, Machine, refusalIn, withTracks, staysQueued, tookBy, isLogout, Terms, read, tookFront, frontLogout, takeFront}
+use Rattle.srp.specs.Answers.{refusalIn}
+use Rattle.srp.specs.Machine.{deltas, requests, Track, newTrack, Machine, withTracks, staysQueued, tookBy, isLogout, Terms, read, tookFront, frontLogout, takeFront}
 use Rattle.srp.specs.Demand.{Distinct}
 use Rattle.srp.specs.declared.Refusal.{Refusal}
 use Rattle.srp.specs.declared.Refusal.the-variants.{NoCredit}

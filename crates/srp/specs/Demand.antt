@@ -24,7 +24,8 @@ use Rattle.srp.specs.declared.Message.{Message}
 use Rattle.srp.specs.declared.Message.the-variants.{Bad, Cmd, TskMgmt, CredRsp, ILogout}
 use Rattle.srp.specs.declared.Reply.{Reply}
 use Rattle.srp.specs.declared.Reply.the-variants.{Refused, Operation, Done}
-use Rattle.srp.specs.Machine.{refusalIn, isResponse, isCreditRequest, deltaOf, deltas, Progress, Track, progressOf, trackHasTag, hasPlan, shownAs, Event, sends, delivers, takes, plans, steps, finishes, adds, withdraws, grants, Machine, four, lack, unused, wantedBy, holds, join, Terms, read, settle, after, closes, call}
+use Rattle.srp.specs.Answers.{refusalIn}
+use Rattle.srp.specs.Machine.{isResponse, isCreditRequest, deltaOf, deltas, Progress, Track, progressOf, trackHasTag, hasPlan, shownAs, Event, sends, delivers, takes, plans, steps, finishes, adds, withdraws, grants, Machine, four, lack, unused, wantedBy, holds, join, Terms, read, settle, after, closes, call}
 
 -- what holds until the channel closes: "Closing ends the list"
 abbrev pub Until : Bool → Type 0 → Type 0

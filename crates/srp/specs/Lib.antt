@@ -8,6 +8,7 @@ pub mod Requests
 pub mod Unread
 pub mod Cutting
 pub mod Writing
+pub mod Answers
 pub mod Take
 pub mod Order
 pub mod Calls

@@ -16,6 +16,7 @@ use Rattle.srp.specs.Cutting.{bytesIn}
 use Rattle.srp.specs.Credit.{Port}
 use Rattle.srp.specs.Take.{Outcome, silent, Tables, aborts, takeDef}
 use Rattle.srp.specs.Calls.{planDef, stepDef, finishDef, addDef, withdrawDef, grantDef}
+use Rattle.srp.specs.Answers.{refusalIn}
 use Rattle.srp.specs.Login.{Settings}
 use Rattle.srp.specs.declared.Refusal.{Refusal}
 use Rattle.srp.specs.declared.Direction.{Direction}
@@ -196,20 +197,6 @@ operationIn Accepted = none
 operationIn (Rejected reason) = none
 operationIn (Counts c) = none
 operationIn (Listed n) = none
-
-abbrev pub refusalIn : Reply → Option Refusal
-refusalIn (Refused r) = some r
-refusalIn Performed = none
-refusalIn (NewCommand tag lun cdb) = none
-refusalIn (TaskAnswered tag lun) = none
-refusalIn CreditSettled = none
-refusalIn LoggedOut = none
-refusalIn (Operation k o) = none
-refusalIn Done = none
-refusalIn Accepted = none
-refusalIn (Rejected reason) = none
-refusalIn (Counts c) = none
-refusalIn (Listed n) = none
 
 -- ── the machine's own list of what is open
 

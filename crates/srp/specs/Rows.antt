@@ -130,54 +130,56 @@ cmd solnt formats outs ins tag lun n rest =
 abbrev pub no-data : ℕ → List ℕ
 no-data tag = cmd 0 0 0 0 tag 0 0 []
 
-abbrev pub tsk : ℕ → ℕ → ℕ → ℕ → ℕ → List ℕ
-tsk solnt tag lun function managed =
+-- byte 1, the tag, the LUN, the function, the tag of the command to abort
+abbrev pub tsk-mgmt : ℕ → ℕ → ℕ → ℕ → ℕ → List ℕ
+tsk-mgmt solnt tag lun function managed =
     1 ∷ solnt ∷ replicate 6 0 ++ (bytesOf 8 tag ++ (replicate 4 0 ++ (bytesOf 8 lun ++ (0 ∷ 0 ∷ function ∷ 0 ∷ bytesOf 8 managed ++ replicate 8 0))))
 
 -- SRP_I_LOGOUT, SRP_CRED_RSP: the type and the tag
-abbrev pub brief : ℕ → ℕ → List ℕ
-brief code tag = code ∷ replicate 7 0 ++ bytesOf 8 tag
+abbrev pub tag-only : ℕ → ℕ → List ℕ
+tag-only type tag = type ∷ replicate 7 0 ++ bytesOf 8 tag
 
 abbrev pub own : List ℕ
 own = replicate 15 7 ++ (8 ∷ [])
 
 -- the requested length, the required formats, byte 26, the target identifier
-abbrev pub login : ℕ → ℕ → ℕ → List ℕ → List ℕ
-login n formats flags target =
+abbrev pub login-req : ℕ → ℕ → ℕ → List ℕ → List ℕ
+login-req n formats flags target =
     0 ∷ replicate 7 0 ++ (bytesOf 8 77 ++ (bytesOf 4 n ++ (replicate 4 0 ++ (bytesOf 2 formats ++ (flags ∷ replicate 5 0 ++ (replicate 16 5 ++ target))))))
 
 abbrev pub settings : ℕ → ℕ → ℕ → Bool → Bool → Settings
 settings n m x indirect solicited = record { buffers = n; maximum = m; longest = x; indirect = indirect; solicited = solicited; own = own }
 
 -- a port with N buffers and M = 512, both formats agreed, CRSOLNT and LOSOLNT as byte 26 says
-abbrev pub opens : ℕ → ℕ → Act
-opens n flags = logs-in (settings n 512 1364 true true) 132 (login 1364 6 flags own)
+abbrev pub logs-in-with : ℕ → ℕ → Act
+logs-in-with n flags = logs-in (settings n 512 1364 true true) 132 (login-req 1364 6 flags own)
 
 -- ── messages from the port
 
+-- byte 1, the delta, the tag, the flags, the status, both residuals, the lengths of sense and of response bytes, and what follows byte 35
 abbrev pub rsp : ℕ → ℕ → ℕ → ℕ → ℕ → ℕ → ℕ → ℕ → ℕ → List ℕ → Seen
-rsp solnt delta tag flags status out inn sense code rest =
+rsp solnt delta tag flags status out inn sense response rest =
     message
-    (0xc1 ∷ solnt ∷ 0 ∷ 0 ∷ bytesOf 4 delta ++ (bytesOf 8 tag ++ (0 ∷ 0 ∷ flags ∷ status ∷ bytesOf 4 out ++ (bytesOf 4 inn ++ (bytesOf 4 sense ++ (bytesOf 4 code ++ rest))))))
+    (0xc1 ∷ solnt ∷ 0 ∷ 0 ∷ bytesOf 4 delta ++ (bytesOf 8 tag ++ (0 ∷ 0 ∷ flags ∷ status ∷ bytesOf 4 out ++ (bytesOf 4 inn ++ (bytesOf 4 sense ++ (bytesOf 4 response ++ rest))))))
 
 -- a command's response with status 0, and one with an RSP_CODE
-abbrev pub good : ℕ → ℕ → ℕ → ℕ → ℕ → Seen
-good delta tag flags out inn = rsp 0 delta tag flags 0 out inn 0 0 []
+abbrev pub rsp-good : ℕ → ℕ → ℕ → ℕ → ℕ → Seen
+rsp-good delta tag flags out inn = rsp 0 delta tag flags 0 out inn 0 0 []
 
-abbrev pub code : ℕ → ℕ → ℕ → ℕ → Seen
-code solnt delta tag n = rsp solnt delta tag 1 0 0 0 0 4 (0 ∷ 0 ∷ 0 ∷ n ∷ [])
+abbrev pub rsp-code : ℕ → ℕ → ℕ → ℕ → Seen
+rsp-code solnt delta tag n = rsp solnt delta tag 1 0 0 0 0 4 (0 ∷ 0 ∷ 0 ∷ n ∷ [])
 
-abbrev pub bye : ℕ → ℕ → Seen
-bye solnt reason = message (0x80 ∷ solnt ∷ 0 ∷ 0 ∷ bytesOf 4 reason ++ replicate 8 0)
+abbrev pub t-logout : ℕ → ℕ → Seen
+t-logout solnt reason = message (0x80 ∷ solnt ∷ 0 ∷ 0 ∷ bytesOf 4 reason ++ replicate 8 0)
 
-abbrev pub asks : ℕ → ℕ → Seen
-asks solnt delta = message (0x81 ∷ solnt ∷ 0 ∷ 0 ∷ bytesOf 4 delta ++ bytesOf 8 1)
+abbrev pub cred-req : ℕ → ℕ → Seen
+cred-req solnt delta = message (0x81 ∷ solnt ∷ 0 ∷ 0 ∷ bytesOf 4 delta ++ bytesOf 8 1)
 
-abbrev pub welcome : ℕ → Seen
-welcome n = message (0xc0 ∷ 0 ∷ 0 ∷ 0 ∷ bytesOf 4 n ++ (bytesOf 8 77 ++ (bytesOf 4 1364 ++ (bytesOf 4 132 ++ (0 ∷ 6 ∷ 0x10 ∷ replicate 25 0)))))
+abbrev pub login-rsp : ℕ → Seen
+login-rsp n = message (0xc0 ∷ 0 ∷ 0 ∷ 0 ∷ bytesOf 4 n ++ (bytesOf 8 77 ++ (bytesOf 4 1364 ++ (bytesOf 4 132 ++ (0 ∷ 6 ∷ 0x10 ∷ replicate 25 0)))))
 
-abbrev pub rejection : ℕ → ℕ → Seen
-rejection reason supported = message (0xc2 ∷ 0 ∷ 0 ∷ 0 ∷ bytesOf 4 reason ++ (bytesOf 8 77 ++ (replicate 8 0 ++ (bytesOf 2 supported ++ replicate 6 0))))
+abbrev pub login-rej : ℕ → ℕ → Seen
+login-rej reason supported = message (0xc2 ∷ 0 ∷ 0 ∷ 0 ∷ bytesOf 4 reason ++ (bytesOf 8 77 ++ (replicate 8 0 ++ (bytesOf 2 supported ++ replicate 6 0))))
 
 -- ── acts
 
