@@ -17,7 +17,7 @@ use Rattle.srp.specs.Credit.{Side, Open, Port, owed, due, withCredit, wi
 use Rattle.srp.specs.Writing.{answer}
 use Rattle.srp.specs.Take.{Outcome, silent, answering, hasTag, isOpen}
 use Rattle.srp.specs.Calls.{recordOf, handing}
-use Rattle.srp.specs.Machine.{deltaOf, deltas, isCreditRequest, requests, Progress, Track, oneMore, trackHasTag, shownAs, Machine, four, lack, holds, withTracks, withLimit, withBuffers, withWaiting, joined, join, saysLogout, Terms}
+use Rattle.srp.specs.Machine.{deltaOf, deltas, isCreditRequest, requests, Progress, Track, oneMore, trackHasTag, shownAs, Machine, four, lack, holds, requestsHeld, withTracks, withQueues, withBuffers, joined, join, saysLogout, Terms}
 use Rattle.srp.specs.Demand.{Until, Distinct, InOrder, Sum, ByLack, Lift, Now}
 use Rattle.srp.specs.declared.Piece.{Piece}
 use Rattle.srp.specs.declared.Reply.{Reply}
@@ -76,6 +76,7 @@ pub record Ok (T : Terms) (m : Machine) (p : Port) : Type 0 where
   pub small : p .wanted ≤ 16
   pub credit : p .announced ≡ m .limit + requests (m .toPort) + deltas (m .toInitiator)
   pub wanted : p .wanted + m .withdrawn ≡ T .buffers + m .added
+  pub counts : m .taken ≡ m .ended + length (m .tracks)
   pub commands : p .held ≡ map openIn (m .tracks)
   pub sound : All (Sound (T .maximum)) (m .tracks)
   pub unanswered : p .unanswered ≡ m .waiting
@@ -95,7 +96,7 @@ module _ {T : Terms} {m : Machine} {p : Port} (h : Ok T m p) where
 
   sum : Sum T m (owed p)
   sum =
-      let f : four m ≡ p .announced + length (p .held) = omega (arith, held, h .credit) in
+      let f : four m ≡ p .announced + length (p .held) = omega (arith, held, h .credit, h .counts) in
       rw (f, sub-add, ← h .wanted, sub-back)
 
   pub find-same : (tag : ℕ) → find (hasTag tag) (p .held) ≡ Option·map openIn (find (trackHasTag tag) (m .tracks))
@@ -105,14 +106,18 @@ module _ {T : Terms} {m : Machine} {p : Port} (h : Ok T m p) where
   open-same tag = ap isSome (find-same tag) ∙ some-map openIn (find (trackHasTag tag) (m .tracks))
 
   pub lacks : due p ≡ lack (T .buffers) m
-  lacks = omega (arith, held, h .credit, h .wanted)
+  lacks = omega (arith, held, h .credit, h .wanted, h .counts)
+
+  open-held : requestsHeld m ≡ length (m .tracks)
+  open-held = omega (arith, h .counts)
 
   -- what demand 3 says of the moments between events
   pub now : Now T m p
   now =
       record {
         sum = sum;
-        held = held;
+        commands = open-held;
+        held = held ∙ sym open-held;
         listed = ap (map recordOf) (h .commands) ∙ shown-map (m .tracks);
         distinct = h .distinct;
         in-order = all-weaken (Sound (T .maximum)) (InOrder (T .maximum)) (λ t s. s .order) (m .tracks) (h .sound);
@@ -142,32 +147,35 @@ lifts m s l = record { by-lack = (l, tt); rises = four-join m (s ∷ []); one-at
 -- ── the invariant when a part moves
 
 module _ {T : Terms} {m : Machine} {p : Port} (h : Ok T m p) where
-  -- other commands, and a message less in the queue to the port
-  pub with-commands : (a : ℕ) (cs : List Open) (queue : List (List ℕ)) (ts : List Track) → a ≡ m .limit + requests queue + deltas (m .toInitiator)
-      → cs ≡ map openIn ts → All (Sound (T .maximum)) ts → Distinct ts → Ok T (withTracks m queue ts) (withHeld p a cs)
-  with-commands a cs queue ts e c s d =
+  -- other commands and counts of requests, and a message less in the queue to the port
+  pub with-commands : (a : ℕ) (cs : List Open) (queue : List (List ℕ)) (ts : List Track) (x y : ℕ) → a ≡ m .limit + requests queue + deltas (m .toInitiator)
+      → x ≡ y + length ts → cs ≡ map openIn ts → All (Sound (T .maximum)) ts → Distinct ts → Ok T (withTracks m queue ts x y) (withHeld p a cs)
+  with-commands a cs queue ts x y e n c s d =
       record {
         settled = h .settled;
         small = h .small;
         credit = e;
         wanted = h .wanted;
+        counts = n;
         commands = c;
         sound = s;
         unanswered = h .unanswered;
         distinct = d;
       }
 
-  -- another limit and other queues
-  pub with-limit : (n : ℕ) (queue back : List (List ℕ)) → p .announced ≡ n + requests queue + deltas back → Ok T (withLimit m n queue back) p
-  with-limit n queue back e =
+  -- another limit and other queues, and whether a credit request is unanswered
+  pub with-queues : (n : ℕ) (queue back : List (List ℕ)) (a : ℕ) (u w : Bool) → a ≡ n + requests queue + deltas back → u ≡ w
+      → Ok T (withQueues m n queue back w) (withCredit p (p .wanted) a (p .held) u)
+  with-queues n queue back a u w e f =
       record {
         settled = h .settled;
         small = h .small;
         credit = e;
         wanted = h .wanted;
+        counts = h .counts;
         commands = h .commands;
         sound = h .sound;
-        unanswered = h .unanswered;
+        unanswered = f;
         distinct = h .distinct;
       }
 
@@ -179,24 +187,10 @@ module _ {T : Terms} {m : Machine} {p : Port} (h : Ok T m p) where
         small = small;
         credit = h .credit;
         wanted = e;
+        counts = h .counts;
         commands = h .commands;
         sound = h .sound;
         unanswered = h .unanswered;
-        distinct = h .distinct;
-      }
-
-  -- other queues, and whether a credit request is unanswered
-  pub with-waiting : (a : ℕ) (queue back : List (List ℕ)) (u w : Bool) → a ≡ m .limit + requests queue + deltas back → u ≡ w
-      → Ok T (withWaiting m queue back w) (withCredit p (p .wanted) a (p .held) u)
-  with-waiting a queue back u w e f =
-      record {
-        settled = h .settled;
-        small = h .small;
-        credit = e;
-        wanted = h .wanted;
-        commands = h .commands;
-        sound = h .sound;
-        unanswered = f;
         distinct = h .distinct;
       }
 
@@ -216,7 +210,7 @@ module _ {T : Terms} {m : Machine} {p : Port} (h : Ok T m p) where
         lift = lifts m (message (due p)) (λ _. k .delta ∙ lacks h);
         keep =
             rw (k .stays)
-            (with-waiting h (p .announced + due p) (m .toPort) (m .toInitiator ++ (message (due p) ∷ [])) b (m .waiting || isCreditRequest (message (due p)))
+            (with-queues h (m .limit) (m .toPort) (m .toInitiator ++ (message (due p) ∷ [])) (p .announced + due p) b (m .waiting || isCreditRequest (message (due p)))
             (omega (arith, h .credit, deltas-snoc (m .toInitiator) (message (due p)), k .delta))
             (w ∙ ap (λ (x : Bool). m .waiting || x) (sym (k .credit))));
       }

@@ -27,12 +27,12 @@ use Rattle.srp.specs.declared.Piece.{Piece}
 use Rattle.srp.specs.declared.Reply.{Reply}
 use Rattle.srp.specs.declared.Reply.the-variants.{Refused, Performed, Operation, Done}
 use Rattle.srp.proofs.Checks.{passes}
-use Rattle.srp.proofs.ListLaws.{without-map, change-map, all-without, all-find, all-change}
-use Rattle.srp.proofs.Tags.{distinct-without, distinct-change}
+use Rattle.srp.proofs.ListLaws.{length-change, without-map, change-map, all-without, all-find, all-change}
+use Rattle.srp.proofs.Tags.{distinct-without, distinct-change, one-goes}
 use Rattle.srp.proofs.CutLaws.{next-at, take-more, some-below, none-above}
 use Rattle.srp.proofs.Pieces.{wrapped-same}
 use Rattle.srp.proofs.Deltas.{response-carries, request-carries}
-use Rattle.srp.proofs.Invariant.{openIn, side-more, Sound, Ok, find-same, with-commands, with-limit, with-wanted, Fine, quiet, few, answered, responds}
+use Rattle.srp.proofs.Invariant.{openIn, side-more, Sound, Ok, find-same, open-same, with-commands, with-queues, with-wanted, Fine, quiet, few, answered, responds}
 
 -- ── a command's own cuts
 
@@ -110,20 +110,20 @@ module _ {T : Terms} {m : Machine} {p : Port} (h : Ok T m p) where
   pub send-fine : (s : List ℕ) → Allowed T m (sends s) → Fine T (settle T m (sends s) Performed) false (silent p Performed)
   send-fine s a =
       quiet
-      (with-limit h (m .limit - cond (isRequest s) 1 0) (m .toPort ++ (s ∷ [])) (m .toInitiator)
-      (omega (arith, h .credit, requests-snoc (m .toPort) s, affordable (isRequest s) (m .limit) a)))
+      (with-queues h (m .limit - cond (isRequest s) 1 0) (m .toPort ++ (s ∷ [])) (m .toInitiator) (p .announced) (p .unanswered) (m .waiting)
+      (omega (arith, h .credit, requests-snoc (m .toPort) s, affordable (isRequest s) (m .limit) a)) (h .unanswered))
       Performed
 
   pub deliver-fine : (q : List (List ℕ)) → m .toInitiator ≡ q → Fine T (delivered m q) false (silent p Performed)
   deliver-fine [] e = quiet h Performed
-  deliver-fine (s ∷ ss) e = quiet (with-limit h (m .limit + deltaOf s) (m .toPort) ss (omega (arith, h .credit, ap deltas e))) Performed
+  deliver-fine (s ∷ ss) e = quiet (with-queues h (m .limit + deltaOf s) (m .toPort) ss (p .announced) (p .unanswered) (m .waiting) (omega (arith, h .credit, ap deltas e)) (h .unanswered)) Performed
 
   -- ── the owner's calls
 
-  -- the invariant at other commands
-  recast : (cs : List Open) (ts : List Track) → cs ≡ map openIn ts → All (Sound (T .maximum)) ts → Distinct ts
-      → Ok T (withTracks m (m .toPort) ts) (withHeld p (p .announced) cs)
-  recast cs ts c s d = with-commands h (p .announced) cs (m .toPort) ts (h .credit) c s d
+  -- the invariant at other commands, with y requests ended
+  recast : (cs : List Open) (ts : List Track) (y : ℕ) → m .taken ≡ y + length ts → cs ≡ map openIn ts → All (Sound (T .maximum)) ts → Distinct ts
+      → Ok T (withTracks m (m .toPort) ts (m .taken) y) (withHeld p (p .announced) cs)
+  recast cs ts y n c s d = with-commands h (p .announced) cs (m .toPort) ts (m .taken) y (h .credit) n c s d
 
   -- a refusal alters nothing
   unless-fine : (v : Option Refusal) (m′ : Reply → Machine) (o : Outcome) → ((r : Refusal) → m′ (Refused r) ≡ m) → (v ≡ none → Fine T (m′ (o .reply)) false o)
@@ -155,7 +155,8 @@ module _ {T : Terms} {m : Machine} {p : Port} (h : Ok T m p) where
       unless-fine (firstOf (finishChecks p room tag st se)) (λ r. settle T m (finishes room tag st se) r)
       (answering (withHeld p (p .announced) (without (hasTag tag) (p .held))) Performed (finalResponse (find (hasTag tag) (p .held)) st se)) (λ n. refl) λ z.
       let c = passes (finishChecks p room tag st se) z in
-      let o = recast (without (hasTag tag) (p .held)) (without (trackHasTag tag) (m .tracks)) (rw (h .commands) (without-map openIn (hasTag tag) (m .tracks)))
+      let is-open : isSome (find (trackHasTag tag) (m .tracks)) ≡ true = sym (open-same h tag) ∙ not-false (isOpen p tag) (c .1 .1 .1 .0) in
+      let o = recast (without (hasTag tag) (p .held)) (without (trackHasTag tag) (m .tracks)) (m .ended + 1) (omega (arith, h .counts, one-goes tag (m .tracks) (h .distinct) is-open)) (rw (h .commands) (without-map openIn (hasTag tag) (m .tracks)))
       (all-without (Sound (T .maximum)) (trackHasTag tag) (m .tracks) (h .sound)) (distinct-without (trackHasTag tag) (m .tracks) (h .distinct)) in
       ends (find (hasTag tag) (p .held)) (not-false (isOpen p tag) (c .1 .1 .1 .0)) o
     where
@@ -163,7 +164,7 @@ module _ {T : Terms} {m : Machine} {p : Port} (h : Ok T m p) where
       p′ = withHeld p (p .announced) (without (hasTag tag) (p .held))
 
       m′ : Machine
-      m′ = withTracks m (m .toPort) (without (trackHasTag tag) (m .tracks))
+      m′ = withTracks m (m .toPort) (without (trackHasTag tag) (m .tracks)) (m .taken) (m .ended + 1)
 
       ends : (c : Option Open) → isSome c ≡ true → Ok T m′ p′ → Fine T m′ false (answering p′ Performed (finalResponse c st se))
       ends none e o = absurd (true≢false (sym e))
@@ -192,7 +193,7 @@ module _ {T : Terms} {m : Machine} {p : Port} (h : Ok T m p) where
       (silent (withHeld p (p .announced) (change (hasTag tag) (planned a b) (p .held))) Performed) (λ n. refl) λ z.
       let c = passes (planChecks p tag) z in
       quiet
-      (recast (change (hasTag tag) (planned a b) (p .held)) (change (trackHasTag tag) (plannedFor a b) (m .tracks))
+      (recast (change (hasTag tag) (planned a b) (p .held)) (change (trackHasTag tag) (plannedFor a b) (m .tracks)) (m .ended) (omega (arith, h .counts, length-change (trackHasTag tag) (plannedFor a b) (m .tracks)))
       (rw (h .commands) (change-map openIn (hasTag tag) (planned a b) (plannedFor a b) (m .tracks) (λ t f. refl)))
       (all-change (Sound (T .maximum)) (trackHasTag tag) (plannedFor a b) (m .tracks) (h .sound) (λ t f s. sound-plan (T .maximum) a b t s (sym (ap isPlanned (found tag t f)) ∙ c .1 .1 .0)))
       (distinct-change (trackHasTag tag) (plannedFor a b) (λ t. refl) (m .tracks) (h .distinct)))
@@ -220,7 +221,8 @@ module _ {T : Terms} {m : Machine} {p : Port} (h : Ok T m p) where
     hand-fine tag d c none e = quiet h Done
     hand-fine tag d c (some o) e =
         quiet
-        (recast (change (hasTag tag) (advanced d (o .len)) (p .held)) (change (trackHasTag tag) (given d (wrapped o)) (m .tracks))
+        (recast (change (hasTag tag) (advanced d (o .len)) (p .held)) (change (trackHasTag tag) (given d (wrapped o)) (m .tracks)) (m .ended)
+        (omega (arith, h .counts, length-change (trackHasTag tag) (given d (wrapped o)) (m .tracks)))
         (rw (h .commands) (change-map openIn (hasTag tag) (advanced d (o .len)) (given d (wrapped o)) (m .tracks) (λ t f. moves d (wrapped o) t)))
         (all-change (Sound (T .maximum)) (trackHasTag tag) (given d (wrapped o)) (m .tracks) (h .sound) (λ t f s.
         sound-given (T .maximum) d (wrapped o) t s (sym (ap isPlanned (found tag t f)) ∙ not-false _ (c .1 .1 .0)) (prefix t f s)))

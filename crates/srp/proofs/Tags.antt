@@ -1,12 +1,13 @@
 -- Commands that are open have distinct tags: what each call does to that.
 -- Assumes nothing.
-use mathlib.Core.Path.{_≡_, refl, sym}
+use mathlib.Core.Path.{_≡_, refl, ap, sym, subst}
 use mathlib.Core.Bool.{Bool, true, false, cond, true≢false}
 use mathlib.Core.List.{List, [], _∷_, _++_}
 use mathlib.Core.Option.{some}
-use Prim.Native.Nat.{ℕ}
+use Prim.Native.Nat.{ℕ, suc}
+use lib.ListN.{length}
 use lib.Dec.{eqb}
-use borrow.Author.Tests.{eqb-false, ne-eqb}
+use borrow.Author.Tests.{eqb-true, eqb-false, ne-eqb}
 use Rattle.srp.specs.Lists.{find, without, change, isSome}
 use Rattle.srp.specs.Machine.{Track, trackHasTag}
 use Rattle.srp.specs.Demand.{Absent, Distinct}
@@ -70,3 +71,19 @@ module _ (f : Track → Bool) (g : Track → Track) (same : (t : Track) → g t 
       go : (b : Bool) → Absent (t .tag) (change f g ts) → Distinct (change f g ts) → Distinct (cond b (g t ∷ ts) (t ∷ change f g ts))
       go true a r = (rw (same t) (d .0), d .1)
       go false a r = (a, r)
+
+-- a tag that none has is taken from nothing
+none-goes : (n : ℕ) (ts : List Track) → Absent n ts → length (without (trackHasTag n) ts) ≡ length ts
+none-goes n [] a = refl
+none-goes n (t ∷ ts) a = let q = apart n t ts a in rw (q .0) (ap suc (none-goes n ts (q .1)))
+
+-- with distinct tags, leaving out the commands with a tag that is open leaves out one
+pub one-goes : (n : ℕ) (ts : List Track) → Distinct ts → isSome (find (trackHasTag n) ts) ≡ true → length ts ≡ suc (length (without (trackHasTag n) ts))
+one-goes n [] d e = absurd (true≢false (sym e))
+one-goes n (t ∷ ts) d e = go (eqb n (t .tag)) refl e (λ f. one-goes n ts (d .1) f)
+  where
+    go : (b : Bool) → eqb n (t .tag) ≡ b → isSome (cond b (some t) (find (trackHasTag n) ts)) ≡ true
+        → (isSome (find (trackHasTag n) ts) ≡ true → length ts ≡ suc (length (without (trackHasTag n) ts)))
+        → suc (length ts) ≡ suc (length (cond b (without (trackHasTag n) ts) (t ∷ without (trackHasTag n) ts)))
+    go true q f r = ap suc (sym (none-goes n ts (subst (λ (k : ℕ). Absent k ts) (sym (eqb-true n (t .tag) q)) (d .0))))
+    go false q f r = ap suc (r f)

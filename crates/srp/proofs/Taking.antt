@@ -4,6 +4,7 @@ use mathlib.Core.Path.{_≡_, refl, ap, sym, _∙_, subst}
 use mathlib.Core.Bool.{Bool, true, false, cond, not, true≢false, false≢true}
 use mathlib.Core.List.{List, [], _∷_, _++_, map}
 use mathlib.Core.Option.{Option, none, some}
+use lib.ListN.{length, length-append}
 use Prim.Native.Nat.{ℕ, suc, _+_, _-_}
 use native.Mathlib.Omega.{arith}
 use lib.Dec.{eqb}
@@ -26,12 +27,12 @@ use Rattle.srp.specs.declared.Message.{Message}
 use Rattle.srp.specs.declared.Message.the-variants.{Bad, Cmd, TskMgmt, CredRsp, ILogout}
 use Rattle.srp.specs.declared.Reply.the-variants.{Refused, Performed, NewCommand, TaskAnswered, CreditSettled}
 use Rattle.srp.proofs.Checks.{passes, hit}
-use Rattle.srp.proofs.ListLaws.{without-map, map-snoc, all-snoc, all-without}
+use Rattle.srp.proofs.ListLaws.{length-without, without-map, map-snoc, all-snoc, all-without}
 use Rattle.srp.proofs.Tags.{distinct-snoc, distinct-without}
 use Rattle.srp.proofs.Fields.{both}
 use Rattle.srp.proofs.Refusing.{refused-as}
 use Rattle.srp.proofs.Reading.{ByType, between-hangs, read-by-type}
-use Rattle.srp.proofs.Invariant.{openIn, Sound, Ok, open-same, with-commands, with-waiting, Fine, nothing-lifts, lifts, quiet, codes}
+use Rattle.srp.proofs.Invariant.{openIn, Sound, Ok, open-same, with-commands, with-queues, Fine, nothing-lifts, lifts, quiet, codes}
 
 module _ {T : Terms} {m : Machine} {p : Port} (h : Ok T m p) (s : List ℕ) (ss : List (List ℕ)) (e : m .toPort ≡ s ∷ ss) where
   some-credit : isRequest s ≡ true → p .announced ≡ suc (m .limit + requests ss + deltas (m .toInitiator))
@@ -95,9 +96,9 @@ module _ {T : Terms} {m : Machine} {p : Port} (h : Ok T m p) (s : List ℕ) (ss 
     paid ILogout k = every Paid ILogout ((λ _ z. omega arith), ((λ _ z. omega arith), tt))
 
     -- the invariant after a request has left the queue
-    spent : isRequest s ≡ true → (cs : List Open) (ts : List Track) → cs ≡ map openIn ts → All (Sound (T .maximum)) ts → Distinct ts
-        → Ok T (withTracks m ss ts) (withHeld p (p .announced - 1) cs)
-    spent b cs ts c so d = with-commands h (p .announced - 1) cs ss ts (omega (arith, some-credit b)) c so d
+    spent : isRequest s ≡ true → (cs : List Open) (ts : List Track) (y : ℕ) → m .taken + 1 ≡ y + length ts → cs ≡ map openIn ts → All (Sound (T .maximum)) ts → Distinct ts
+        → Ok T (withTracks m ss ts (m .taken + 1) y) (withHeld p (p .announced - 1) cs)
+    spent b cs ts y n c so d = with-commands h (p .announced - 1) cs ss ts (m .taken + 1) y (omega (arith, some-credit b)) n c so d
 
     -- a target's logout ends the list
     gone : (d : Message) (r : Refusal) → Fine T (tookBy m ss s t d (some r)) false (hangUp p r)
@@ -120,18 +121,19 @@ module _ {T : Terms} {m : Machine} {p : Port} (h : Ok T m p) (s : List ℕ) (ss 
     accept (Bad r) k z = gone (Bad r) r
     accept (Cmd c) k z =
         let q = passes (takeChecks p room s t (Cmd c)) z in
-        let o = spent k (p .held ++ (newOpen c s t ∷ [])) (m .tracks ++ (newTrack c s t ∷ [])) (rw (h .commands) (sym (map-snoc openIn (m .tracks) (newTrack c s t))))
+        let o = spent k (p .held ++ (newOpen c s t ∷ [])) (m .tracks ++ (newTrack c s t ∷ [])) (m .ended) (omega (arith, h .counts, length-append (m .tracks) (newTrack c s t ∷ []))) (rw (h .commands) (sym (map-snoc openIn (m .tracks) (newTrack c s t))))
         (all-snoc (Sound (T .maximum)) (m .tracks) (newTrack c s t) (h .sound) (new-sound c (not-false (fieldsFit c s t) (q .1 .1 .1 .1 .1 .0))))
         (distinct-snoc (m .tracks) (newTrack c s t) (h .distinct) (sym (open-same h (c .tag)) ∙ q .1 .1 .1 .0)) in
         quiet o (NewCommand (c .tag) (c .lun) (c .cdb))
     accept (TskMgmt c) k z =
         let o = spent k (without (λ (x : Open). aborts c (x .tag) (x .lun)) (p .held)) (without (λ (x : Track). aborts c (x .tag) (x .lun)) (m .tracks))
-        (rw (h .commands) (without-map openIn (λ (x : Open). aborts c (x .tag) (x .lun)) (m .tracks)))
+        (m .ended + 1 + (length (m .tracks) - length (without (λ (x : Track). aborts c (x .tag) (x .lun)) (m .tracks))))
+        (omega (arith, h .counts, length-without (λ (x : Track). aborts c (x .tag) (x .lun)) (m .tracks))) (rw (h .commands) (without-map openIn (λ (x : Open). aborts c (x .tag) (x .lun)) (m .tracks)))
         (all-without (Sound (T .maximum)) (λ (x : Track). aborts c (x .tag) (x .lun)) (m .tracks) (h .sound))
         (distinct-without (λ (x : Track). aborts c (x .tag) (x .lun)) (m .tracks) (h .distinct)) in
         codes o (TaskAnswered (c .tag) (c .lun)) (solicited (c .ucsolnt) (c .scsolnt) (taskCode (c .function))) (c .tag) (taskCode (c .function))
-    accept (CredRsp g) k z = quiet (with-waiting h (p .announced) ss (m .toInitiator) false false (same-credit k) refl) CreditSettled
-    accept ILogout k z = record { lift = nothing-lifts (withTracks m ss []); keep = tt }
+    accept (CredRsp g) k z = quiet (with-queues h (m .limit) ss (m .toInitiator) (p .announced) false false (same-credit k) refl) CreditSettled
+    accept ILogout k z = record { lift = nothing-lifts (withTracks m ss [] (m .taken) (m .ended)); keep = tt }
 
     -- a refusal: the message stays at 1 and 9, is answered at 10, and closes the channel at the others
     refuse : (d : Message) → ByType (isRequest s) d → (r : Refusal) → firstOf (takeChecks p room s t d) ≡ some r
@@ -145,7 +147,7 @@ module _ {T : Terms} {m : Machine} {p : Port} (h : Ok T m p) (s : List ℕ) (ss 
         go true b x y = gone d r
         go false true x y =
             let n = eqb-true (numberOf r) 10 y in
-            let o = spent (ten d k r f n) (p .held) (m .tracks) (h .commands) (h .sound) (h .distinct) in
+            let o = spent (ten d k r f n) (p .held) (m .tracks) (m .ended + 1) (omega (arith, h .counts)) (h .commands) (h .sound) (h .distinct) in
             rw n (codes o (Refused r) (ucsolntOf d) (tagOf d) 0x02)
         go false false x y = rw (stays d k r f x y) (quiet h (Refused r))
 

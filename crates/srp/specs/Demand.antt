@@ -25,7 +25,7 @@ use Rattle.srp.specs.declared.Message.the-variants.{Bad, Cmd, TskMgmt, C
 use Rattle.srp.specs.declared.Reply.{Reply}
 use Rattle.srp.specs.declared.Reply.the-variants.{Refused, Operation, Done}
 use Rattle.srp.specs.Answers.{refusalIn}
-use Rattle.srp.specs.Machine.{isResponse, isCreditRequest, deltaOf, deltas, Progress, Track, progressOf, trackHasTag, hasPlan, shownAs, Event, sends, delivers, takes, plans, steps, finishes, adds, withdraws, grants, Machine, four, lack, unused, wantedBy, holds, join, Terms, read, settle, after, closes, call}
+use Rattle.srp.specs.Machine.{isResponse, isCreditRequest, deltaOf, deltas, Progress, Track, progressOf, trackHasTag, hasPlan, shownAs, Event, sends, delivers, takes, plans, steps, finishes, adds, withdraws, grants, Machine, requestsHeld, four, lack, unused, wantedBy, holds, join, Terms, read, settle, after, closes, call}
 
 -- what holds until the channel closes: "Closing ends the list"
 abbrev pub Until : Bool → Type 0 → Type 0
@@ -137,10 +137,12 @@ module _ (T : Terms) where
   Answers m (withdraws k) r = Unit {0}
   Answers m (grants room) r = Unit {0}
 
-  -- what holds at the start and after every event, while the channel is open. "H says so, and as many are listed after each call"
+  -- what holds at the start and after every event, while the channel is open. "Requests held = taken - ended = commands open; H says so, and
+  -- as many are listed after each call"
   pub record Now (m : Machine) (p : Port) : Type 0 where
     pub sum : Sum m (owed p)
-    pub held : length (p .held) ≡ length (m .tracks)
+    pub commands : requestsHeld m ≡ length (m .tracks)
+    pub held : length (p .held) ≡ requestsHeld m
     pub listed : listing p ≡ map shownAs (m .tracks)
     pub distinct : Distinct (m .tracks)
     pub in-order : All (InOrder (T .maximum)) (m .tracks)

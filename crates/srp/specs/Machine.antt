@@ -137,17 +137,24 @@ pub record Machine : Type 0 where
   pub toPort : List (List ℕ)
   pub toInitiator : List (List ℕ)
   pub tracks : List Track
+  pub taken : ℕ
+  pub ended : ℕ
   pub added : ℕ
   pub withdrawn : ℕ
   pub waiting : Bool
 
 -- "limit N, no command open, added = withdrawn = 0, two empty queues"
 abbrev pub start : ℕ → Machine
-start n = record { limit = n; toPort = []; toInitiator = []; tracks = []; added = 0; withdrawn = 0; waiting = false }
+start n =
+    record { limit = n; toPort = []; toInitiator = []; tracks = []; taken = 0; ended = 0; added = 0; withdrawn = 0; waiting = false }
+
+-- "Requests held = taken - ended"
+abbrev pub requestsHeld : Machine → ℕ
+requestsHeld m = m .taken - m .ended
 
 -- "limit + requests on the way + requests held + deltas on the way"
 abbrev pub four : Machine → ℕ
-four m = m .limit + requests (m .toPort) + length (m .tracks) + deltas (m .toInitiator)
+four m = m .limit + requests (m .toPort) + requestsHeld m + deltas (m .toInitiator)
 
 -- what the first four lack of the right side, 0 if nothing
 abbrev pub lack : ℕ → Machine → ℕ
@@ -165,21 +172,49 @@ holds m tag = isSome (find (trackHasTag tag) (m .tracks))
 
 -- ── the machine with other parts
 
-abbrev pub withTracks : Machine → List (List ℕ) → List Track → Machine
-withTracks m queue ts =
-    record { limit = m .limit; toPort = queue; toInitiator = m .toInitiator; tracks = ts; added = m .added; withdrawn = m .withdrawn; waiting = m .waiting }
+-- the queue to the port, the open commands, the requests taken and ended
+abbrev pub withTracks : Machine → List (List ℕ) → List Track → ℕ → ℕ → Machine
+withTracks m queue ts taken ended =
+    record {
+      limit = m .limit;
+      toPort = queue;
+      toInitiator = m .toInitiator;
+      tracks = ts;
+      taken = taken;
+      ended = ended;
+      added = m .added;
+      withdrawn = m .withdrawn;
+      waiting = m .waiting;
+    }
 
-abbrev pub withLimit : Machine → ℕ → List (List ℕ) → List (List ℕ) → Machine
-withLimit m n queue back =
-    record { limit = n; toPort = queue; toInitiator = back; tracks = m .tracks; added = m .added; withdrawn = m .withdrawn; waiting = m .waiting }
+-- the limit, both queues, and whether a credit request is unanswered
+abbrev pub withQueues : Machine → ℕ → List (List ℕ) → List (List ℕ) → Bool → Machine
+withQueues m n queue back waiting =
+    record {
+      limit = n;
+      toPort = queue;
+      toInitiator = back;
+      tracks = m .tracks;
+      taken = m .taken;
+      ended = m .ended;
+      added = m .added;
+      withdrawn = m .withdrawn;
+      waiting = waiting;
+    }
 
 abbrev pub withBuffers : Machine → ℕ → ℕ → Machine
-withBuffers m a w =
-    record { limit = m .limit; toPort = m .toPort; toInitiator = m .toInitiator; tracks = m .tracks; added = a; withdrawn = w; waiting = m .waiting }
-
-abbrev pub withWaiting : Machine → List (List ℕ) → List (List ℕ) → Bool → Machine
-withWaiting m queue back w =
-    record { limit = m .limit; toPort = queue; toInitiator = back; tracks = m .tracks; added = m .added; withdrawn = m .withdrawn; waiting = w }
+withBuffers m added withdrawn =
+    record {
+      limit = m .limit;
+      toPort = m .toPort;
+      toInitiator = m .toInitiator;
+      tracks = m .tracks;
+      taken = m .taken;
+      ended = m .ended;
+      added = added;
+      withdrawn = withdrawn;
+      waiting = m .waiting;
+    }
 
 -- ── an event, with its call's reply
 
@@ -200,20 +235,27 @@ operationIn (Listed n) = none
 
 -- ── the machine's own list of what is open
 
-abbrev pub taken : Machine → List (List ℕ) → List ℕ → Tables → Message → Machine
-taken m queue s t (Bad r) = withTracks m queue (m .tracks)
-taken m queue s t (Cmd c) = withTracks m queue (m .tracks ++ (newTrack c s t ∷ []))
-taken m queue s t (TskMgmt k) = withTracks m queue (without (λ (c : Track). aborts k (c .tag) (c .lun)) (m .tracks))
-taken m queue s t (CredRsp g) = withWaiting m queue (m .toInitiator) false
-taken m queue s t ILogout = withTracks m queue []
+-- a message that was taken leaves the queue; "A task request ends in the same call, as do the open commands that it aborts"
+abbrev pub tookMessage : Machine → List (List ℕ) → List ℕ → Tables → Message → Machine
+tookMessage m queue s t (Bad r) = withTracks m queue (m .tracks) (m .taken) (m .ended)
+tookMessage m queue s t (Cmd c) = withTracks m queue (m .tracks ++ (newTrack c s t ∷ [])) (m .taken + 1) (m .ended)
+tookMessage m queue s t (TskMgmt k) =
+    let left : List Track = without (λ (c : Track). aborts k (c .tag) (c .lun)) (m .tracks) in
+    withTracks m queue left (m .taken + 1) (m .ended + 1 + (length (m .tracks) - length left))
+tookMessage m queue s t (CredRsp g) = withQueues m (m .limit) queue (m .toInitiator) false
+tookMessage m queue s t ILogout = withTracks m queue [] (m .taken) (m .ended)
 
--- "On refusals 1 and 9 the message stays there, else it leaves"; a command that draws 10 has ended
+-- "On refusals 1 and 9 the message stays there, else it leaves"
 abbrev pub staysQueued : ℕ → Bool
 staysQueued n = eqb n 1 || eqb n 9
 
+-- "and any command that draws 10": it was taken, and has ended
+abbrev pub leaves : Machine → List (List ℕ) → ℕ → Machine
+leaves m queue n = withTracks m queue (m .tracks) (m .taken + cond (eqb n 10) 1 0) (m .ended + cond (eqb n 10) 1 0)
+
 abbrev pub tookBy : Machine → List (List ℕ) → List ℕ → Tables → Message → Option Refusal → Machine
-tookBy m queue s t d none = taken m queue s t d
-tookBy m queue s t d (some r) = cond (staysQueued (numberOf r)) m (withTracks m queue (m .tracks))
+tookBy m queue s t d none = tookMessage m queue s t d
+tookBy m queue s t d (some r) = cond (staysQueued (numberOf r)) m (leaves m queue (numberOf r))
 
 -- "Unrefused, finish ends its command, add k gives added + k, withdraw k withdrawn + k"; else a call changes nothing
 abbrev pub unlessRefused : Option Refusal → Machine → Machine → Machine
@@ -227,11 +269,11 @@ handedTo (some o) m f = f o
 -- "Delivery takes off its front; the limit rises by its delta, if any"
 abbrev pub delivered : Machine → List (List ℕ) → Machine
 delivered m [] = m
-delivered m (s ∷ ss) = withLimit m (m .limit + deltaOf s) (m .toPort) ss
+delivered m (s ∷ ss) = withQueues m (m .limit + deltaOf s) (m .toPort) ss (m .waiting)
 
 -- "Each message written joins the queue to the initiator"
 abbrev pub joined : Machine → List ℕ → Machine
-joined m s = withWaiting m (m .toPort) (m .toInitiator ++ (s ∷ [])) (m .waiting || isCreditRequest s)
+joined m s = withQueues m (m .limit) (m .toPort) (m .toInitiator ++ (s ∷ [])) (m .waiting || isCreditRequest s)
 
 abbrev pub join : Machine → List (List ℕ) → Machine
 join m [] = m
@@ -271,14 +313,14 @@ module _ (T : Terms) where
   tookFront m (s ∷ ss) t r = tookBy m ss s t (read s) (refusalIn r)
 
   abbrev pub settle : Machine → Event → Reply → Machine
-  settle m (sends s) r = withLimit m (m .limit - cond (isRequest s) 1 0) (m .toPort ++ (s ∷ [])) (m .toInitiator)
+  settle m (sends s) r = withQueues m (m .limit - cond (isRequest s) 1 0) (m .toPort ++ (s ∷ [])) (m .toInitiator) (m .waiting)
   settle m delivers r = delivered m (m .toInitiator)
   settle m (takes room t) r = tookFront m (m .toPort) t r
   settle m (plans tag out inn) r =
-      unlessRefused (refusalIn r) m (withTracks m (m .toPort) (change (trackHasTag tag) (plannedFor out inn) (m .tracks)))
-  settle m (steps tag d) r = handedTo (operationIn r) m (λ o. withTracks m (m .toPort) (change (trackHasTag tag) (given d o) (m .tracks)))
+      unlessRefused (refusalIn r) m (withTracks m (m .toPort) (change (trackHasTag tag) (plannedFor out inn) (m .tracks)) (m .taken) (m .ended))
+  settle m (steps tag d) r = handedTo (operationIn r) m (λ o. withTracks m (m .toPort) (change (trackHasTag tag) (given d o) (m .tracks)) (m .taken) (m .ended))
   settle m (finishes room tag status sense) r =
-      unlessRefused (refusalIn r) m (withTracks m (m .toPort) (without (trackHasTag tag) (m .tracks)))
+      unlessRefused (refusalIn r) m (withTracks m (m .toPort) (without (trackHasTag tag) (m .tracks)) (m .taken) (m .ended + 1))
   settle m (adds k) r = unlessRefused (refusalIn r) m (withBuffers m (m .added + k) (m .withdrawn))
   settle m (withdraws k) r = unlessRefused (refusalIn r) m (withBuffers m (m .added) (m .withdrawn + k))
   settle m (grants room) r = m

@@ -40,7 +40,7 @@ table c n total copied = cmd 0 2 0 c 9 0 0 (segment 0x9000 5 n ++ bytesOf 4 tota
 abbrev pub in700 : Act
 in700 = takes-in (table 3 48 700 entries)
 
--- the first two-entries pieces of that table
+-- the first two pieces of that table
 abbrev pub first-two : List Seen
 first-two = writes 7 0x3000 512 0 ∷ writes 7 0x3200 88 512 ∷ []
 
@@ -81,7 +81,7 @@ bench =
 
 -- ── task management
 
--- two-entries commands of LUN 0 and one of LUN 5, all open
+-- two commands of LUN 0 and one of LUN 5, all open
 abbrev pub three-open : List Act
 three-open = takes-in (no-data 1) ∷ takes-in (no-data 2) ∷ takes-in (cmd 0 0 0 0 3 5 0 []) ∷ []
 
