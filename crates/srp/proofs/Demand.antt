@@ -146,6 +146,7 @@ module _ (c : Settings) (room : ℕ) (l : List ℕ) (agreed : loginDef c room l 
           small = v .most;
           credit = omega arith;
           wanted = refl;
+          counts = refl;
           commands = refl;
           sound = tt;
           unanswered = refl;
