@@ -38,7 +38,7 @@ abbrev pub commandReadsIn : List ℕ → List Field
 commandReadsIn s = commandReads (eqb (get outFormat s) 2) (eqb (get inFormat s) 2)
 
 -- of a task management, by the test of the function for 01h
-abbrev taskReads : Bool → List Field
+abbrev pub taskReads : Bool → List Field
 taskReads m = also m taskTag (taskFunction ∷ tag ∷ lun ∷ ucsolnt ∷ scsolnt ∷ [])
 
 abbrev pub loginReads : List Field

@@ -2,14 +2,18 @@
 -- Assumes nothing.
 use mathlib.Core.Path.{_≡_, refl}
 use mathlib.Core.List.{List, [], _∷_, map}
-use Prim.Native.Nat.{ℕ}
+use Prim.Native.Nat.{ℕ, _+_, _^_}
 use lib.ListN.{length, replicate}
-use Rattle.srp.specs.Bytes.{number, bytesOf}
+use Rattle.srp.specs.Bytes.{number, bytesOf, Layout}
+use Rattle.srp.specs.Messages.{layouts}
 use Rattle.srp.specs.Requests.{readMessage}
+use Rattle.srp.specs.Cutting.{piece}
+use Rattle.srp.specs.Calls.{wrapped}
 use Rattle.srp.specs.Answers.{returned, valuesOf}
 use Rattle.srp.specs.declared.Reply.{Reply}
+use Rattle.srp.proofs.Layouts.{whole, bitsOf}
 use Rattle.srp.specs.Rows.{found, expected, no-data, cmd}
-use Rattle.srp.specs.Table.{rows, table, two-entries, answers, answerValues}
+use Rattle.srp.specs.Table.{writtenByLayout, writtenByHand, rows, table, two-entries, answers, answerValues}
 
 pub rows-hold : map found rows ≡ map expected rows
 unfolding readMessage
@@ -19,9 +23,21 @@ rows-hold = refl
 pub lengths : map {A = List ℕ} length (no-data 9 ∷ cmd 0 0 0 0 9 0 7 (replicate 4 0) ∷ table 0 32 300 [] ∷ table 2 32 300 two-entries ∷ []) ≡ 48 ∷ 52 ∷ 68 ∷ 100 ∷ []
 lengths = refl
 
+-- the initiator's messages, as the layouts and as document 01's text have them
+pub layouts-hold : writtenByLayout ≡ writtenByHand
+layouts-hold = refl
+
+-- the bits that each of the ten layouts names
+pub named-bits : map (λ (l : Layout). bitsOf (whole l)) layouts ≡ 380 ∷ 210 ∷ 176 ∷ 72 ∷ 72 ∷ 185 ∷ 120 ∷ 247 ∷ 105 ∷ 105 ∷ []
+named-bits = refl
+
 -- numbers stand with their highest byte first
 pub big-endian : (number 0 (1 ∷ 2 ∷ 3 ∷ 4 ∷ []) ≡ 0x01020304) × (bytesOf 4 0x01020304 ≡ 1 ∷ 2 ∷ 3 ∷ 4 ∷ [])
 big-endian = (refl, refl)
+
+-- an address in 64 bits
+pub wraps : wrapped (piece (2 ^ 64 + 5) 7 512 1024) ≡ piece 5 7 512 1024
+wraps = refl
 
 -- each answer's number and values
 pub answers-hold : map (λ (r : Reply). (returned r, valuesOf r)) answers ≡ answerValues

@@ -5,7 +5,7 @@ use mathlib.Core.Bool.{Bool, true, false}
 use mathlib.Core.List.{List}
 use Prim.Native.Nat.{ℕ, _^_, _<_}
 use Rattle.srp.specs.Writing.{Response, response, answer, creditRequest, targetLogout}
-use Rattle.srp.specs.Machine.{deltaOf, isResponse, isCreditRequest, isTargetLogout}
+use Rattle.srp.specs.Machine.{deltaOf, isCreditRequest, isTargetLogout}
 use Rattle.srp.proofs.Numbers.{number-read}
 
 -- a message that carries the delta d, and is a credit request or not as b says
@@ -23,7 +23,6 @@ answer-carries solnt tag code d h = record { delta = number-read 4 d h; credit =
 pub request-carries : (solnt : Bool) (d : ℕ) → d < 256 ^ 4 → Carries d true (creditRequest solnt d)
 request-carries solnt d h = record { delta = number-read 4 d h; credit = refl; stays = refl }
 
--- a target's logout is neither a response nor a credit request
-pub logout-read : (solnt : Bool) (n : ℕ)
-    → (isResponse (targetLogout solnt n) ≡ false) × (isCreditRequest (targetLogout solnt n) ≡ false) × (isTargetLogout (targetLogout solnt n) ≡ true)
-logout-read solnt n = (refl, refl, refl)
+-- a target's logout carries none
+pub logout-carries : (solnt : Bool) (n : ℕ) → deltaOf (targetLogout solnt n) ≡ 0
+logout-carries solnt n = refl

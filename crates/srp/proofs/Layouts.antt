@@ -3,11 +3,11 @@
 use mathlib.Core.Path.{_≡_, refl, ap, _∙_}
 use mathlib.Core.Bool.{Bool, true, _&&_}
 use mathlib.Core.List.{List, [], _∷_, _++_, head-eq-of-cons-eq, tail-eq-of-cons-eq}
-use Prim.Native.Nat.{ℕ, _<_}
+use Prim.Native.Nat.{ℕ, _+_, _*_, _<_}
 use lib.Dec.{ltb}
 use lib.ListN.{length, length-replicate}
 use borrow.Author.Tests.{ltb-true}
-use Rattle.srp.specs.Bytes.{Field, get, put, gets, puts, zeros, Layout, kind, typeOf, write, bound, InRange, inside, apart, apartFrom, sound}
+use Rattle.srp.specs.Bytes.{Field, bytes, bits, get, put, gets, puts, zeros, Layout, kind, typeOf, write, bound, InRange, inside, apart, apartFrom, sound}
 use Rattle.srp.specs.Messages.{layouts}
 use Rattle.srp.proofs.Fields.{both, length-put, get-put, get-put-apart, apart-sym, get-append, zeros-read}
 
@@ -52,6 +52,12 @@ reserved n g (f ∷ fs) (v ∷ vs) s l ok r e =
     get-put-apart f g v (puts fs vs s) i (r .0) (apart-sym f g ∙ c .0) ∙ reserved n g fs vs s l (b .1) (r .1) (c .1)
 
 -- ── layouts
+
+-- how many bits fields name
+abbrev pub bitsOf : List Field → ℕ
+bitsOf [] = 0
+bitsOf (bytes at wide ∷ fs) = 8 * wide + bitsOf fs
+bitsOf (bits at low count ∷ fs) = count + bitsOf fs
 
 -- a message's fields, its type among them
 abbrev pub whole : Layout → List Field

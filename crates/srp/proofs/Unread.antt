@@ -3,23 +3,23 @@
 use mathlib.Core.Path.{_≡_, refl, sym, ap, _∙_}
 use mathlib.Core.Bool.{Bool, true, false}
 use mathlib.Core.Logic.{_⊎_, inl, inr, ⊎-elim}
-use mathlib.Core.List.{List, [], _∷_}
-use Prim.Native.Nat.{ℕ, _≤_}
+use mathlib.Core.List.{List, [], _∷_, _++_}
+use Prim.Native.Nat.{ℕ, _+_, _*_, _≤_}
 use native.Mathlib.Omega.{arith}
 use lib.Dec.{ltb, eqb}
 use lib.ListN.{length, take, drop, take-append-drop}
 use lib.Seq.{length-take-le, take-all}
 use borrow.Author.Tests.{ltb-true, ltb-false}
 use Rattle.srp.specs.Bytes.{Field, get, gets, kind, typeOf, sound}
-use Rattle.srp.specs.Messages.{outFormat, inFormat, taskFunction, cmd}
+use Rattle.srp.specs.Messages.{tag, targetIdentifier, outFormat, inFormat, taskFunction, cmd}
 use Rattle.srp.specs.Lists.{All}
 use Rattle.srp.specs.Requests.{outAt, lookDef}
 use Rattle.srp.specs.Credit.{Port}
 use Rattle.srp.specs.Take.{Tables, takeDef}
 use Rattle.srp.specs.Login.{Settings, loginDef}
-use Rattle.srp.specs.Unread.{unreadLogout, unreadCredit, unreadLogin, unreadCommandBy, unreadCommandIn, unreadTaskBy, unreadIn, changed, Within}
-use Rattle.srp.proofs.Layouts.{gets-append}
-use Rattle.srp.proofs.Alike.{commandReads, commandReadsIn, loginReads, pick, ofType, readsAs, readsIn, Alike, allClear, alike, look-alike, take-alike, login-alike}
+use Rattle.srp.specs.Unread.{unreadCommand, unreadTask, unreadLogout, unreadCredit, unreadLogin, unreadCommandBy, unreadCommandIn, unreadTaskBy, unreadIn, changed, Within}
+use Rattle.srp.proofs.Layouts.{bitsOf, gets-append}
+use Rattle.srp.proofs.Alike.{commandReads, commandReadsIn, taskReads, loginReads, pick, ofType, readsAs, readsIn, Alike, allClear, alike, look-alike, take-alike, login-alike}
 
 -- ── what is not read is apart from what is
 
@@ -39,6 +39,21 @@ all-clear false true b₃ b₄ o i false = refl
 all-clear false false true b₄ o i m = refl
 all-clear false false false true o i m = refl
 all-clear false false false false o i m = refl
+
+-- ── what is not read is all the rest
+
+-- fields that share no bit and together are n bytes
+abbrev Parts : ℕ → List Field → Type 0
+Parts n fs = (sound n fs ≡ true) × (bitsOf fs ≡ 8 * n)
+
+-- every bit of a message before the descriptors is read or stands in its type's list (the counts and the task tag are read here)
+pub nothing-else :
+    Parts 48 (kind ∷ commandReads true true ++ unreadCommand)
+    × Parts 48 (kind ∷ taskReads true ++ unreadTask)
+    × Parts 16 (kind ∷ unreadLogout)
+    × Parts 16 (kind ∷ tag ∷ unreadCredit)
+    × Parts 64 (kind ∷ targetIdentifier ∷ loginReads ++ unreadLogin)
+nothing-else = ((refl, refl), (refl, refl), (refl, refl), (refl, refl), (refl, refl))
 
 -- ── any changes where nothing is read
 

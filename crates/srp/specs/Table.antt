@@ -13,6 +13,9 @@ use Rattle.srp.specs.declared.Kind.the-variants.{Read}
 use Rattle.srp.specs.declared.Refusal.the-variants.{TagOpen}
 use Rattle.srp.specs.declared.Reply.{Reply}
 use Rattle.srp.specs.declared.Reply.the-variants.{Refused, Performed, NewCommand, TaskAnswered, CreditSettled, LoggedOut, Operation, Done, Accepted, Rejected, Counts, Listed}
+use Rattle.srp.specs.Bytes.{number, write}
+use Rattle.srp.specs.Messages
+use Rattle.srp.specs.Messages.{loginReq, tskMgmt, iLogout, credRsp}
 use Rattle.srp.specs.Rows.{Act, Row, Seen, accepted, adds, cred-req, tag-only, t-logout, cdbs, closes, cmd, rsp-code, command, counters, counts, cuts, done, finish, finishes, rsp-good, grants, listed, lists, logged-out, login-req, logs-in, looks, message, no-data, no-tables, logs-in-with, own, performed, plans, prints, reads, refused, rejected, login-rej, rsp, segment, settings, settled, steps, steps-in, takes, takes-in, task, text, tsk-mgmt, login-rsp, with-table, withdraws, writes}
 
 -- a row on a port that a login with 4 buffers opened
@@ -279,14 +282,38 @@ outside =
     ∷ performed ∷ message (segment 0x5000 7 50 ++ bytesOf 4 600 ++ replicate 12 0) ∷ performed ∷ message (replicate 32 0) ∷ performed ∷ message (replicate 32 0) ∷ [])
     -- the CDB, with the additional bytes; none where look refuses
     ∷ from-closed (cdbs (cmd 0 0 0 0 9 0 7 (1 ∷ 2 ∷ 3 ∷ 4 ∷ [])) ∷ cdbs (take 47 (no-data 1)) ∷ []) (text (replicate 16 0xcd ++ (1 ∷ 2 ∷ 3 ∷ 4 ∷ [])) ∷ text [] ∷ [])
-    -- cutlist: document 01's example, no data, a refusal, a fetch ahead of 10, and 10
-    ∷ from-closed (prints direct-in ∷ prints (no-data 1) ∷ prints [] ∷ prints (table 0 32 1 []) ∷ prints (table 2 32 301 two-entries) ∷ [])
+    -- cutlist: document 01's example, no data, a refusal, a fetch ahead of 10, 10, and every hexadecimal digit
+    ∷ from-closed (prints direct-in ∷ prints (no-data 1) ∷ prints [] ∷ prints (table 0 32 1 []) ∷ prints (table 2 32 301 two-entries)
+    ∷ prints (cmd 0 0x10 0 0 9 0 0 (segment 0x0123456789abcdef 0xfedcba98 10)) ∷ [])
     (text
     (0x57 ∷ 0x20 ∷ 0x30 ∷ 0x30 ∷ 0x30 ∷ 0x30 ∷ 0x30 ∷ 0x30 ∷ 0x30 ∷ 0x37 ∷ 0x20 ∷ replicate 12 0x30 ++ (0x31 ∷ 0x30 ∷ 0x30 ∷ 0x30 ∷ 0x20 ∷ 0x35 ∷ 0x31 ∷ 0x32 ∷ 0x0a
     ∷ 0x57 ∷ 0x20 ∷ 0x30 ∷ 0x30 ∷ 0x30 ∷ 0x30 ∷ 0x30 ∷ 0x30 ∷ 0x30 ∷ 0x37 ∷ 0x20 ∷ replicate 12 0x30 ++ (0x31 ∷ 0x32 ∷ 0x30 ∷ 0x30 ∷ 0x20 ∷ 0x35 ∷ 0x31 ∷ 0x32 ∷ 0x0a
     ∷ 0x57 ∷ 0x20 ∷ 0x30 ∷ 0x30 ∷ 0x30 ∷ 0x30 ∷ 0x30 ∷ 0x30 ∷ 0x30 ∷ 0x37 ∷ 0x20 ∷ replicate 12 0x30 ++ (0x31 ∷ 0x34 ∷ 0x30 ∷ 0x30 ∷ 0x20 ∷ 0x32 ∷ 0x37 ∷ 0x36 ∷ 0x0a ∷ []))))
     ∷ text [] ∷ text (0x72 ∷ 0x65 ∷ 0x66 ∷ 0x75 ∷ 0x73 ∷ 0x65 ∷ 0x64 ∷ 0x20 ∷ 0x33 ∷ 0x0a ∷ []) ∷ text (0x66 ∷ 0x65 ∷ 0x74 ∷ 0x63 ∷ 0x68 ∷ 0x0a ∷ [])
-    ∷ text (0x72 ∷ 0x65 ∷ 0x66 ∷ 0x75 ∷ 0x73 ∷ 0x65 ∷ 0x64 ∷ 0x20 ∷ 0x31 ∷ 0x30 ∷ 0x0a ∷ []) ∷ [])
+    ∷ text (0x72 ∷ 0x65 ∷ 0x66 ∷ 0x75 ∷ 0x73 ∷ 0x65 ∷ 0x64 ∷ 0x20 ∷ 0x31 ∷ 0x30 ∷ 0x0a ∷ [])
+    ∷ text (0x52 ∷ 0x20 ∷ 0x66 ∷ 0x65 ∷ 0x64 ∷ 0x63 ∷ 0x62 ∷ 0x61 ∷ 0x39 ∷ 0x38 ∷ 0x20 ∷ 0x30 ∷ 0x31 ∷ 0x32 ∷ 0x33 ∷ 0x34 ∷ 0x35 ∷ 0x36 ∷ 0x37 ∷ 0x38 ∷ 0x39 ∷ 0x61 ∷ 0x62
+    ∷ 0x63 ∷ 0x64 ∷ 0x65 ∷ 0x66 ∷ 0x20 ∷ 0x31 ∷ 0x30 ∷ 0x0a ∷ []) ∷ [])
+    ∷ []
+
+-- ── the initiator's layouts
+
+-- each written by its layout, and byte by byte
+abbrev pub writtenByLayout : List (List ℕ)
+writtenByLayout =
+    write loginReq (77 ∷ 1364 ∷ 6 ∷ 1 ∷ 0 ∷ 2 ∷ number 0 (replicate 16 5) ∷ number 0 own ∷ [])
+    ∷ write tskMgmt (1 ∷ 0 ∷ 0x0102030405060708 ∷ 0x1112131415161718 ∷ 0x21 ∷ 0x3132333435363738 ∷ [])
+    ∷ write Messages.cmd (0 ∷ 1 ∷ 2 ∷ 1 ∷ 3 ∷ 4 ∷ 0x0102030405060708 ∷ 0x1112131415161718 ∷ 5 ∷ 1 ∷ [])
+    ∷ write iLogout (0x0102030405060708 ∷ [])
+    ∷ write credRsp (0x0102030405060708 ∷ [])
+    ∷ []
+
+abbrev pub writtenByHand : List (List ℕ)
+writtenByHand =
+    login-req 1364 6 0x22 own
+    ∷ tsk-mgmt 4 0x0102030405060708 0x1112131415161718 0x21 0x3132333435363738
+    ∷ (0x02 ∷ 0x02 ∷ 0 ∷ 0 ∷ 0 ∷ 0x21 ∷ 3 ∷ 4 ∷ 1 ∷ 2 ∷ 3 ∷ 4 ∷ 5 ∷ 6 ∷ 7 ∷ 8 ∷ 0 ∷ 0 ∷ 0 ∷ 0 ∷ 0x11 ∷ 0x12 ∷ 0x13 ∷ 0x14 ∷ 0x15 ∷ 0x16 ∷ 0x17 ∷ 0x18 ∷ 0 ∷ 5 ∷ 0 ∷ 4 ∷ [])
+    ∷ tag-only 0x03 0x0102030405060708
+    ∷ tag-only 0x41 0x0102030405060708
     ∷ []
 
 -- ── the answers' numbers and values
