@@ -250,6 +250,8 @@ logins =
     ∷ from-closed (logs-in (settings 16 1048576 1364 false false) 132 (login-req 64 0 0xcc own) ∷ counts ∷ takes-in (replicate 65 2) ∷ [])
     (accepted ∷ message (0xc0 ∷ 0 ∷ 0 ∷ 0 ∷ bytesOf 4 16 ++ (bytesOf 8 77 ++ (bytesOf 4 64 ++ (bytesOf 4 132 ++ (0 ∷ 2 ∷ replicate 26 0))))) ∷ counters 16 16 0 (pos 0)
     ∷ refused 3 ∷ t-logout 0 0 ∷ [])
+    ∷ from-closed (logs-in (settings 1 1 64 true true) 132 (login-req 64 2 0 own) ∷ counts ∷ []) (accepted
+    ∷ message (0xc0 ∷ 0 ∷ 0 ∷ 0 ∷ bytesOf 4 1 ++ (bytesOf 8 77 ++ (bytesOf 4 64 ++ (bytesOf 4 132 ++ (0 ∷ 6 ∷ 0x10 ∷ replicate 25 0))))) ∷ counters 1 1 0 (pos 0) ∷ [])
     -- a login uses no earlier port
     ∷ on-port (takes-in (no-data 1) ∷ logs-in-with 2 0 ∷ lists 16 ∷ counts ∷ logs-in usual 132 [] ∷ counts ∷ [])
     (command 1 0 16 ∷ accepted ∷ login-rsp 2 ∷ listed [] ∷ counters 2 2 0 (pos 0) ∷ refused 3 ∷ refused 21 ∷ [])
@@ -272,24 +274,26 @@ outside =
     -- the whole table is fetched where the copies are not all of it; a bad length names no fetch
     ∷ looked (table 1 48 700 (take 16 entries)) (performed ∷ message (replicate 16 0 ++ segment 0x9000 5 48) ∷ [])
     ∷ looked (cmd 0 0x20 0 0 9 0 0 (segment 0x9000 5 512 ++ bytesOf 4 0)) (performed ∷ message (segment 0x9000 5 512 ++ replicate 16 0) ∷ [])
+    ∷ looked (table 0 16 100 []) (performed ∷ message (replicate 16 0 ++ segment 0x9000 5 16) ∷ [])
     ∷ looked (table 3 48 700 entries) (performed ∷ message (replicate 32 0) ∷ [])
     ∷ looked (table 0 24 700 []) (performed ∷ message (replicate 32 0) ∷ [])
     -- the cut: 1, 2, 11, 10, 11, a piece, done
     ∷ from-closed (cuts [] 0 0 0 31 ∷ cuts (0 ∷ []) 0 0 0 32 ∷ cuts (0 ∷ []) 1048577 0 0 32 ∷ cuts (0 ∷ []) 512 0 1 32 ∷ cuts (replicate 528 0) 512 0 1 32
     ∷ cuts (segment 0xffffffffffffff00 7 257) 512 0 1 32 ∷ cuts (segment 0 7 0xffffffff ++ segment 0 7 1) 512 0 1 32 ∷ cuts entries 512 650 651 32
-    ∷ cuts entries 512 800 701 32 ∷ cuts entries 512 650 600 33 ∷ cuts entries 512 650 650 32 ∷ cuts [] 512 9 0 32 ∷ [])
+    ∷ cuts entries 512 800 701 32 ∷ cuts entries 512 650 600 33 ∷ cuts entries 512 650 650 32 ∷ cuts [] 512 9 0 32 ∷ cuts (replicate 512 0) 512 9 0 32 ∷ [])
     (refused 1 ∷ refused 2 ∷ refused 2 ∷ refused 11 ∷ refused 11 ∷ refused 10 ∷ refused 10 ∷ refused 11 ∷ refused 11
-    ∷ performed ∷ message (segment 0x5000 7 50 ++ bytesOf 4 600 ++ replicate 12 0) ∷ performed ∷ message (replicate 32 0) ∷ performed ∷ message (replicate 32 0) ∷ [])
+    ∷ performed ∷ message (segment 0x5000 7 50 ++ bytesOf 4 600 ++ replicate 12 0) ∷ performed ∷ message (replicate 32 0) ∷ performed ∷ message (replicate 32 0) ∷ performed ∷ message (replicate 32 0) ∷ [])
     -- the CDB, with the additional bytes; none where look refuses
     ∷ from-closed (cdbs (cmd 0 0 0 0 9 0 7 (1 ∷ 2 ∷ 3 ∷ 4 ∷ [])) ∷ cdbs (take 47 (no-data 1)) ∷ []) (text (replicate 16 0xcd ++ (1 ∷ 2 ∷ 3 ∷ 4 ∷ [])) ∷ text [] ∷ [])
     -- cutlist: document 01's example, no data, a refusal, a fetch ahead of 10, 10, and every hexadecimal digit
-    ∷ from-closed (prints direct-in ∷ prints (no-data 1) ∷ prints [] ∷ prints (table 0 32 1 []) ∷ prints (table 2 32 301 two-entries)
+    ∷ from-closed (prints direct-in ∷ prints (no-data 1) ∷ prints [] ∷ prints (table 0 32 1 []) ∷ prints (cmd 0 0x20 0 0 9 0 0 (segment 0x9000 5 32 ++ bytesOf 4 1)) ∷ prints (table 2 32 301 two-entries)
     ∷ prints (cmd 0 0x10 0 0 9 0 0 (segment 0x0123456789abcdef 0xfedcba98 10)) ∷ [])
     (text
     (0x57 ∷ 0x20 ∷ 0x30 ∷ 0x30 ∷ 0x30 ∷ 0x30 ∷ 0x30 ∷ 0x30 ∷ 0x30 ∷ 0x37 ∷ 0x20 ∷ replicate 12 0x30 ++ (0x31 ∷ 0x30 ∷ 0x30 ∷ 0x30 ∷ 0x20 ∷ 0x35 ∷ 0x31 ∷ 0x32 ∷ 0x0a
     ∷ 0x57 ∷ 0x20 ∷ 0x30 ∷ 0x30 ∷ 0x30 ∷ 0x30 ∷ 0x30 ∷ 0x30 ∷ 0x30 ∷ 0x37 ∷ 0x20 ∷ replicate 12 0x30 ++ (0x31 ∷ 0x32 ∷ 0x30 ∷ 0x30 ∷ 0x20 ∷ 0x35 ∷ 0x31 ∷ 0x32 ∷ 0x0a
     ∷ 0x57 ∷ 0x20 ∷ 0x30 ∷ 0x30 ∷ 0x30 ∷ 0x30 ∷ 0x30 ∷ 0x30 ∷ 0x30 ∷ 0x37 ∷ 0x20 ∷ replicate 12 0x30 ++ (0x31 ∷ 0x34 ∷ 0x30 ∷ 0x30 ∷ 0x20 ∷ 0x32 ∷ 0x37 ∷ 0x36 ∷ 0x0a ∷ []))))
     ∷ text [] ∷ text (0x72 ∷ 0x65 ∷ 0x66 ∷ 0x75 ∷ 0x73 ∷ 0x65 ∷ 0x64 ∷ 0x20 ∷ 0x33 ∷ 0x0a ∷ []) ∷ text (0x66 ∷ 0x65 ∷ 0x74 ∷ 0x63 ∷ 0x68 ∷ 0x0a ∷ [])
+    ∷ text (0x66 ∷ 0x65 ∷ 0x74 ∷ 0x63 ∷ 0x68 ∷ 0x0a ∷ [])
     ∷ text (0x72 ∷ 0x65 ∷ 0x66 ∷ 0x75 ∷ 0x73 ∷ 0x65 ∷ 0x64 ∷ 0x20 ∷ 0x31 ∷ 0x30 ∷ 0x0a ∷ [])
     ∷ text (0x52 ∷ 0x20 ∷ 0x66 ∷ 0x65 ∷ 0x64 ∷ 0x63 ∷ 0x62 ∷ 0x61 ∷ 0x39 ∷ 0x38 ∷ 0x20 ∷ 0x30 ∷ 0x31 ∷ 0x32 ∷ 0x33 ∷ 0x34 ∷ 0x35 ∷ 0x36 ∷ 0x37 ∷ 0x38 ∷ 0x39 ∷ 0x61 ∷ 0x62
     ∷ 0x63 ∷ 0x64 ∷ 0x65 ∷ 0x66 ∷ 0x20 ∷ 0x31 ∷ 0x30 ∷ 0x0a ∷ []) ∷ [])
