@@ -116,6 +116,7 @@ accepted p s t (TskMgmt k) =
 accepted p s t (CredRsp g) = silent (withUnanswered p false) CreditSettled
 accepted p s t ILogout = silent closedPort LoggedOut
 
+-- a message's tag and UCSOLNT, 0 where it has none: only a command draws 10
 abbrev pub tagOf : Message → ℕ
 tagOf (Bad r) = 0
 tagOf (Cmd c) = c .tag

@@ -1,5 +1,5 @@
 // The types that the definitions of specs/ share with the code: what is refused, what a message says, what a call answers.
-// The definitions are document 01's; the numbers that it gives these cases stand in specs/Refusals.antt.
+// Document 01's numbers and values for each case stand in specs/Refusals.antt and specs/Answers.antt. A field `inn` is data-in's: `in` is a keyword.
 
 // Why a call is refused, in the order of document 01's two lists.
 pub enum Refusal {
