@@ -28,7 +28,8 @@ use Rattle.srp.specs.declared.Reply.{Reply}
 use Rattle.srp.specs.declared.Reply.the-variants.{Refused, Performed, Accepted}
 use Rattle.srp.proofs.Ranges.{open-ranges}
 use Rattle.srp.specs.Ranges.{Reached, logged-in}
-use Rattle.srp.proofs.Invariant.{openIn, Ok, find-same, open-same, lacks, now, Fine}
+use Rattle.srp.proofs.Invariant.{openIn, Ok, find-same, open-same, lacks, wanted-same, now, Fine}
+use Rattle.srp.proofs.Writes.{wrote-same}
 use Rattle.srp.proofs.Refusing.{unrefused, unless-iff, read-iff}
 use Rattle.srp.proofs.Taking.{take-same, take-fine, take-credited}
 use Rattle.srp.proofs.Steps.{send-fine, deliver-fine, add-fine, withdraw-fine, grant-fine, finish-fine, plan-fine, step-fine, step-right}
@@ -42,9 +43,6 @@ module _ {T : Terms} {m : Machine} {p : Port} (h : Ok T m p) where
       by-case : (o : Option Track) → isPlanned (Option·map openIn o) ≡ hasPlan o
       by-case none = refl
       by-case (some t) = refl
-
-  wanted-same : p .wanted ≡ wantedBy (T .buffers) m
-  wanted-same = omega (arith, h .wanted)
 
   seen-same : (room : ℕ) (s : List ℕ) (t : Tables) (d : Message) → firstOf (takeChecks p room s t d) ≡ firstOf (takeSeen T m room s t d)
   seen-same room s t (Bad r) = rw (h .settled .0)
@@ -105,7 +103,7 @@ module _ (T : Terms) (some-M : 1 ≤ T .maximum) (m : Machine) (p : Port) (h : O
 
   kept : (e : Event) → Allowed T m e → Kept e (call T p m e)
   unfolding Kept
-  kept e a = let o = fine e a in (record { lift = o .lift; refuses = refuses e; answers = answers e }, o .keep)
+  kept e a = let o = fine e a in (record { lift = o .lift; wrote = wrote-same T m p (h .settled .2) (h .settled .3) e; refuses = refuses e; answers = answers e }, o .keep)
 
 -- ── the theorem
 

@@ -17,7 +17,7 @@ use Rattle.srp.specs.Credit.{Side, Open, Port, owed, due, withCredit, wi
 use Rattle.srp.specs.Writing.{answer}
 use Rattle.srp.specs.Take.{Outcome, silent, answering, hasTag, isOpen}
 use Rattle.srp.specs.Calls.{recordOf, handing}
-use Rattle.srp.specs.Machine.{deltaOf, deltas, isCreditRequest, requests, Progress, Track, oneMore, trackHasTag, shownAs, Machine, four, lack, holds, requestsHeld, withTracks, withQueues, withBuffers, joined, join, saysLogout, Terms}
+use Rattle.srp.specs.Machine.{deltaOf, deltas, isCreditRequest, requests, Progress, Track, oneMore, trackHasTag, shownAs, Machine, four, lack, wantedBy, holds, requestsHeld, withTracks, withQueues, withBuffers, joined, join, saysLogout, Terms}
 use Rattle.srp.specs.Demand.{Until, Distinct, InOrder, Sum, ByLack, Lift, Now}
 use Rattle.srp.specs.declared.Piece.{Piece}
 use Rattle.srp.specs.declared.Reply.{Reply}
@@ -108,16 +108,20 @@ module _ {T : Terms} {m : Machine} {p : Port} (h : Ok T m p) where
   pub lacks : due p ≡ lack (T .buffers) m
   lacks = omega (arith, held, h .credit, h .wanted, h .counts)
 
-  open-held : requestsHeld m ≡ length (m .tracks)
-  open-held = omega (arith, h .counts)
+  open-held : length (p .held) ≡ requestsHeld m
+  open-held = omega (arith, held, h .counts)
+
+  pub wanted-same : p .wanted ≡ wantedBy (T .buffers) m
+  wanted-same = omega (arith, h .wanted)
 
   -- what demand 3 says of the moments between events
   pub now : Now T m p
   now =
       record {
         sum = sum;
-        commands = open-held;
-        held = held ∙ sym open-held;
+        reports = rw (h .settled .0, wanted-same, h .credit, open-held);
+        commands = h .counts;
+        lists = rw (h .settled .0, open-held);
         listed = ap (map recordOf) (h .commands) ∙ shown-map (m .tracks);
         distinct = h .distinct;
         in-order = all-weaken (Sound (T .maximum)) (InOrder (T .maximum)) (λ t s. s .order) (m .tracks) (h .sound);
@@ -139,10 +143,10 @@ pub record Fine (T : Terms) (m : Machine) (closing : Bool) (o : Outcome) : Type 
   pub keep : Until (closing || saysLogout (o .wrote)) (Ok T (join m (o .wrote)) (o .port))
 
 pub nothing-lifts : {T : Terms} (m : Machine) → Lift T m []
-nothing-lifts m = record { by-lack = tt; rises = four-join m []; one-at-most = omega arith }
+nothing-lifts m = record { by-lack = tt; rises = four-join m [] }
 
 pub lifts : {T : Terms} (m : Machine) (s : List ℕ) → ByLack T m s → Lift T m (s ∷ [])
-lifts m s l = record { by-lack = (l, tt); rises = four-join m (s ∷ []); one-at-most = omega arith }
+lifts m s l = record { by-lack = (l, tt); rises = four-join m (s ∷ []) }
 
 -- ── the invariant when a part moves
 

@@ -19,6 +19,7 @@ pub mod Deltas
 pub mod Invariant
 pub mod Taking
 pub mod Steps
+pub mod Writes
 pub mod Demand
 pub mod Itself
 pub mod Bench

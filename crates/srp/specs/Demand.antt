@@ -2,20 +2,22 @@
 -- words stand beside each part. The theorem is proofs/Demand.antt.
 use mathlib.Core.Path.{_≡_}
 use mathlib.Core.Logic.{_↔_}
-use mathlib.Core.Bool.{Bool, true, false, not, _&&_, _||_}
+use mathlib.Core.Bool.{Bool, true, false, cond, not, _&&_, _||_}
 use mathlib.Core.List.{List, [], _∷_, map}
 use mathlib.Core.Option.{Option, none, some}
 use Prim.Native.Nat.{ℕ, _+_, _-_, _≤_}
 use lib.Dec.{eqb, ltb, leb}
 use lib.IntN.{ℤ, pos, subℕ, _+ℤ_}
 use lib.ListN.{length, take, getElem?}
-use Rattle.srp.specs.Refusals.{Check, firstOf, short}
+use Rattle.srp.specs.Bytes.{typeOf}
+use Rattle.srp.specs.Messages.{rsp, credReq, tLogout}
+use Rattle.srp.specs.Refusals.{numberOf, Check, firstOf, hangsUp, short}
 use Rattle.srp.specs.Lists.{find, All, isSome}
 use Rattle.srp.specs.Requests.{isRequest}
 use Rattle.srp.specs.Cutting.{cuts}
 use Rattle.srp.specs.Credit.{Port, owed}
 use Rattle.srp.specs.Take.{Tables, tablesFit, fieldsFit}
-use Rattle.srp.specs.Calls.{kindOf, badSense, listing}
+use Rattle.srp.specs.Calls.{kindOf, badSense, listing, listDef, countersDef}
 use Rattle.srp.specs.declared.Refusal.{Refusal}
 use Rattle.srp.specs.declared.Refusal.the-variants.{TableLength, Fields, Argument, NoCredit, TagOpen, TagNotOpen, CreditResponse, Unanswered, NotOwed, Wanted, Unplanned, Planned}
 use Rattle.srp.specs.declared.Direction.{Direction}
@@ -23,7 +25,8 @@ use Rattle.srp.specs.declared.Piece.{Piece}
 use Rattle.srp.specs.declared.Message.{Message}
 use Rattle.srp.specs.declared.Message.the-variants.{Bad, Cmd, TskMgmt, CredRsp, ILogout}
 use Rattle.srp.specs.declared.Reply.{Reply}
-use Rattle.srp.specs.declared.Reply.the-variants.{Refused, Operation, Done}
+use Rattle.srp.specs.declared.Reply.the-variants.{Refused, Operation, Done, Counts, Listed}
+use Rattle.srp.specs.declared.Counters.{Counters}
 use Rattle.srp.specs.Answers.{refusalIn}
 use Rattle.srp.specs.Machine.{isResponse, isCreditRequest, deltaOf, deltas, Progress, Track, progressOf, trackHasTag, hasPlan, shownAs, Event, sends, delivers, takes, plans, steps, finishes, adds, withdraws, grants, Machine, requestsHeld, four, lack, unused, wantedBy, holds, join, Terms, read, settle, after, closes, call}
 
@@ -87,10 +90,39 @@ module _ (T : Terms) where
   abbrev pub ByLack : Machine → List ℕ → Type 0
   ByLack m s = (isResponse s || isCreditRequest s) ≡ true → deltaOf s ≡ lack (T .buffers) m
 
+  -- `by-lack` asks it of the port; `rises` says that the four do rise by the deltas written
   pub record Lift (m : Machine) (ss : List (List ℕ)) : Type 0 where
     pub by-lack : All (ByLack m) ss
     pub rises : four (join m ss) ≡ four m + deltas ss
-    pub one-at-most : length ss ≤ 1
+
+  -- the messages that a call writes, by its reply: the types of what document 01 has it write, and nothing else. So a finished command, a task and
+  -- refusal 10 have their response, a grant its request, and the channel closes just where document 01 has it
+  abbrev pub taskWrites : Message → List ℕ
+  taskWrites (Bad r) = []
+  taskWrites (Cmd c) = []
+  taskWrites (TskMgmt k) = rsp .code ∷ []
+  taskWrites (CredRsp g) = []
+  taskWrites ILogout = []
+
+  abbrev pub takeWrites : List (List ℕ) → Option Refusal → List ℕ
+  takeWrites [] f = []
+  takeWrites (s ∷ ss) none = taskWrites (read T s)
+  takeWrites (s ∷ ss) (some f) = cond (hangsUp (numberOf f)) (tLogout .code ∷ []) (cond (eqb (numberOf f) 10) (rsp .code ∷ []) [])
+
+  abbrev pub unlessWrites : Option Refusal → List ℕ → List ℕ
+  unlessWrites none codes = codes
+  unlessWrites (some f) codes = []
+
+  abbrev pub writes : Machine → Event → Reply → List ℕ
+  writes m (sends s) r = []
+  writes m delivers r = []
+  writes m (takes room t) r = takeWrites (m .toPort) (refusalIn r)
+  writes m (plans tag out inn) r = []
+  writes m (steps tag d) r = []
+  writes m (finishes room tag status sense) r = unlessWrites (refusalIn r) (rsp .code ∷ [])
+  writes m (adds k) r = []
+  writes m (withdraws k) r = []
+  writes m (grants room) r = unlessWrites (refusalIn r) (credReq .code ∷ [])
 
   -- document 01's checks by the machine's own counts; 21 is not among them, since closing ends the list
   abbrev pub takeSeen : Machine → ℕ → List ℕ → Tables → Message → List Check
@@ -137,12 +169,17 @@ module _ (T : Terms) where
   Answers m (withdraws k) r = Unit {0}
   Answers m (grants room) r = Unit {0}
 
-  -- what holds at the start and after every event, while the channel is open. "Requests held = taken - ended = commands open; H says so, and
-  -- as many are listed after each call"
+  -- what the owner reads: W, A and H as the machine has counted them, and D
+  abbrev pub counted : Machine → ℤ → Counters
+  counted m d = record { wanted = wantedBy (T .buffers) m; announced = unused m; held = requestsHeld m; owed = d }
+
+  -- what holds at the start and after every event, while the channel is open. "Owed is the D that the port reports"; "Requests held = taken -
+  -- ended = commands open; H says so, and as many are listed after each call"
   pub record Now (m : Machine) (p : Port) : Type 0 where
     pub sum : Sum m (owed p)
-    pub commands : requestsHeld m ≡ length (m .tracks)
-    pub held : length (p .held) ≡ requestsHeld m
+    pub reports : countersDef p .reply ≡ Counts (counted m (owed p))
+    pub commands : m .taken ≡ m .ended + length (m .tracks)
+    pub lists : listDef p 16 .reply ≡ Listed (requestsHeld m)
     pub listed : listing p ≡ map shownAs (m .tracks)
     pub distinct : Distinct (m .tracks)
     pub in-order : All (InOrder (T .maximum)) (m .tracks)
@@ -150,6 +187,7 @@ module _ (T : Terms) where
   -- what holds of an event whose call gave the reply r and wrote ss
   pub record Then (m : Machine) (e : Event) (r : Reply) (ss : List (List ℕ)) : Type 0 where
     pub lift : Lift (settle T m e r) ss
+    pub wrote : map typeOf ss ≡ writes m e r
     pub refuses : Refuses m e r
     pub answers : Answers m e r
 
