@@ -12,7 +12,8 @@ use Rattle.srp.specs.Take.{Outcome}
 use Rattle.srp.specs.Login.{Settings, loginDef}
 use Rattle.srp.specs.Machine.{Event, sends, takes, withdraws, Machine, Terms, termsOf, start, after, call}
 use Rattle.srp.specs.Demand.{Run, Fair, Demand, Meets}
-use Rattle.srp.specs.Rows.{login-req, own, settings, no-data, no-tables}
+use Rattle.srp.specs.Outside.{noTables}
+use Rattle.srp.specs.Rows.{login-req, own, settings, no-data}
 use Rattle.srp.specs.declared.Reply.{Reply}
 use Rattle.srp.specs.declared.Reply.the-variants.{Accepted}
 use Rattle.srp.proofs.Demand.{demand-3}
@@ -50,7 +51,7 @@ abbrev l4 : List ℕ
 l4 = login-req 1364 6 0 own
 
 abbrev p8 : List Event
-p8 = sends (no-data 1) ∷ takes 132 no-tables ∷ sends (no-data 2) ∷ takes 132 no-tables ∷ withdraws 3 ∷ []
+p8 = sends (no-data 1) ∷ takes 132 noTables ∷ sends (no-data 2) ∷ takes 132 noTables ∷ withdraws 3 ∷ []
 
 fair : Fair (termsOf c4 l4) (λ p. p) (Call (termsOf c4 l4)) (loginDef c4 132 l4 .port) (start 4) p8 (itself c4 132 l4 refl p8)
 unfolding readMessage

@@ -29,8 +29,8 @@ use Rattle.srp.proofs.Checks.{passes}
 module _ (T : Terms) (m : Machine) (p : Port) (agreed : p .agreed ≡ T .agreed) (formats : p .formats ≡ T .formats) where
   -- a call that its first check v refuses writes nothing, and otherwise what its outcome has
   unless-same : (v : Option Refusal) (o : Outcome) (codes : List ℕ) → refusalIn (o .reply) ≡ none → (v ≡ none → map typeOf (o .wrote) ≡ codes)
-      → map typeOf (unless v p o .wrote) ≡ unlessWrites T (refusalIn (unless v p o .reply)) codes
-  unless-same none o codes u f = f refl ∙ sym (ap (λ (r : Option Refusal). unlessWrites T r codes) u)
+      → map typeOf (unless v p o .wrote) ≡ unlessWrites (refusalIn (unless v p o .reply)) codes
+  unless-same none o codes u f = f refl ∙ sym (ap (λ (r : Option Refusal). unlessWrites r codes) u)
   unless-same (some r) o codes u f = refl
 
   module _ (room : ℕ) (t : Tables) (s : List ℕ) (ss : List (List ℕ)) where

@@ -6,6 +6,8 @@ use Prim.Native.Nat.{ℕ}
 use lib.IntN.{ℤ, pos}
 use Rattle.srp.specs.Refusals.{numberOf}
 use Rattle.srp.specs.declared.Refusal.{Refusal}
+use Rattle.srp.specs.declared.Kind.{Kind}
+use Rattle.srp.specs.declared.Kind.the-variants.{Read, Write}
 use Rattle.srp.specs.declared.Reply.{Reply}
 use Rattle.srp.specs.declared.Reply.the-variants.{Refused, Performed, NewCommand, TaskAnswered, CreditSettled, LoggedOut, Operation, Done, Accepted, Rejected, Counts, Listed}
 
@@ -27,6 +29,11 @@ refusalIn (Listed n) = none
 abbrev pub returned : Reply → ℕ
 returned r = elim (refusalIn r) [ none ↦ 0 | some f ↦ numberOf f ]
 
+-- an RDMA Read is 1, an RDMA Write 2
+abbrev pub kindNumber : Kind → ℕ
+kindNumber Read = 1
+kindNumber Write = 2
+
 -- the values of each case, in document 01's order
 abbrev pub valuesOf : Reply → List ℤ
 valuesOf (Refused r) = []
@@ -36,8 +43,8 @@ valuesOf (NewCommand tag lun cdb) = pos tag ∷ pos lun ∷ pos 32 ∷ pos cdb �
 valuesOf (TaskAnswered tag lun) = pos tag ∷ pos lun ∷ []
 valuesOf CreditSettled = []
 valuesOf LoggedOut = []
--- handle, address, length, offset in the buffer; the kind is the direction's
-valuesOf (Operation k o) = pos (o .handle) ∷ pos (o .address) ∷ pos (o .len) ∷ pos (o .offset) ∷ []
+-- kind, handle, address, length, offset in the buffer
+valuesOf (Operation k o) = pos (kindNumber k) ∷ pos (o .handle) ∷ pos (o .address) ∷ pos (o .len) ∷ pos (o .offset) ∷ []
 valuesOf Done = []
 valuesOf Accepted = []
 valuesOf (Rejected reason) = pos reason ∷ []

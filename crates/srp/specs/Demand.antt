@@ -67,6 +67,19 @@ pub record Right (M : ℕ) (d : Direction) (g : Progress) (r : Reply) : Type 0 w
   pub in-turn : refusalIn r ≡ none → r ≡ saidOf d (getElem? (wholeOf M g) (length (g .operations)))
   pub done-iff : refusalIn r ≡ none → (r ≡ Done) ↔ (g .operations ≡ wholeOf M g)
 
+-- the types of what is written for a message that is taken: an answer to a task request
+abbrev pub taskWrites : Message → List ℕ
+taskWrites (Bad r) = []
+taskWrites (Cmd c) = []
+taskWrites (TskMgmt k) = rsp .code ∷ []
+taskWrites (CredRsp g) = []
+taskWrites ILogout = []
+
+-- of what a call writes that is not refused
+abbrev pub unlessWrites : Option Refusal → List ℕ → List ℕ
+unlessWrites none codes = codes
+unlessWrites (some f) codes = []
+
 module _ (T : Terms) where
   -- "Let the initiator send a request only with a limit of at least 1". That it answers each credit request at most once is not needed:
   -- an answer too many draws 25 and closes the channel, which ends the list
@@ -97,21 +110,10 @@ module _ (T : Terms) where
 
   -- the messages that a call writes, by its reply: the types of what document 01 has it write, and nothing else. So a finished command, a task and
   -- refusal 10 have their response, a grant its request, and the channel closes just where document 01 has it
-  abbrev pub taskWrites : Message → List ℕ
-  taskWrites (Bad r) = []
-  taskWrites (Cmd c) = []
-  taskWrites (TskMgmt k) = rsp .code ∷ []
-  taskWrites (CredRsp g) = []
-  taskWrites ILogout = []
-
   abbrev pub takeWrites : List (List ℕ) → Option Refusal → List ℕ
   takeWrites [] f = []
   takeWrites (s ∷ ss) none = taskWrites (read T s)
   takeWrites (s ∷ ss) (some f) = cond (hangsUp (numberOf f)) (tLogout .code ∷ []) (cond (eqb (numberOf f) 10) (rsp .code ∷ []) [])
-
-  abbrev pub unlessWrites : Option Refusal → List ℕ → List ℕ
-  unlessWrites none codes = codes
-  unlessWrites (some f) codes = []
 
   abbrev pub writes : Machine → Event → Reply → List ℕ
   writes m (sends s) r = []

@@ -4,7 +4,7 @@ use mathlib.Core.Bool.{Bool, true, false, cond}
 use mathlib.Core.List.{List, [], _∷_, _++_, map}
 use Prim.Native.Nat.{ℕ, zero, suc, _+_}
 use lib.IntN.{ℤ}
-use lib.ListN.{replicate}
+use lib.ListN.{length, replicate}
 use Rattle.srp.specs.Bytes.{bytesOf}
 use Rattle.srp.specs.Refusals.{numberOf}
 use Rattle.srp.specs.Requests.{cdbDef}
@@ -12,7 +12,7 @@ use Rattle.srp.specs.Credit.{Port, closedPort}
 use Rattle.srp.specs.Take.{Outcome, Tables, takeDef}
 use Rattle.srp.specs.Calls.{planDef, stepDef, finishDef, addDef, withdrawDef, grantDef, closeDef, countersDef, listDef, listing}
 use Rattle.srp.specs.Login.{Settings, loginDef}
-use Rattle.srp.specs.Outside.{Answer, lookInC, cutInC, cutlist}
+use Rattle.srp.specs.Outside.{Answer, lookInC, cutInC, cutlist, noTables}
 use Rattle.srp.specs.declared.Direction.{Direction}
 use Rattle.srp.specs.declared.Direction.the-variants.{In}
 use Rattle.srp.specs.declared.Kind.{Kind}
@@ -55,7 +55,7 @@ pub data Seen : Type 0 where
   accepted : Seen
   rejected : ℕ → Seen
   counters : (w a h : ℕ) → ℤ → Seen
-  listed : List (List ℕ) → Seen
+  records : ℕ → List (List ℕ) → Seen
   message : List ℕ → Seen
   text : List ℕ → Seen
 
@@ -78,7 +78,7 @@ seenOf p Done = done
 seenOf p Accepted = accepted
 seenOf p (Rejected n) = rejected n
 seenOf p (Counts c) = counters (c .wanted) (c .announced) (c .held) (c .owed)
-seenOf p (Listed n) = listed (map row (listing p))
+seenOf p (Listed n) = records n (map row (listing p))
 
 abbrev pub answered : Port → Answer → Outcome × Seen
 answered p a = (record { reply = Performed; port = p; wrote = a .wrote }, cond (isZero (a .returns)) performed (refused (a .returns)))
@@ -183,11 +183,12 @@ login-rej reason supported = message (0xc2 ∷ 0 ∷ 0 ∷ 0 ∷ bytesOf 4 reaso
 
 -- ── acts
 
-abbrev pub no-tables : Tables
-no-tables = record { out = []; inn = [] }
+-- what a listing shows: how many records, and they
+abbrev pub listed : List (List ℕ) → Seen
+listed rs = records (length rs) rs
 
 abbrev pub takes-in : List ℕ → Act
-takes-in s = takes 132 s no-tables
+takes-in s = takes 132 s noTables
 
 abbrev pub with-table : List ℕ → List ℕ → Act
 with-table s table = takes 132 s (record { out = []; inn = table })

@@ -9,14 +9,15 @@ use Rattle.srp.specs.Bytes.{bytesOf}
 use Rattle.srp.specs.Login.{Settings}
 use Rattle.srp.specs.declared.Direction.the-variants.{Out, In}
 use Rattle.srp.specs.Cutting.{piece}
-use Rattle.srp.specs.declared.Kind.the-variants.{Read}
+use Rattle.srp.specs.declared.Kind.the-variants.{Read, Write}
 use Rattle.srp.specs.declared.Refusal.the-variants.{TagOpen}
 use Rattle.srp.specs.declared.Reply.{Reply}
 use Rattle.srp.specs.declared.Reply.the-variants.{Refused, Performed, NewCommand, TaskAnswered, CreditSettled, LoggedOut, Operation, Done, Accepted, Rejected, Counts, Listed}
 use Rattle.srp.specs.Bytes.{number, write}
 use Rattle.srp.specs.Messages
 use Rattle.srp.specs.Messages.{loginReq, tskMgmt, iLogout, credRsp}
-use Rattle.srp.specs.Rows.{Act, Row, Seen, accepted, adds, cred-req, tag-only, t-logout, cdbs, closes, cmd, rsp-code, command, counters, counts, cuts, done, finish, finishes, rsp-good, grants, listed, lists, logged-out, login-req, logs-in, looks, message, no-data, no-tables, logs-in-with, own, performed, plans, prints, reads, refused, rejected, login-rej, rsp, segment, settings, settled, steps, steps-in, takes, takes-in, task, text, tsk-mgmt, login-rsp, with-table, withdraws, writes}
+use Rattle.srp.specs.Outside.{noTables}
+use Rattle.srp.specs.Rows.{Act, Row, Seen, accepted, adds, cred-req, tag-only, t-logout, cdbs, closes, cmd, rsp-code, command, counters, counts, cuts, done, finish, finishes, rsp-good, grants, listed, lists, logged-out, login-req, logs-in, looks, message, no-data, logs-in-with, own, performed, plans, prints, reads, refused, rejected, login-rej, rsp, segment, settings, settled, steps, steps-in, takes, takes-in, task, text, tsk-mgmt, login-rsp, with-table, withdraws, writes}
 
 -- a row on a port that a login with 4 buffers opened
 abbrev pub on-port : List Act → List Seen → Row
@@ -96,6 +97,10 @@ abbrev pub tasked : List ℕ → ℕ → ℕ → ℕ → ℕ → List (List ℕ)
 tasked s tag lun n delta left =
     on-port (three-open ++ (takes-in s ∷ lists 16 ∷ [])) (three-taken ++ (task tag lun ∷ rsp-code 0 delta tag n ∷ listed left ∷ []))
 
+-- a function that is none of document 01's: nothing is aborted
+abbrev pub others : ℕ → Row
+others function = tasked (tsk-mgmt 0 9 0 function 1) 9 0 2 1 ((1 ∷ 0 ∷ 0 ∷ 0 ∷ []) ∷ (2 ∷ 0 ∷ 0 ∷ 0 ∷ []) ∷ (3 ∷ 5 ∷ 0 ∷ 0 ∷ []) ∷ [])
+
 abbrev pub tasks : List Row
 tasks =
     tasked (tsk-mgmt 0 9 0 0x01 2) 9 0 0 2 ((1 ∷ 0 ∷ 0 ∷ 0 ∷ []) ∷ (3 ∷ 5 ∷ 0 ∷ 0 ∷ []) ∷ [])
@@ -106,6 +111,11 @@ tasks =
     ∷ tasked (tsk-mgmt 0 9 0 0x08 0) 9 0 0 3 ((3 ∷ 5 ∷ 0 ∷ 0 ∷ []) ∷ [])
     ∷ tasked (tsk-mgmt 0 9 0 0x40 1) 9 0 4 1 ((1 ∷ 0 ∷ 0 ∷ 0 ∷ []) ∷ (2 ∷ 0 ∷ 0 ∷ 0 ∷ []) ∷ (3 ∷ 5 ∷ 0 ∷ 0 ∷ []) ∷ [])
     ∷ tasked (tsk-mgmt 0 9 0 0x03 1) 9 0 2 1 ((1 ∷ 0 ∷ 0 ∷ 0 ∷ []) ∷ (2 ∷ 0 ∷ 0 ∷ 0 ∷ []) ∷ (3 ∷ 5 ∷ 0 ∷ 0 ∷ []) ∷ [])
+    ∷ others 0x05
+    ∷ others 0x10
+    ∷ others 0x20
+    ∷ others 0x41
+    ∷ others 0xff
     ∷ tasked (tsk-mgmt 0 9 0 0x00 1) 9 0 2 1 ((1 ∷ 0 ∷ 0 ∷ 0 ∷ []) ∷ (2 ∷ 0 ∷ 0 ∷ 0 ∷ []) ∷ (3 ∷ 5 ∷ 0 ∷ 0 ∷ []) ∷ [])
     -- SOLNT: SCSOLNT with RSP_CODE 00h, UCSOLNT with another
     ∷ on-message (tsk-mgmt 2 9 0 0x02 0) (task 9 0 ∷ rsp-code 1 1 9 0 ∷ [])
@@ -118,14 +128,14 @@ tasks =
 
 -- ── descriptors and segments
 
--- a command that draws 10, with UCSOLNT, and the port after it
+-- a command that draws 10, and the port after it
 abbrev pub bad-fields : List ℕ → List ℕ → Row
 bad-fields s entries-in =
     on-port (with-table s entries-in ∷ lists 16 ∷ counts ∷ []) (refused 10 ∷ rsp-code 0 1 9 2 ∷ listed [] ∷ counters 4 4 0 (pos 0) ∷ [])
 
 abbrev pub fields : List Row
 fields =
-    -- the out direction: RDMA Reads; both directions, out from the message's copy, in from the table
+    -- both directions: out direct, by RDMA Reads; in from the fetched table, by RDMA Writes
     on-port (takes 132 (cmd 0 0x12 0 1 9 0 0 (segment 0x1000 7 700 ++ (segment 0x9000 5 32 ++ bytesOf 4 300 ++ take 16 two-entries)))
     (record { out = []; inn = two-entries }) ∷ plans 9 700 250 ∷ steps 9 Out ∷ steps 9 In ∷ steps 9 Out ∷ steps 9 In ∷ steps 9 Out ∷ lists 16 ∷ finish 9 ∷ [])
     (command 9 0 16 ∷ performed ∷ reads 7 0x1000 512 0 ∷ writes 7 0x2000 100 0 ∷ reads 7 0x1200 188 512 ∷ writes 7 0x4000 150 100 ∷ done
@@ -141,6 +151,8 @@ fields =
     ∷ bad-fields (table 1 24 100 (take 16 two-entries)) []
     ∷ bad-fields (table 0 528 0 []) []
     ∷ bad-fields (table 1 32 300 (segment 0x2000 7 101)) two-entries
+    ∷ bad-fields (table 1 48 700 (segment 0x2000 8 0)) entries
+    ∷ bad-fields (table 2 48 700 (take 16 entries ++ segment 0x3001 7 600)) entries
     ∷ bad-fields (table 2 32 301 two-entries) []
     ∷ bad-fields (table 0 32 299 []) two-entries
     -- UCSOLNT of a command that draws 10
@@ -165,6 +177,8 @@ hang-ups =
     ∷ on-message (cmd 0 0x33 0 0 9 0 0 []) (refused 5 ∷ t-logout 0 6 ∷ [])
     ∷ on-message (cmd 0 0x20 33 0 9 0 0 (segment 0 0 512 ++ bytesOf 4 0 ++ replicate 528 0)) (refused 7 ∷ t-logout 0 8 ∷ [])
     ∷ on-message (cmd 0 0x02 0 2 9 0 0 (segment 0 0 24 ++ bytesOf 4 0 ++ replicate 32 0)) (refused 8 ∷ t-logout 0 9 ∷ [])
+    ∷ on-message (cmd 0 0x20 33 0 9 0 0 (segment 0 0 528 ++ bytesOf 4 0 ++ replicate 528 0)) (refused 7 ∷ t-logout 0 8 ∷ [])
+    ∷ on-message (cmd 0 0x02 0 33 9 0 0 (segment 0 0 528 ++ bytesOf 4 0 ++ replicate 528 0)) (refused 8 ∷ t-logout 0 9 ∷ [])
     ∷ on-message (tsk-mgmt 0 9 0 1 0 ++ (0 ∷ [])) (refused 3 ∷ t-logout 0 0 ∷ [])
     ∷ on-message (tag-only 0x03 1 ++ (0 ∷ [])) (refused 3 ∷ t-logout 0 0 ∷ [])
     ∷ on-message (tag-only 0x41 1 ++ (0 ∷ [])) (refused 3 ∷ t-logout 0 0 ∷ [])
@@ -180,8 +194,8 @@ hang-ups =
     -- the initiator's logout
     ∷ on-port (takes-in (no-data 1) ∷ takes-in (tag-only 0x03 9) ∷ counts ∷ []) (command 1 0 16 ∷ logged-out ∷ refused 21 ∷ [])
     -- 1 and 21 alter nothing
-    ∷ on-port (takes 131 (no-data 1) no-tables ∷ counts ∷ []) (refused 1 ∷ counters 4 4 0 (pos 0) ∷ [])
-    ∷ from-closed (takes 131 (no-data 1) no-tables ∷ takes-in (no-data 1) ∷ []) (refused 1 ∷ refused 21 ∷ [])
+    ∷ on-port (takes 131 (no-data 1) noTables ∷ counts ∷ []) (refused 1 ∷ counters 4 4 0 (pos 0) ∷ [])
+    ∷ from-closed (takes 131 (no-data 1) noTables ∷ takes-in (no-data 1) ∷ []) (refused 1 ∷ refused 21 ∷ [])
     ∷ []
 
 -- ── the other calls
@@ -207,6 +221,10 @@ calls =
     (command 9 0 16 ∷ performed ∷ reads 7 0x1000 512 0 ∷ performed ∷ rsp 1 1 9 0x04 0 100 0 0 0 [] ∷ [])
     -- a status other than 02h, with no sense; UCSOLNT not set
     ∷ on-port (takes-in (cmd 2 0 0 0 9 0 0 []) ∷ finishes 132 9 8 [] ∷ []) (command 9 0 16 ∷ performed ∷ rsp 0 1 9 0 8 0 0 0 0 [] ∷ [])
+    -- the longest sense
+    ∷ on-port (takes-in (no-data 9) ∷ finishes 132 9 2 (replicate 96 0x55) ∷ []) (command 9 0 16 ∷ performed ∷ rsp 0 1 9 0x02 2 0 0 96 0 (replicate 96 0x55) ∷ [])
+    -- 1 before 21
+    ∷ from-closed (finishes 131 1 0 [] ∷ grants 131 ∷ closes 131 0 ∷ []) (refused 1 ∷ refused 1 ∷ refused 1 ∷ [])
     -- close, and every call on a closed port
     ∷ from-closed (logs-in-with 4 0x10 ∷ closes 131 5 ∷ closes 132 0x01020304 ∷ takes-in (no-data 1) ∷ plans 1 0 0 ∷ steps 1 In ∷ finish 1 ∷ adds 0 ∷ withdraws 0 ∷ grants 132
     ∷ closes 132 0 ∷ counts ∷ lists 0 ∷ [])
@@ -246,6 +264,7 @@ logins =
     ∷ logged usual (login-req 1000 6 2 (replicate 16 0)) (rejected 0x10000 ∷ login-rej 0x10000 6 ∷ [])
     ∷ logged usual (login-req 1000 6 3 (replicate 16 0)) (rejected 0x10000 ∷ login-rej 0x10000 6 ∷ [])
     ∷ logged usual (login-req 1000 6 0 (replicate 16 7)) (rejected 0x10003 ∷ login-rej 0x10003 6 ∷ [])
+    ∷ logged usual (login-req 1000 6 0 (6 ∷ replicate 14 7 ++ (8 ∷ []))) (rejected 0x10003 ∷ login-rej 0x10003 6 ∷ [])
     -- accepted: the requested length, SOLNTSUP, the supported formats
     ∷ from-closed (logs-in (settings 16 1048576 1364 false false) 132 (login-req 64 0 0xcc own) ∷ counts ∷ takes-in (replicate 65 2) ∷ [])
     (accepted ∷ message (0xc0 ∷ 0 ∷ 0 ∷ 0 ∷ bytesOf 4 16 ++ (bytesOf 8 77 ++ (bytesOf 4 64 ++ (bytesOf 4 132 ++ (0 ∷ 2 ∷ replicate 26 0))))) ∷ counters 16 16 0 (pos 0)
@@ -261,6 +280,10 @@ logins =
 
 abbrev pub looked : List ℕ → List Seen → Row
 looked s ss = from-closed (looks 1364 6 s 32 ∷ []) ss
+
+-- 1,364 bytes: 63 words more of CDB, and 32 copies each way, all of zero-length segments
+abbrev pub longest : List ℕ
+longest = cmd 0 0x22 32 32 9 0 252 (replicate 252 0 ++ (segment 0 0 512 ++ (bytesOf 4 0 ++ (replicate 512 0 ++ (segment 0 0 512 ++ (bytesOf 4 0 ++ replicate 512 0))))))
 
 abbrev pub outside : List Row
 outside =
@@ -285,6 +308,12 @@ outside =
     ∷ performed ∷ message (segment 0x5000 7 50 ++ bytesOf 4 600 ++ replicate 12 0) ∷ performed ∷ message (replicate 32 0) ∷ performed ∷ message (replicate 32 0) ∷ performed ∷ message (replicate 32 0) ∷ [])
     -- the CDB, with the additional bytes; none where look refuses
     ∷ from-closed (cdbs (cmd 0 0 0 0 9 0 7 (1 ∷ 2 ∷ 3 ∷ 4 ∷ [])) ∷ cdbs (take 47 (no-data 1)) ∷ []) (text (replicate 16 0xcd ++ (1 ∷ 2 ∷ 3 ∷ 4 ∷ [])) ∷ text [] ∷ [])
+    -- cutlist: out before in; the longest command, and one byte more
+    ∷ from-closed (prints (cmd 0 0x11 0 0 9 0 0 (segment 0x1000 7 10 ++ segment 0x2000 8 2)) ∷ prints longest ∷ prints (longest ++ (0 ∷ [])) ∷ [])
+    (text
+    (0x52 ∷ 0x20 ∷ replicate 7 0x30 ++ (0x37 ∷ 0x20 ∷ replicate 12 0x30 ++ (0x31 ∷ 0x30 ∷ 0x30 ∷ 0x30 ∷ 0x20 ∷ 0x31 ∷ 0x30 ∷ 0x0a
+    ∷ 0x57 ∷ 0x20 ∷ replicate 7 0x30 ++ (0x38 ∷ 0x20 ∷ replicate 12 0x30 ++ (0x32 ∷ 0x30 ∷ 0x30 ∷ 0x30 ∷ 0x20 ∷ 0x32 ∷ 0x0a ∷ [])))))
+    ∷ text [] ∷ text (0x72 ∷ 0x65 ∷ 0x66 ∷ 0x75 ∷ 0x73 ∷ 0x65 ∷ 0x64 ∷ 0x20 ∷ 0x33 ∷ 0x0a ∷ []) ∷ [])
     -- cutlist: document 01's example, no data, a refusal, a fetch ahead of 10, 10, and every hexadecimal digit
     ∷ from-closed (prints direct-in ∷ prints (no-data 1) ∷ prints [] ∷ prints (table 0 32 1 []) ∷ prints (cmd 0 0x20 0 0 9 0 0 (segment 0x9000 5 32 ++ bytesOf 4 1)) ∷ prints (table 2 32 301 two-entries)
     ∷ prints (cmd 0 0x10 0 0 9 0 0 (segment 0x0123456789abcdef 0xfedcba98 10)) ∷ [])
@@ -331,6 +360,7 @@ answers =
     ∷ CreditSettled
     ∷ LoggedOut
     ∷ Operation Read (piece 0x1000 7 512 1024)
+    ∷ Operation Write (piece 0x1000 7 512 1024)
     ∷ Done
     ∷ Accepted
     ∷ Rejected 0x10003
@@ -346,7 +376,8 @@ answerValues =
     ∷ (0, pos 9 ∷ pos 5 ∷ [])
     ∷ (0, [])
     ∷ (0, [])
-    ∷ (0, pos 7 ∷ pos 0x1000 ∷ pos 512 ∷ pos 1024 ∷ [])
+    ∷ (0, pos 1 ∷ pos 7 ∷ pos 0x1000 ∷ pos 512 ∷ pos 1024 ∷ [])
+    ∷ (0, pos 2 ∷ pos 7 ∷ pos 0x1000 ∷ pos 512 ∷ pos 1024 ∷ [])
     ∷ (0, [])
     ∷ (0, [])
     ∷ (0, pos 0x10003 ∷ [])

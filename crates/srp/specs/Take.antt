@@ -146,10 +146,7 @@ abbrev pub takeBy : Option Refusal → Port → List ℕ → Tables → Message 
 takeBy none p s t m = accepted p s t m
 takeBy (some r) p s t m = refusedBy p m r
 
--- a message that is read already: behind 1 and 21, and with them
-abbrev pub laterDef : Port → List ℕ → Tables → Message → Outcome
-laterDef p s t m = takeBy (firstOf (laterChecks p s t m)) p s t m
-
+-- a message that is read already
 abbrev pub takeRead : Port → ℕ → List ℕ → Tables → Message → Outcome
 takeRead p room s t m = takeBy (firstOf (takeChecks p room s t m)) p s t m
 
