@@ -8,6 +8,7 @@ use Rattle.srp.specs.Bytes.{number, bytesOf, Layout}
 use Rattle.srp.specs.Messages.{layouts}
 use Rattle.srp.specs.Requests.{readMessage}
 use Rattle.srp.specs.Cutting.{piece}
+use Rattle.srp.specs.Writing.{placed}
 use Rattle.srp.specs.Calls.{wrapped}
 use Rattle.srp.specs.Answers.{returned, valuesOf}
 use Rattle.srp.specs.declared.Reply.{Reply}
@@ -34,6 +35,10 @@ named-bits = refl
 -- numbers stand with their highest byte first
 pub big-endian : (number 0 (1 ∷ 2 ∷ 3 ∷ 4 ∷ []) ≡ 0x01020304) × (bytesOf 4 0x01020304 ≡ 1 ∷ 2 ∷ 3 ∷ 4 ∷ [])
 big-endian = (refl, refl)
+
+-- a message in its buffer, and none
+pub places : (placed ((1 ∷ 2 ∷ []) ∷ []) (7 ∷ 8 ∷ 9 ∷ []) ≡ 1 ∷ 2 ∷ 9 ∷ []) × (placed [] (7 ∷ 8 ∷ 9 ∷ []) ≡ 7 ∷ 8 ∷ 9 ∷ [])
+places = (refl, refl)
 
 -- an address in 64 bits
 pub wraps : wrapped (piece (2 ^ 64 + 5) 7 512 1024) ≡ piece 5 7 512 1024

@@ -17,7 +17,7 @@ use Rattle.srp.specs.Login.{Settings, loginChecks, rejections, opened, j
 use Rattle.srp.specs.Take.{Outcome, Tables, hasTag, takeChecks}
 use Rattle.srp.specs.Calls.{isPlanned, planChecks, nextOf, handOut, stepChecks, finishChecks, addChecks, withdrawChecks, grantChecks}
 use Rattle.srp.specs.Answers.{refusalIn}
-use Rattle.srp.specs.Machine.{Track, trackHasTag, hasPlan, Event, sends, delivers, takes, plans, steps, finishes, adds, withdraws, grants, Machine, wantedBy, Terms, read, settle, after, byLogout, closes, takeFront, call, start, termsOf}
+use Rattle.srp.specs.Machine.{Track, trackHasTag, hasPlan, Event, sends, delivers, takes, plans, steps, finishes, adds, withdraws, grants, Machine, Terms, read, settle, after, byLogout, closes, takeFront, call, start, termsOf}
 use Rattle.srp.specs.Demand.{Until, Allowed, takeSeen, frontSeen, Refuses, Answers, Then, Run, Fair, Demand, Meets}
 use Rattle.srp.specs.declared.Refusal.{Refusal}
 use Rattle.srp.specs.declared.Direction.{Direction}

@@ -1,17 +1,19 @@
 -- Demand 3 is not empty: the definitions themselves make the calls, every list of events has its run of them, and P8's sum is read off the theorem.
 -- Assumes nothing.
-use mathlib.Core.Path.{_≡_, refl}
-use mathlib.Core.Bool.{true}
+use mathlib.Core.Path.{_≡_, refl, ap}
+use mathlib.Core.Bool.{Bool, true, false, cond}
 use mathlib.Core.List.{List, [], _∷_}
-use Prim.Native.Nat.{ℕ}
-use lib.Dec.{lit≤}
-use lib.IntN.{pos, negsuc, subℕ, _+ℤ_}
+use Prim.Native.Nat.{ℕ, suc, _+_, _-_}
+use native.Mathlib.Omega.{arith}
+use lib.Dec.{lit≤, ltb}
+use borrow.Author.Tests.{ltb-false}
+use lib.IntN.{ℤ, pos, negsuc, _+ℤ_}
 use Rattle.srp.specs.Requests.{readMessage}
-use Rattle.srp.specs.Credit.{Port}
+use Rattle.srp.specs.Credit.{Port, owed}
 use Rattle.srp.specs.Take.{Outcome}
 use Rattle.srp.specs.Login.{Settings, loginDef}
 use Rattle.srp.specs.Machine.{Event, sends, takes, withdraws, Machine, Terms, termsOf, start, after, call}
-use Rattle.srp.specs.Demand.{Run, Fair, Demand, Meets}
+use Rattle.srp.specs.Demand.{Now, Run, Fair, Demand, Meets}
 use Rattle.srp.specs.Outside.{noTables}
 use Rattle.srp.specs.Rows.{login-req, own, settings, no-data}
 use Rattle.srp.specs.declared.Reply.{Reply}
@@ -44,20 +46,48 @@ module _ (c : Settings) (room : ℕ) (l : List ℕ) (agreed : loginDef c room l 
 
 -- ── P8, drawn from the theorem
 
-abbrev c4 : Settings
+abbrev pub c4 : Settings
 c4 = settings 4 512 1364 true true
 
-abbrev l4 : List ℕ
+abbrev pub l4 : List ℕ
 l4 = login-req 1364 6 0 own
 
-abbrev p8 : List Event
+abbrev pub p8 : List Event
 p8 = sends (no-data 1) ∷ takes 132 noTables ∷ sends (no-data 2) ∷ takes 132 noTables ∷ withdraws 3 ∷ []
 
 fair : Fair (termsOf c4 l4) (λ p. p) (Call (termsOf c4 l4)) (loginDef c4 132 l4 .port) (start 4) p8 (itself c4 132 l4 refl p8)
 unfolding readMessage
 fair = ((λ _. lit≤ tt), (tt, ((λ _. lit≤ tt), (tt, (tt, tt)))))
 
--- two requests held and two still announced, so D = -3
-pub p8-sum : pos 4 +ℤ negsuc 2 ≡ subℕ 4 3
+-- the port and the machine after a list of events
+abbrev pub ends : Terms → List Event → Port → Machine → Port × Machine
+ends T [] p m = (p, m)
+ends T (e ∷ es) p m =
+    let o : Outcome = call T p m e in
+    ends T es (o .port) (after T m e (o .reply) (o .wrote))
+
+abbrev pub end8 : Port × Machine
+end8 = ends (termsOf c4 l4) p8 (loginDef c4 132 l4 .port) (start 4)
+
+-- what the theorem says of the end of P8
+last : Now (termsOf c4 l4) (end8 .1) (end8 .0)
 unfolding readMessage
-p8-sum = demand c4 132 l4 refl p8 fair .2 .2 .2 .2 .2 .sum
+last = demand c4 132 l4 refl p8 fair .2 .2 .2 .2 .2
+
+abbrev size : ℤ → ℕ
+size (pos k) = k
+size (negsuc k) = 0
+
+-- with 2 announced and unused, 2 held and W = 1, D can only be -3
+only : (d : ℤ) → pos 4 +ℤ d ≡ pos 1 → d ≡ negsuc 2
+only (pos n) e = let z : 4 + n ≡ 1 = ap size e in absurd (omega arith)
+only (negsuc n) e = go (ltb 4 (suc n)) refl e
+  where
+    go : (b : Bool) → ltb 4 (suc n) ≡ b → cond b (negsuc (suc n - 5)) (pos (4 - suc n)) ≡ pos 1 → negsuc n ≡ negsuc 2
+    go true t f = let z : _≡_ {A = ℕ} 0 1 = cc in absurd (omega arith)
+    go false t f = let z : 4 - suc n ≡ 1 = ap size f in ap negsuc (omega (arith, ltb-false 4 (suc n) t))
+
+-- P8's claim, drawn from demand 3
+pub p8-owes : owed (end8 .0) ≡ negsuc 2
+unfolding readMessage
+p8-owes = only (owed (end8 .0)) (last .sum)

@@ -8,6 +8,7 @@ use lib.Dec.{ltb}
 use lib.ListN.{length, length-replicate}
 use borrow.Author.Tests.{ltb-true}
 use Rattle.srp.specs.Bytes.{Field, bytes, bits, get, put, gets, puts, zeros, Layout, kind, typeOf, write, bound, InRange, inside, apart, apartFrom, sound}
+use Rattle.srp.specs.Lists.{All}
 use Rattle.srp.specs.Messages.{layouts}
 use Rattle.srp.proofs.Fields.{both, length-put, get-put, get-put-apart, apart-sym, get-append, zeros-read}
 
@@ -101,10 +102,6 @@ written l ok vs r =
 abbrev pub every : (Layout → Bool) → List Layout → Bool
 every p [] = true
 every p (l ∷ ls) = p l && every p ls
-
-abbrev pub All : (Layout → Type 0) → List Layout → Type 0
-All P [] = Unit {0}
-All P (l ∷ ls) = P l × All P ls
 
 -- a test of each layout gives a fact of each
 pub all : (p : Layout → Bool) (P : Layout → Type 0) → ((l : Layout) → p l ≡ true → P l) → (ls : List Layout) → every p ls ≡ true → All P ls

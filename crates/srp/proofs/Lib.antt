@@ -10,6 +10,7 @@ pub mod Alike
 pub mod Unread
 pub mod CutLaws
 pub mod Pieces
+pub mod Listing
 pub mod Owed
 pub mod Ranges
 pub mod Sent

@@ -16,8 +16,7 @@ use Rattle.srp.specs.Refusals.{Check, firstOf}
 use Rattle.srp.specs.Descriptors.{agrees, descriptorOf, badCount, fetchOf}
 use Rattle.srp.specs.Requests.{flag, exactLength, outDescriptor, inDescriptor, commandOf, commandChecks, taskOf, unlessBad, lengthChecks, byType, readMessage, otherFormats, lookChecks, lookDef}
 use Rattle.srp.specs.Initiator.{Buffer, noData, direct, indirect, formatOf, countOf, Fields, values, commandBytes}
-use Rattle.srp.specs.Credit.{Port}
-use Rattle.srp.specs.Login.{Settings, opened, loginDef}
+use Rattle.srp.specs.Login.{Settings, opened, loginDef, openedBy}
 use Rattle.srp.specs.declared.Refusal.{Refusal}
 use Rattle.srp.specs.declared.Refusal.the-variants.{OtherType}
 use Rattle.srp.specs.declared.Descriptor.{Descriptor}
@@ -104,22 +103,6 @@ command-received agreed formats c h l fo fi ko ki ao ai n = go (commandBytes c) 
         by-length agreed formats s (omega arith) n ∙ rw (r .code, z, e)
 
 -- ── login
-
--- the port that the values of a login request open
-abbrev pub openedBy : Settings → ℕ → ℕ → ℕ → ℕ → Port
-openedBy c n f r o =
-    record {
-      live = true;
-      wanted = c .buffers;
-      announced = c .buffers;
-      held = [];
-      unanswered = false;
-      maximum = c .maximum;
-      agreed = n;
-      formats = f;
-      crsolnt = flag r;
-      losolnt = flag o;
-    }
 
 login-read : (c : Settings) (s : List ℕ) (t n f r o a i g : ℕ) → gets (loginReq .fields) s ≡ t ∷ n ∷ f ∷ r ∷ o ∷ a ∷ i ∷ g ∷ [] → opened c s ≡ openedBy c n f r o
 login-read c s t n f r o a i g v = cc

@@ -1,6 +1,6 @@
 -- Each call writes the messages that document 01 has it write, by its reply, and no other.
 -- Assumes nothing.
-use mathlib.Core.Path.{_≡_, refl, ap, sym, _∙_, subst}
+use mathlib.Core.Path.{_≡_, refl, ap, sym, _∙_}
 use mathlib.Core.Bool.{Bool, true, false, cond, true≢false}
 use mathlib.Core.List.{List, [], _∷_, map}
 use mathlib.Core.Option.{Option, none, some}
@@ -11,9 +11,8 @@ use Rattle.srp.specs.Bytes.{typeOf}
 use Rattle.srp.specs.Lists.{find, isSome}
 use Rattle.srp.specs.Refusals.{numberOf, firstOf, hangsUp}
 use Rattle.srp.specs.Requests.{readMessage}
-use Rattle.srp.specs.Credit.{Open, Port, withHeld, withUnanswered}
-use Rattle.srp.specs.Writing.{creditRequest}
-use Rattle.srp.specs.Take.{Outcome, silent, answering, hangUp, hasTag, isOpen, Tables, takeChecks, accepted, answerBad, takeBy, takeRead}
+use Rattle.srp.specs.Credit.{Open, Port}
+use Rattle.srp.specs.Take.{Outcome, silent, hangUp, hasTag, isOpen, Tables, takeChecks, accepted, answerBad, takeBy, takeRead}
 use Rattle.srp.specs.Calls.{unless, planChecks, nextOf, handOut, stepChecks, finalResponse, finishChecks, addChecks, withdrawChecks, grantChecks}
 use Rattle.srp.specs.Answers.{refusalIn}
 use Rattle.srp.specs.Machine.{Event, sends, delivers, takes, plans, steps, finishes, adds, withdraws, grants, Machine, Terms, read, call, takeFront}

@@ -51,9 +51,9 @@ rejections c s =
     ∷ (not (sameBytes (part targetIdentifier s) (c .own)), 0x00010003)
     ∷ []
 
--- "After login W = A = N, H = D = 0"
-abbrev pub opened : Settings → List ℕ → Port
-opened c s =
+-- "After login W = A = N, H = D = 0"; then the agreed length and formats, CRSOLNT and LOSOLNT
+abbrev pub openedBy : Settings → ℕ → ℕ → ℕ → ℕ → Port
+openedBy c agreed formats crsolnt losolnt =
     record {
       live = true;
       wanted = c .buffers;
@@ -61,11 +61,14 @@ opened c s =
       held = [];
       unanswered = false;
       maximum = c .maximum;
-      agreed = get requestedLength s;
-      formats = get formatBits s;
-      crsolnt = flag (get loginCrsolnt s);
-      losolnt = flag (get loginLosolnt s);
+      agreed = agreed;
+      formats = formats;
+      crsolnt = flag crsolnt;
+      losolnt = flag losolnt;
     }
+
+abbrev pub opened : Settings → List ℕ → Port
+opened c s = openedBy c (get requestedLength s) (get formatBits s) (get loginCrsolnt s) (get loginLosolnt s)
 
 abbrev pub loginResponse : Settings → List ℕ → List ℕ
 loginResponse c s =
