@@ -1,5 +1,5 @@
 -- Demand 3, of whatever makes the calls as the definitions have them: one theorem over lists of events.
--- It is stated in specs/Machine.antt (Demand). Its premises are an accepted login, a run whose calls meet their definitions (Meets), and an
+-- It is stated in specs/Demand.antt (Demand). Its premises are an accepted login, a run whose calls meet their definitions (Meets), and an
 -- initiator that sends requests only with a limit of at least 1 (Fair). That the initiator answers each
 -- credit request at most once, which demand 3 allows to assume, is not needed.
 -- Assumes nothing.

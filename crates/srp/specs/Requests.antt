@@ -8,7 +8,9 @@ use lib.ListN.{length, take, drop}
 use Rattle.srp.specs.Bytes.{get, typeOf}
 use Rattle.srp.specs.Messages.{tag, lun, ucsolnt, scsolnt, taskFunction, taskTag, outFormat, inFormat, outCount, inCount, additional, tskMgmt, cmd, iLogout, credRsp}
 use Rattle.srp.specs.Refusals.{Check, firstOf}
-use Rattle.srp.specs.Descriptors.{descriptorSize, agrees, descriptorOf, badCount, fetchOf}
+use Rattle.srp.specs.Descriptors.{descriptorSize, agrees, descriptorOf, badCount, fetchOf, segmentBytes}
+use Rattle.srp.specs.declared.Direction.{Direction}
+use Rattle.srp.specs.declared.Direction.the-variants.{Out, In}
 use Rattle.srp.specs.declared.Refusal.{Refusal}
 use Rattle.srp.specs.declared.Refusal.the-variants.{Setting, Length, OtherType, OutFormat, InFormat, OutCount, InCount}
 use Rattle.srp.specs.declared.Descriptor.{Descriptor}
@@ -138,3 +140,11 @@ lookDef agreed formats s =
 -- the CDB's part of a message, empty where look refuses it
 abbrev pub cdbDef : ℕ → ℕ → List ℕ → List ℕ
 cdbDef agreed formats s = elim (firstOf (lookChecks agreed formats s)) [ none ↦ take (cdbLength s) (drop 32 s) | some r ↦ [] ]
+
+abbrev pub descriptorFor : Direction → List ℕ → Descriptor
+descriptorFor Out s = outDescriptor s
+descriptorFor In s = inDescriptor s
+
+-- the segments' part of a message or of the table lent for it, empty where look refuses the message
+abbrev pub segmentsDef : Direction → ℕ → ℕ → List ℕ → List ℕ → List ℕ
+segmentsDef d agreed formats s table = elim (firstOf (lookChecks agreed formats s)) [ none ↦ segmentBytes (descriptorFor d s) s table | some r ↦ [] ]

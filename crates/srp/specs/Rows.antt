@@ -7,7 +7,7 @@ use lib.IntN.{ℤ}
 use lib.ListN.{length, replicate}
 use Rattle.srp.specs.Bytes.{bytesOf}
 use Rattle.srp.specs.Refusals.{numberOf}
-use Rattle.srp.specs.Requests.{cdbDef}
+use Rattle.srp.specs.Requests.{cdbDef, segmentsDef}
 use Rattle.srp.specs.Credit.{Port, closedPort}
 use Rattle.srp.specs.Take.{Outcome, Tables, takeDef}
 use Rattle.srp.specs.Calls.{planDef, stepDef, finishDef, addDef, withdrawDef, grantDef, closeDef, countersDef, listDef, listing}
@@ -35,10 +35,11 @@ pub data Act : Type 0 where
   closes : ℕ → ℕ → Act
   counts : Act
   lists : ℕ → Act
-  -- calls without a port: look and the cut in C, the CDB, cutlist
+  -- calls without a port: look and the cut in C, the CDB, the segments, cutlist
   looks : ℕ → ℕ → List ℕ → ℕ → Act
   cuts : List ℕ → ℕ → ℕ → ℕ → ℕ → Act
   cdbs : List ℕ → Act
+  parts : Direction → List ℕ → List ℕ → Act
   prints : List ℕ → Act
 
 -- what is seen of a reply; an operation is its kind, handle, address, length and offset
@@ -108,6 +109,7 @@ act p (lists n) = called (listDef p n)
 act p (looks agreed formats s room) = answered p (lookInC agreed formats s room)
 act p (cuts list M R handed room) = answered p (cutInC list M R handed room)
 act p (cdbs s) = shown p (text (cdbDef 1364 6 s))
+act p (parts d s table) = shown p (text (segmentsDef d 1364 6 s table))
 act p (prints s) = shown p (text (cutlist s))
 
 -- each act's reply, then its message

@@ -17,7 +17,7 @@ use Rattle.srp.specs.Bytes.{number, write}
 use Rattle.srp.specs.Messages
 use Rattle.srp.specs.Messages.{loginReq, tskMgmt, iLogout, credRsp}
 use Rattle.srp.specs.Outside.{noTables}
-use Rattle.srp.specs.Rows.{Act, Row, Seen, accepted, adds, cred-req, tag-only, t-logout, cdbs, closes, cmd, rsp-code, command, counters, counts, cuts, done, finish, finishes, rsp-good, grants, listed, lists, logged-out, login-req, logs-in, looks, message, no-data, logs-in-with, own, performed, plans, prints, reads, refused, rejected, login-rej, rsp, segment, settings, settled, steps, steps-in, takes, takes-in, task, text, tsk-mgmt, login-rsp, with-table, withdraws, writes}
+use Rattle.srp.specs.Rows.{parts, Act, Row, Seen, accepted, adds, cred-req, tag-only, t-logout, cdbs, closes, cmd, rsp-code, command, counters, counts, cuts, done, finish, finishes, rsp-good, grants, listed, lists, logged-out, login-req, logs-in, looks, message, no-data, logs-in-with, own, performed, plans, prints, reads, refused, rejected, login-rej, rsp, segment, settings, settled, steps, steps-in, takes, takes-in, task, text, tsk-mgmt, login-rsp, with-table, withdraws, writes}
 
 -- a row on a port that a login with 4 buffers opened
 abbrev pub on-port : List Act → List Seen → Row
@@ -308,6 +308,10 @@ outside =
     ∷ performed ∷ message (segment 0x5000 7 50 ++ bytesOf 4 600 ++ replicate 12 0) ∷ performed ∷ message (replicate 32 0) ∷ performed ∷ message (replicate 32 0) ∷ performed ∷ message (replicate 32 0) ∷ [])
     -- the CDB, with the additional bytes; none where look refuses
     ∷ from-closed (cdbs (cmd 0 0 0 0 9 0 7 (1 ∷ 2 ∷ 3 ∷ 4 ∷ [])) ∷ cdbs (take 47 (no-data 1)) ∷ []) (text (replicate 16 0xcd ++ (1 ∷ 2 ∷ 3 ∷ 4 ∷ [])) ∷ text [] ∷ [])
+    -- the segments: the copies where they are the whole table, else the table; a direct descriptor; none where look refuses
+    ∷ from-closed (parts In (table 2 32 300 two-entries) entries ∷ parts In (table 1 32 300 (take 16 two-entries)) two-entries ∷ parts Out (table 2 32 300 two-entries) entries
+    ∷ parts In direct-in entries ∷ parts Out (cmd 0 0x10 0 0 9 0 0 (segment 0x1000 7 5)) entries ∷ parts In (take 47 (no-data 1)) entries ∷ [])
+    (text two-entries ∷ text two-entries ∷ text [] ∷ text (segment 0x1000 7 1300) ∷ text (segment 0x1000 7 5) ∷ text [] ∷ [])
     -- cutlist: out before in; the longest command, and one byte more
     ∷ from-closed (prints (cmd 0 0x11 0 0 9 0 0 (segment 0x1000 7 10 ++ segment 0x2000 8 2)) ∷ prints longest ∷ prints (longest ++ (0 ∷ [])) ∷ [])
     (text
