@@ -15,7 +15,8 @@ use borrow.Author.Tests.{ltb-false, leb-false, eqb-true, eqb-false, not-false}
 use Rattle.srp.specs.Bytes.{bytes, number, get}
 use Rattle.srp.specs.Messages.{tag, outFormat, inFormat, outCount, inCount, segmentLength}
 use Rattle.srp.specs.Lists.{find, change, without, All}
-use Rattle.srp.specs.Refusals.{numberOf, firstOf, hangsUp, bufferSize, short}
+use Rattle.srp.specs.Limits.{bufferSize}
+use Rattle.srp.specs.Refusals.{numberOf, firstOf, hangsUp, short}
 use Rattle.srp.specs.Descriptors.{segmentsIn, segmentsOf, segments, sumOf, reachable, descriptorOf, goodTable, copiesAgree, goodFields}
 use Rattle.srp.specs.Requests.{outAt, inAt, outDescriptor, inDescriptor, commandOf, readMessage}
 use Rattle.srp.specs.Cutting.{next, badMaximum}

@@ -7,14 +7,15 @@ use mathlib.Core.List.{List, [], _∷_, _++_}
 use mathlib.Core.Option.{Option, none, some}
 use Prim.Native.Nat.{ℕ, _+_, _*_, _/_, _≤_}
 use native.Mathlib.Omega.{arith}
-use lib.Dec.{ltb, eqb}
+use lib.Dec.{eqb}
 use lib.ListN.{length}
 use borrow.Author.Tests.{le-ltb, eq-eqb}
+use Rattle.srp.specs.Limits.{bothFormats}
 use Rattle.srp.specs.Bytes.{get, gets, typeOf, write, InRange}
 use Rattle.srp.specs.Messages.{outFormat, inFormat, loginReq, tskMgmt, cmd, iLogout, credRsp}
 use Rattle.srp.specs.Refusals.{Check, firstOf}
 use Rattle.srp.specs.Descriptors.{agrees, descriptorOf, badCount, fetchOf}
-use Rattle.srp.specs.Requests.{flag, exactLength, outDescriptor, inDescriptor, commandOf, commandChecks, taskOf, unlessBad, lengthChecks, byType, readMessage, otherFormats, lookChecks, lookDef}
+use Rattle.srp.specs.Requests.{flag, exactLength, outDescriptor, inDescriptor, commandOf, commandChecks, taskOf, unlessBad, lengthChecks, byType, readMessage, otherFormats, lookChecks, lookDef, badLength}
 use Rattle.srp.specs.Initiator.{Buffer, noData, direct, indirect, formatOf, countOf, Fields, values, commandBytes}
 use Rattle.srp.specs.Login.{Settings, opened, loginDef, openedBy}
 use Rattle.srp.specs.declared.Refusal.{Refusal}
@@ -130,7 +131,7 @@ abbrev lookBy : Option Refusal → List ℕ → Look
 lookBy o s = elim o [ none ↦ Fetches (fetchOf (outDescriptor s) s) (fetchOf (inDescriptor s) s) | some r ↦ LookRefused r ]
 
 -- a message of type 02h, and settings in range
-module _ (agreed formats : ℕ) (s : List ℕ) (k : typeOf s ≡ cmd .code) (e : (ltb agreed 64 || (ltb 1364 agreed || otherFormats 6 formats)) ≡ false) where
+module _ (agreed formats : ℕ) (s : List ℕ) (k : typeOf s ≡ cmd .code) (e : (badLength agreed || otherFormats bothFormats formats) ≡ false) where
   -- take reads it as a command unless one of look's checks hits, and then as bad by that check's refusal
   pub look-as-take : readMessage agreed formats s ≡ unlessBad (firstOf (lookChecks agreed formats s)) (Cmd (commandOf s))
   unfolding readMessage

@@ -15,7 +15,8 @@ use borrow.Author.Tests.{ltb-false, leb-true}
 use Rattle.srp.specs.Bytes.{bit, get, gets, typeOf, write, InRange}
 use Rattle.srp.specs.Messages.{tag, requestedLength, rsp, credReq, tLogout, loginRsp, loginRej, responseLength, senseLength}
 use Rattle.srp.specs.Lists.{find, without, isSome, All}
-use Rattle.srp.specs.Refusals.{numberOf, firstOf, hangsUp, reasonOf, bufferSize, short}
+use Rattle.srp.specs.Limits.{bufferSize}
+use Rattle.srp.specs.Refusals.{numberOf, firstOf, hangsUp, reasonOf, short}
 use Rattle.srp.specs.Requests.{readMessage}
 use Rattle.srp.specs.Credit.{Side, Open, Port, due, withHeld}
 use Rattle.srp.specs.Writing.{Residual, even, over, under, residualOf, amount, isOver, isUnder, Response, responseBytes, responseValues, response, answer, targetLogout, solicited}

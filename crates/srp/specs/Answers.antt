@@ -4,6 +4,7 @@ use mathlib.Core.List.{List, [], _∷_}
 use mathlib.Core.Option.{Option, none, some}
 use Prim.Native.Nat.{ℕ}
 use lib.IntN.{ℤ, pos}
+use Rattle.srp.specs.Messages.{cmd}
 use Rattle.srp.specs.Refusals.{numberOf}
 use Rattle.srp.specs.declared.Refusal.{Refusal}
 use Rattle.srp.specs.declared.Kind.{Kind}
@@ -39,7 +40,7 @@ abbrev pub valuesOf : Reply → List ℤ
 valuesOf (Refused r) = []
 valuesOf Performed = []
 -- tag, LUN, the CDB's place in the message and its length
-valuesOf (NewCommand tag lun cdb) = pos tag ∷ pos lun ∷ pos 32 ∷ pos cdb ∷ []
+valuesOf (NewCommand tag lun cdb) = pos tag ∷ pos lun ∷ pos (cmd .size) ∷ pos cdb ∷ []
 valuesOf (TaskAnswered tag lun) = pos tag ∷ pos lun ∷ []
 valuesOf CreditSettled = []
 valuesOf LoggedOut = []

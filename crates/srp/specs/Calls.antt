@@ -6,6 +6,7 @@ use mathlib.Core.Option.{Option, none, some}
 use Prim.Native.Nat.{ℕ, _+_, _-_, _%_, _^_, min}
 use lib.Dec.{ltb, leb, eqb}
 use lib.ListN.{length, take, drop}
+use Rattle.srp.specs.Limits.{mostBuffers, longestSense}
 use Rattle.srp.specs.Lists.{find, change, without, Rearranged}
 use Rattle.srp.specs.Refusals.{Check, firstOf, short}
 use Rattle.srp.specs.Cutting.{piece, next}
@@ -91,7 +92,7 @@ stepDef p tag d = unless (firstOf (stepChecks p tag)) p (handOut p tag d (nextOf
 
 -- "sense above 96 bytes or any sense with a status other than 02h"
 abbrev pub badSense : ℕ → List ℕ → Bool
-badSense status sense = ltb 96 (length sense) || (ltb 0 (length sense) && not (eqb status 0x02))
+badSense status sense = ltb longestSense (length sense) || (ltb 0 (length sense) && not (eqb status 0x02))
 
 -- the response of a command (there is one where the checks passed)
 abbrev pub finalResponse : Option Open → ℕ → List ℕ → ℕ → List ℕ
@@ -121,7 +122,7 @@ finishDef p room tag status sense =
 
 -- "Add k: W + k, D + k"
 abbrev pub addChecks : Port → ℕ → List Check
-addChecks p k = closed p ∷ (eqb k 0, Argument) ∷ (ltb 16 (p .wanted + k), Wanted) ∷ []
+addChecks p k = closed p ∷ (eqb k 0, Argument) ∷ (ltb mostBuffers (p .wanted + k), Wanted) ∷ []
 
 abbrev pub addDef : Port → ℕ → Outcome
 addDef p k = unless (firstOf (addChecks p k)) p (silent (withWanted p (p .wanted + k)) Performed)
@@ -163,7 +164,7 @@ abbrev pub listing : Port → List Record
 listing p = map recordOf (p .held)
 
 abbrev pub listDef : Port → ℕ → Outcome
-listDef p room = unless (firstOf (closed p ∷ (ltb room 16, Argument) ∷ [])) p (silent p (Listed (length (p .held))))
+listDef p room = unless (firstOf (closed p ∷ (ltb room mostBuffers, Argument) ∷ [])) p (silent p (Listed (length (p .held))))
 
 -- the lent list before and after an unrefused listing: "each command once; their order is free, the rest of the list untouched"
 pub record Lists (p : Port) (before after : List Record) : Type 0 where

@@ -5,6 +5,7 @@ use mathlib.Core.Option.{Option, none, some}
 use Prim.Native.Nat.{ℕ, zero, suc, _+_, _-_, _%_, _^_, min}
 use lib.Dec.{ltb, leb, eqb}
 use lib.ListN.{length}
+use Rattle.srp.specs.Limits.{largestPiece, longestTable}
 use Rattle.srp.specs.Refusals.{Check, firstOf}
 use Rattle.srp.specs.Descriptors.{Segment, segmentsOf, sumOf, reachable}
 use Rattle.srp.specs.declared.Piece.{Piece}
@@ -53,14 +54,14 @@ next M from to ss = nextFrom M 0 from to ss
 
 -- "M 1 to 1,048,576"
 abbrev pub badMaximum : ℕ → Bool
-badMaximum M = eqb M 0 || ltb 1048576 M
+badMaximum M = eqb M 0 || ltb largestPiece M
 
 -- "2 for M out of range; 11 for a list not a multiple of 16 up to 512 bytes, or more handed out than min(R, B); 10 for a segment
 -- past 2^64 or a sum above 2^32 - 1; the list's 11 before 10, the other after"
 abbrev pub cutChecks : List ℕ → ℕ → ℕ → ℕ → List Check
 cutChecks list M R handed =
     (badMaximum M, Setting)
-    ∷ (not (eqb (length list % 16) 0) || ltb 512 (length list), Argument)
+    ∷ (not (eqb (length list % 16) 0) || ltb longestTable (length list), Argument)
     ∷ (not (reachable (segmentsOf list)) || leb (2 ^ 32) (sumOf (segmentsOf list)), Fields)
     ∷ (ltb (min R (sumOf (segmentsOf list))) handed, Argument)
     ∷ []

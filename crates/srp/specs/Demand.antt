@@ -9,6 +9,7 @@ use Prim.Native.Nat.{ℕ, _+_, _-_, _≤_}
 use lib.Dec.{eqb, ltb, leb}
 use lib.IntN.{ℤ, pos, subℕ, _+ℤ_}
 use lib.ListN.{length, take, getElem?}
+use Rattle.srp.specs.Limits.{mostBuffers}
 use Rattle.srp.specs.Bytes.{typeOf}
 use Rattle.srp.specs.Messages.{rsp, credReq, tLogout}
 use Rattle.srp.specs.Refusals.{numberOf, Check, firstOf, hangsUp, short}
@@ -151,7 +152,7 @@ module _ (T : Terms) where
   checks m (plans tag out inn) = (not (holds m tag), TagNotOpen) ∷ (hasPlan (find (trackHasTag tag) (m .tracks)), Planned) ∷ []
   checks m (steps tag d) = (not (holds m tag), TagNotOpen) ∷ (not (hasPlan (find (trackHasTag tag) (m .tracks))), Unplanned) ∷ []
   checks m (finishes room tag status sense) = short room ∷ (badSense status sense, Argument) ∷ (not (holds m tag), TagNotOpen) ∷ []
-  checks m (adds k) = (eqb k 0, Argument) ∷ (ltb 16 (wantedBy (T .buffers) m + k), Wanted) ∷ []
+  checks m (adds k) = (eqb k 0, Argument) ∷ (ltb mostBuffers (wantedBy (T .buffers) m + k), Wanted) ∷ []
   checks m (withdraws k) = (eqb k 0, Argument) ∷ (leb (wantedBy (T .buffers) m) k, Wanted) ∷ []
   checks m (grants room) = short room ∷ (m .waiting, Unanswered) ∷ (eqb (lack (T .buffers) m) 0, NotOwed) ∷ []
 
@@ -181,7 +182,7 @@ module _ (T : Terms) where
     pub sum : Sum m (owed p)
     pub reports : countersDef p .reply ≡ Counts (counted m (owed p))
     pub commands : m .taken ≡ m .ended + length (m .tracks)
-    pub lists : listDef p 16 .reply ≡ Listed (requestsHeld m)
+    pub lists : listDef p mostBuffers .reply ≡ Listed (requestsHeld m)
     pub listed : listing p ≡ map shownAs (m .tracks)
     pub distinct : Distinct (m .tracks)
     pub in-order : All (InOrder (T .maximum)) (m .tracks)

@@ -4,6 +4,7 @@ use mathlib.Core.List.{List, [], _∷_}
 use Prim.Native.Nat.{ℕ, zero, suc, _+_, _*_, _/_, _%_, _^_}
 use lib.Dec.{ltb, leb, eqb}
 use lib.ListN.{length, take, drop}
+use Rattle.srp.specs.Limits.{longestTable, mostCopies}
 use Rattle.srp.specs.Bytes.{get, behind}
 use Rattle.srp.specs.Messages.{address, handle, segmentLength, totalLength}
 use Rattle.srp.specs.declared.Descriptor.{Descriptor}
@@ -52,11 +53,11 @@ descriptorOf format count at s =
 
 -- refusals 7 and 8: "count above 32 or 16c above the table's length"
 abbrev pub badCount : Descriptor → Bool
-badCount d = eqb (d .format) 2 && (ltb 32 (d .count) || ltb (d .len) (16 * d .count))
+badCount d = eqb (d .format) 2 && (ltb mostCopies (d .count) || ltb (d .len) (16 * d .count))
 
 -- "a multiple of 16 from 16 to 512"
 abbrev pub goodTable : ℕ → Bool
-goodTable n = leb 16 n && (leb n 512 && eqb (n % 16) 0)
+goodTable n = leb 16 n && (leb n longestTable && eqb (n % 16) 0)
 
 -- the message's copies are the whole table
 abbrev pub whole : Descriptor → Bool

@@ -5,11 +5,12 @@ use mathlib.Core.Option.{Option, none, some}
 use Prim.Native.Nat.{ℕ}
 use lib.Dec.{ltb, eqb}
 use lib.ListN.{length}
+use Rattle.srp.specs.Limits.{bufferSize, mostBuffers, shortestAgreed, directOnly, bothFormats}
 use Rattle.srp.specs.Bytes.{bit, get, part, typeOf, write}
 use Rattle.srp.specs.Messages.{tag, formatBits, requestedLength, loginCrsolnt, loginLosolnt, channelAction, targetIdentifier, loginReq, loginRsp, loginRej}
-use Rattle.srp.specs.Refusals.{Check, firstOf, bufferSize, short}
+use Rattle.srp.specs.Refusals.{Check, firstOf, short}
 use Rattle.srp.specs.Descriptors.{sameBytes}
-use Rattle.srp.specs.Requests.{flag, otherFormats}
+use Rattle.srp.specs.Requests.{flag, otherFormats, badLength}
 use Rattle.srp.specs.Cutting.{badMaximum}
 use Rattle.srp.specs.Credit.{Port, closedPort}
 use Rattle.srp.specs.Take.{Outcome, silent}
@@ -29,7 +30,7 @@ pub record Settings : Type 0 where
 -- "N 1 to 16, M 1 to 1,048,576, X 64 to 1,364"
 abbrev pub badSettings : Settings → Bool
 badSettings c =
-    eqb (c .buffers) 0 || (ltb 16 (c .buffers) || (badMaximum (c .maximum) || (ltb (c .longest) 64 || ltb 1364 (c .longest))))
+    eqb (c .buffers) 0 || (ltb mostBuffers (c .buffers) || (badMaximum (c .maximum) || badLength (c .longest)))
 
 -- "Refused 1, 2, 3 (not 64 bytes), 4 in that order"
 abbrev pub loginChecks : Settings → ℕ → List ℕ → List Check
@@ -38,12 +39,12 @@ loginChecks c room s =
 
 -- "supported formats (0006h or 0002h)"
 abbrev pub supported : Settings → ℕ
-supported c = cond (c .indirect) 0x0006 0x0002
+supported c = cond (c .indirect) bothFormats directOnly
 
 -- "Then the first that fits is rejected"
 abbrev pub rejections : Settings → List ℕ → List (Bool × ℕ)
 rejections c s =
-    (ltb (get requestedLength s) 64, 0x00010000)
+    (ltb (get requestedLength s) shortestAgreed, 0x00010000)
     ∷ (ltb (c .longest) (get requestedLength s), 0x00010002)
     ∷ (otherFormats (supported c) (get formatBits s), 0x00010004)
     ∷ (eqb (get channelAction s) 1, 0x00010005)

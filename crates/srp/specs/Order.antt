@@ -6,6 +6,7 @@ use mathlib.Core.List.{List, [], _∷_}
 use Prim.Native.Nat.{ℕ}
 use lib.Dec.{ltb, eqb}
 use lib.ListN.{length}
+use Rattle.srp.specs.Limits.{shortestMessage, shortestCommand}
 use Rattle.srp.specs.Bytes.{get, typeOf}
 use Rattle.srp.specs.Messages.{tag, outFormat, inFormat, tskMgmt, cmd, iLogout, credRsp}
 use Rattle.srp.specs.Refusals.{Check, short}
@@ -31,10 +32,10 @@ abbrev pub orderOf : ℕ → Port → ℕ → List ℕ → Tables → List Check
 orderOf k p room s t =
     short room
     ∷ closed p
-    ∷ (ltb (length s) 16, Length)
+    ∷ (ltb (length s) shortestMessage, Length)
     ∷ (ltb (p .agreed) (length s), Length)
     ∷ (not (isKnown k), OtherType)
-    ∷ (isCommand k && ltb (length s) 48, Length)
+    ∷ (isCommand k && ltb (length s) shortestCommand, Length)
     ∷ (isCommand k && not (agrees (p .formats) (get outFormat s)), OutFormat)
     ∷ (isCommand k && not (agrees (p .formats) (get inFormat s)), InFormat)
     ∷ (not (eqb (length s) (typeLength k s)), Length)

@@ -4,6 +4,7 @@ use mathlib.Core.List.{List, [], _∷_, _++_}
 use mathlib.Core.Option.{none, some}
 use Prim.Native.Nat.{ℕ, zero, suc, _+_, _/_, _%_, _^_}
 use lib.Dec.{ltb, eqb}
+use Rattle.srp.specs.Limits.{longestAgreed, bothFormats}
 use Rattle.srp.specs.Bytes.{bytesOf, puts, zeros}
 use Rattle.srp.specs.Messages.{memoryDescriptor}
 use Rattle.srp.specs.Refusals.{numberOf, firstOf}
@@ -120,4 +121,4 @@ cutlistOf c s =
 
 -- what cutlist prints for the message s: "both formats agreed, X = 1,364"
 abbrev pub cutlist : List ℕ → List ℕ
-cutlist s = elim (firstOf (lookChecks 1364 6 s)) [ none ↦ cutlistOf (commandOf s) s | some r ↦ refusedLine r ]
+cutlist s = elim (firstOf (lookChecks longestAgreed bothFormats s)) [ none ↦ cutlistOf (commandOf s) s | some r ↦ refusedLine r ]

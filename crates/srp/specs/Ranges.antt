@@ -5,6 +5,7 @@ use mathlib.Core.Bool.{true, false}
 use mathlib.Core.List.{List}
 use Prim.Native.Nat.{ℕ, _+_, _-_, _^_, _≤_, _<_, min}
 use lib.ListN.{length}
+use Rattle.srp.specs.Limits.{mostBuffers, largestPiece}
 use Rattle.srp.specs.Messages.{tag}
 use Rattle.srp.specs.Lists.{All}
 use Rattle.srp.specs.Descriptors.{sumOf, reachable}
@@ -34,10 +35,10 @@ pub record OpenRanges (c : Open) : Type 0 where
 pub record Ranges (p : Port) : Type 0 where
   pub live : p .live ≡ true
   pub least : 1 ≤ p .wanted
-  pub most : p .wanted ≤ 16
-  pub room : p .announced + length (p .held) ≤ 16
+  pub most : p .wanted ≤ mostBuffers
+  pub room : p .announced + length (p .held) ≤ mostBuffers
   pub smallest : 1 ≤ p .maximum
-  pub largest : p .maximum ≤ 1048576
+  pub largest : p .maximum ≤ largestPiece
   pub commands : All OpenRanges (p .held)
 
 -- the ports that a login made, accepted or not, and calls changed, whatever they answered; a message is bytes, and R below 2^32

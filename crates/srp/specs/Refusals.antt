@@ -4,6 +4,7 @@ use mathlib.Core.List.{List, [], _∷_}
 use mathlib.Core.Option.{Option, none, some}
 use Prim.Native.Nat.{ℕ, _+_}
 use lib.Dec.{ltb, leb, eqb}
+use Rattle.srp.specs.Limits.{bufferSize}
 use Rattle.srp.specs.declared.Refusal.{Refusal}
 use Rattle.srp.specs.declared.Refusal.the-variants.{ShortBuffer, Setting, Length, OtherType, OutFormat, InFormat, OutCount, InCount, TableLength, Fields, Argument, Closed, NoCredit, TagOpen, TagNotOpen, CreditResponse, Unanswered, NotOwed, Wanted, Unplanned, Planned}
 
@@ -48,10 +49,6 @@ hangsUp n = (leb 3 n && leb n 8) || (eqb n 22 || (eqb n 23 || eqb n 25))
 -- "reasons 0, but 6, 7, 8, 9 for 5, 6, 7, 8"
 abbrev pub reasonOf : ℕ → ℕ
 reasonOf n = cond (leb 5 n && leb n 8) (n + 1) 0
-
--- the longest message that the port writes: a lent buffer has room for it
-abbrev pub bufferSize : ℕ
-bufferSize = 132
 
 abbrev pub short : ℕ → Check
 short room = (ltb room bufferSize, ShortBuffer)

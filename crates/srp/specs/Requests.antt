@@ -5,6 +5,7 @@ use mathlib.Core.Option.{Option, none, some}
 use Prim.Native.Nat.{ℕ, _+_, _*_, _%_}
 use lib.Dec.{ltb, eqb}
 use lib.ListN.{length, take, drop}
+use Rattle.srp.specs.Limits.{shortestAgreed, longestAgreed, shortestMessage, shortestCommand, bothFormats}
 use Rattle.srp.specs.Bytes.{get, typeOf}
 use Rattle.srp.specs.Messages.{tag, lun, ucsolnt, scsolnt, taskFunction, taskTag, outFormat, inFormat, outCount, inCount, additional, tskMgmt, cmd, iLogout, credRsp}
 use Rattle.srp.specs.Refusals.{Check, firstOf}
@@ -39,7 +40,7 @@ cdbLength s = 16 + 4 * get additional s
 
 -- where the descriptors start
 abbrev pub outAt : List ℕ → ℕ
-outAt s = 32 + cdbLength s
+outAt s = cmd .size + cdbLength s
 
 abbrev pub inAt : List ℕ → ℕ
 inAt s = outAt s + descriptorSize (get outFormat s) (get outCount s)
@@ -69,7 +70,7 @@ commandOf s =
 -- "3 (48 for a command), 5, 6, 3 (exact), 7, 8"
 abbrev pub commandChecks : ℕ → List ℕ → List Check
 commandChecks formats s =
-    (ltb (length s) 48, Length)
+    (ltb (length s) shortestCommand, Length)
     ∷ (not (agrees formats (get outFormat s)), OutFormat)
     ∷ (not (agrees formats (get inFormat s)), InFormat)
     ∷ (not (eqb (length s) (exactLength s)), Length)
@@ -102,7 +103,7 @@ sized n s m = cond (eqb (length s) n) m (Bad Length)
 
 -- "3 (16 and agreed length)"
 abbrev pub lengthChecks : ℕ → List ℕ → List Check
-lengthChecks agreed s = (ltb (length s) 16, Length) ∷ (ltb agreed (length s), Length) ∷ []
+lengthChecks agreed s = (ltb (length s) shortestMessage, Length) ∷ (ltb agreed (length s), Length) ∷ []
 
 -- a message of type k
 abbrev pub byType : ℕ → ℕ → List ℕ → Message
@@ -123,9 +124,13 @@ readMessage agreed formats s = unlessBad (firstOf (lengthChecks agreed s)) (byTy
 abbrev pub otherFormats : ℕ → ℕ → Bool
 otherFormats supported f = eqb (f % 2) 1 || ltb (supported + 1) f
 
+-- "a length outside 64 to 1,364"
+abbrev pub badLength : ℕ → Bool
+badLength n = ltb n shortestAgreed || ltb longestAgreed n
+
 abbrev pub lookChecks : ℕ → ℕ → List ℕ → List Check
 lookChecks agreed formats s =
-    (ltb agreed 64 || (ltb 1364 agreed || otherFormats 6 formats), Setting)
+    (badLength agreed || otherFormats bothFormats formats, Setting)
     ∷ lengthChecks agreed s
     ++ ((not (eqb (typeOf s) (cmd .code)), OtherType) ∷ commandChecks formats s)
 
@@ -139,7 +144,7 @@ lookDef agreed formats s =
 
 -- the CDB's part of a message, empty where look refuses it
 abbrev pub cdbDef : ℕ → ℕ → List ℕ → List ℕ
-cdbDef agreed formats s = elim (firstOf (lookChecks agreed formats s)) [ none ↦ take (cdbLength s) (drop 32 s) | some r ↦ [] ]
+cdbDef agreed formats s = elim (firstOf (lookChecks agreed formats s)) [ none ↦ take (cdbLength s) (drop (cmd .size) s) | some r ↦ [] ]
 
 abbrev pub descriptorFor : Direction → List ℕ → Descriptor
 descriptorFor Out s = outDescriptor s
