@@ -108,12 +108,16 @@ takeChecks p room s t m = short room ∷ closed p ∷ laterChecks p s t m
 -- a message that draws no refusal
 abbrev pub accepted : Port → List ℕ → Tables → Message → Outcome
 accepted p s t (Bad r) = hangUp p r
+-- "Taking a request: A - 1, H + 1"
 accepted p s t (Cmd c) =
     silent (withHeld p (p .announced - 1) (p .held ++ (newOpen c s t ∷ []))) (NewCommand (c .tag) (c .lun) (c .cdb))
+-- a task request ends in the same call, as do the commands that it aborts
 accepted p s t (TskMgmt k) =
     answering (withHeld p (p .announced - 1) (without (λ (c : Open). aborts k (c .tag) (c .lun)) (p .held))) (TaskAnswered (k .tag) (k .lun))
     (answer (solicited (k .ucsolnt) (k .scsolnt) (taskCode (k .function))) (k .tag) (taskCode (k .function)))
+-- "settles it and uses no credit"
 accepted p s t (CredRsp g) = silent (withUnanswered p false) CreditSettled
+-- "Logout closes the channel, drops open commands, writes nothing"
 accepted p s t ILogout = silent closedPort LoggedOut
 
 -- a message's tag and UCSOLNT, 0 where it has none: only a command draws 10
