@@ -9,7 +9,9 @@ use Rattle.srp.specs.Messages.{layouts}
 use Rattle.srp.specs.Requests.{readMessage}
 use Rattle.srp.specs.Cutting.{piece}
 use Rattle.srp.specs.Writing.{placed}
-use Rattle.srp.specs.Calls.{wrapped}
+use lib.IntN.{pos}
+use Rattle.srp.specs.Credit.{closedPort}
+use Rattle.srp.specs.Calls.{wrapped, countersOf}
 use Rattle.srp.specs.Answers.{returned, valuesOf}
 use Rattle.srp.specs.declared.Reply.{Reply}
 use Rattle.srp.proofs.Layouts.{whole, bitsOf}
@@ -39,6 +41,10 @@ big-endian = (refl, refl)
 -- a message in its buffer, and none
 pub places : (placed ((1 ∷ 2 ∷ []) ∷ []) (7 ∷ 8 ∷ 9 ∷ []) ≡ 1 ∷ 2 ∷ 9 ∷ []) × (placed [] (7 ∷ 8 ∷ 9 ∷ []) ≡ 7 ∷ 8 ∷ 9 ∷ [])
 places = (refl, refl)
+
+-- W, A, H and D of a closed channel
+pub closed-zero : countersOf closedPort ≡ record { wanted = 0; announced = 0; held = 0; owed = pos 0 }
+closed-zero = refl
 
 -- an address in 64 bits
 pub wraps : wrapped (piece (2 ^ 64 + 5) 7 512 1024) ≡ piece 5 7 512 1024
