@@ -62,6 +62,7 @@ pub record Progress : Type 0 where
   pub required : ℕ
   pub operations : List Piece
 
+-- the notification bits are followed so that the port's command can be told from this record alone
 pub record Track : Type 0 where
   pub tag : ℕ
   pub lun : ℕ
