@@ -1,7 +1,7 @@
 -- The first check that hits: what none of them, or the one that does, tells.
 -- Assumes nothing.
 use mathlib.Core.Path.{_≡_, refl, subst}
-use mathlib.Core.Bool.{Bool, true, false, cond}
+use mathlib.Core.Bool.{Bool, true, false, cond, _||_}
 use mathlib.Core.List.{List, [], _∷_}
 use mathlib.Core.Option.{none, some, Option·none-ne-some, Option·some-ne-none, Option·some-injective}
 use Rattle.srp.specs.Lists.{All}
@@ -30,3 +30,15 @@ module _ {A : Type 0} where
       go : (b : Bool) → c .0 ≡ b → cond b (some (c .1)) (firstOf cs) ≡ some r → (firstOf cs ≡ some r → P r) → P r
       go true q f ih = subst P (Option·some-injective (c .1) r f) (a .0 q)
       go false q f ih = ih f
+
+-- ── one test or another
+
+module _ (a b : Bool) where
+  pub first-hits : a ≡ true → (a || b) ≡ true
+  first-hits e = rw e
+
+  pub second-hits : a ≡ false → b ≡ true → (a || b) ≡ true
+  second-hits e f = rw (e, f)
+
+  pub neither : a ≡ false → b ≡ false → (a || b) ≡ false
+  neither e f = rw (e, f)

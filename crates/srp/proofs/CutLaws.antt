@@ -13,7 +13,7 @@ use lib.ListN.{length, take, drop, getElem?, drop-of-length-le}
 use lib.Seq.{take-append-le, take-append-add}
 use borrow.Author.Tests.{lt-ltb, le-ltb, ltb-true, ltb-false}
 use Rattle.srp.specs.Descriptors.{Segment, sumOf}
-use Rattle.srp.specs.Cutting.{piece, bytesIn, cutSegment, cutsFrom, cuts, nextFrom, next}
+use Rattle.srp.specs.Cutting.{pieces, piece, bytesIn, cutSegment, cutsFrom, cuts, nextFrom, next}
 use Rattle.srp.specs.declared.Piece.{Piece}
 
 -- the bytes of two lists
@@ -118,11 +118,7 @@ module _ {A : Type 0} where
   none-above (y ∷ l) zero e = absurd (Option·some-ne-none y e)
   none-above (y ∷ l) (suc k) e = omega (arith, none-above l k e)
 
--- ── the pieces one after the other, from `from` on, at most f of them
-
-abbrev pub pieces : ℕ → ℕ → ℕ → ℕ → List Segment → List Piece
-pieces zero M from to ss = []
-pieces (suc f) M from to ss = elim (next M from to ss) [ none ↦ [] | some p ↦ p ∷ pieces f M (from + p .len) to ss ]
+-- ── the pieces one after the other
 
 pieces-from : (f M to : ℕ) (ss : List Segment) (k : ℕ) → 1 ≤ M → length (cutsFrom M 0 to ss) ≤ k + f
     → pieces f M (bytesIn (take k (cutsFrom M 0 to ss))) to ss ≡ drop k (cutsFrom M 0 to ss)

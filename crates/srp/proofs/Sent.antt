@@ -19,7 +19,9 @@ use Rattle.srp.specs.Limits.{bufferSize}
 use Rattle.srp.specs.Refusals.{numberOf, firstOf, hangsUp, reasonOf, short}
 use Rattle.srp.specs.Requests.{readMessage}
 use Rattle.srp.specs.Credit.{Side, Open, Port, due, withHeld}
-use Rattle.srp.specs.Writing.{Residual, even, over, under, residualOf, amount, isOver, isUnder, Response, responseBytes, responseValues, response, answer, targetLogout, solicited}
+use Rattle.srp.specs.declared.Residual.{Residual}
+use Rattle.srp.specs.declared.Residual.the-variants.{Even, Over, Under}
+use Rattle.srp.specs.Writing.{residualOf, amount, isOver, isUnder, Response, responseBytes, responseValues, response, answer, targetLogout, solicited}
 use Rattle.srp.specs.Take.{Outcome, silent, hangUp, closed, hasTag, Tables, aborts, wholeLun, taskCode, tagOf, ucsolntOf, answerBad, takeChecks, takeBy, takeDef}
 use Rattle.srp.specs.Calls.{unless, finalResponse, finishChecks, finishDef, grantChecks, grantDef, closeDef}
 use Rattle.srp.specs.Login.{Settings, badSettings, loginChecks, supported, rejections, judged, loginBy, loginDef}
@@ -119,7 +121,7 @@ response-sent u delta tag status out inn code sense d t s o i b =
     b
 
 answer-sent : (u : Bool) (tag code delta : ℕ) → delta ≤ 16 → tag < 2 ^ 64 → Code code → Sent (answer u tag code delta)
-answer-sent u tag code delta d t c = response-sent u delta tag 0 even even (some code) [] d t (omega arith) (omega arith) (omega arith) (c, refl)
+answer-sent u tag code delta d t c = response-sent u delta tag 0 Even Even (some code) [] d t (omega arith) (omega arith) (omega arith) (c, refl)
 
 logout-sent : (b : Bool) (reason : ℕ) → reason < 2 ^ 32 → Sent (targetLogout b reason)
 logout-sent b reason h = target-logout (bit b ∷ reason ∷ 0 ∷ []) (omega (arith, one-bit b))
@@ -127,7 +129,7 @@ logout-sent b reason h = target-logout (bit b ∷ reason ∷ 0 ∷ []) (omega (a
 residual-small : (s : Side) → SideRanges s → amount (residualOf s) < 2 ^ 32
 residual-small s r = go (ltb (s .total) (s .required)) (ltb (s .handed) (s .total))
   where
-    go : (a b : Bool) → amount (cond a (over (s .required - s .total)) (cond b (under (s .total - s .handed)) even)) < 2 ^ 32
+    go : (a b : Bool) → amount (cond a (Over (s .required - s .total)) (cond b (Under (s .total - s .handed)) Even)) < 2 ^ 32
     go true b = omega (arith, r .required)
     go false true = omega (arith, r .small)
     go false false = omega arith

@@ -50,6 +50,11 @@ nextFrom M offset from to (s ∷ ss) =
 abbrev pub next : ℕ → ℕ → ℕ → List Segment → Option Piece
 next M from to ss = nextFrom M 0 from to ss
 
+-- the pieces one after the other, from `from` on, at most f of them
+abbrev pub pieces : ℕ → ℕ → ℕ → ℕ → List Segment → List Piece
+pieces zero M from to ss = []
+pieces (suc f) M from to ss = elim (next M from to ss) [ none ↦ [] | some p ↦ p ∷ pieces f M (from + p .len) to ss ]
+
 -- ── the cut as C calls it
 
 -- "M 1 to 1,048,576"

@@ -9,33 +9,29 @@ use Rattle.srp.specs.Bytes.{bit, write}
 use Rattle.srp.specs.Messages.{rsp, credReq, tLogout}
 use Rattle.srp.specs.Lists.{isSome}
 use Rattle.srp.specs.Credit.{Side}
+use Rattle.srp.specs.declared.Residual.{Residual}
+use Rattle.srp.specs.declared.Residual.the-variants.{Even, Over, Under}
 
--- "Residual per direction"
-pub data Residual : Type 0 where
-  even : Residual
-  over : ℕ → Residual
-  under : ℕ → Residual
-
--- "R > B: over, R - B. Else moved < B: under, B - moved, moved being the bytes handed out. Else no flag, count 0"
+-- "Residual per direction. R > B: over, R - B. Else moved < B: under, B - moved, moved being the bytes handed out. Else no flag, count 0"
 abbrev pub residualOf : Side → Residual
 residualOf s =
-    cond (ltb (s .total) (s .required)) (over (s .required - s .total))
-    (cond (ltb (s .handed) (s .total)) (under (s .total - s .handed)) even)
+    cond (ltb (s .total) (s .required)) (Over (s .required - s .total))
+    (cond (ltb (s .handed) (s .total)) (Under (s .total - s .handed)) Even)
 
 abbrev pub isOver : Residual → Bool
-isOver even = false
-isOver (over n) = true
-isOver (under n) = false
+isOver Even = false
+isOver (Over n) = true
+isOver (Under n) = false
 
 abbrev pub isUnder : Residual → Bool
-isUnder even = false
-isUnder (over n) = false
-isUnder (under n) = true
+isUnder Even = false
+isUnder (Over n) = false
+isUnder (Under n) = true
 
 abbrev pub amount : Residual → ℕ
-amount even = 0
-amount (over n) = n
-amount (under n) = n
+amount Even = 0
+amount (Over n) = n
+amount (Under n) = n
 
 -- what an SRP_RSP says; `code` is the RSP_CODE, where there are response bytes
 pub record Response : Type 0 where
@@ -77,7 +73,7 @@ response r = write rsp (responseValues r) ++ (responseBytes (r .code) ++ r .sens
 -- "Response bytes stand in task answers and refusal 10 (code 02h), status 0, residuals 0"
 abbrev pub answer : Bool → ℕ → ℕ → ℕ → List ℕ
 answer solnt tag code delta =
-    response (record { solnt = solnt; delta = delta; tag = tag; status = 0; out = even; inn = even; code = some code; sense = [] })
+    response (record { solnt = solnt; delta = delta; tag = tag; status = 0; out = Even; inn = Even; code = some code; sense = [] })
 
 -- "Grant writes an SRP_CRED_REQ with tag 1"
 abbrev pub creditRequest : Bool → ℕ → List ℕ

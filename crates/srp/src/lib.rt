@@ -1,6 +1,8 @@
 // The types that the definitions of specs/ share with the code: what is refused, what a message says, what a call answers.
 // Document 01's numbers and values for each case stand in specs/Refusals.antt and specs/Answers.antt. A field `inn` is data-in's: `in` is a keyword.
 
+pub mod limits;
+
 // Why a call is refused, in the order of document 01's numbers.
 pub enum Refusal {
     ShortBuffer,
@@ -100,6 +102,13 @@ pub enum Cut {
     CutRefused(Refusal),
     CutPiece(Piece),
     CutDone,
+}
+
+// How the bytes handed out in a direction differ from those required: more were required than B; fewer than B were handed out.
+pub enum Residual {
+    Even,
+    Over(u32),
+    Under(u32),
 }
 
 // W, A, H and D of an open channel.

@@ -1,0 +1,27 @@
+// Document 01's limits, for the code: the numbers of specs/Limits.antt.
+
+// the longest message that the port writes
+pub const LONGEST_WRITTEN_MESSAGE: u32 = 132;
+
+// M is 1 to this
+pub const LARGEST_PIECE: u32 = 1048576;
+
+// an agreed length is from the one to the other
+pub const SHORTEST_AGREED: u32 = 64;
+
+pub const LONGEST_AGREED: u32 = 1364;
+
+// a message, and an SRP_CMD, has at least this
+pub const SHORTEST_MESSAGE: usize = 16;
+
+pub const SHORTEST_COMMAND: usize = 48;
+
+// a table, and the cut's list, has at most this; so many copies stand in a message at most
+pub const LONGEST_TABLE: u32 = 512;
+
+pub const LONGEST_LIST: usize = 512;
+
+pub const MOST_COPIES: u8 = 32;
+
+// direct and indirect formats, as login bits
+pub const BOTH_FORMATS: u32 = 0x0006;
