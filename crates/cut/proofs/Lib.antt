@@ -1,0 +1,4 @@
+pub mod Turns
+pub mod Sums
+pub mod Pieces
+pub mod Refusing

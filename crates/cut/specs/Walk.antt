@@ -1,0 +1,26 @@
+-- What the walks over memory descriptors answer.
+use mathlib.Core.Bool.{cond}
+use mathlib.Core.List.{List}
+use mathlib.Core.Option.{Option, none, some}
+use Prim.Native.Nat.{ℕ, _*_, _≤_}
+use Rattle.srp.specs.Descriptors.{Segment, sumOf, reachable}
+use Rattle.srp.specs.Calls.{wrapped}
+use Rattle.srp.specs.declared.Piece.{Piece}
+use Rattle.srp.specs.declared.Cut.{Cut}
+use Rattle.srp.specs.declared.Cut.the-variants.{CutPiece, CutDone}
+use Rattle.cut.specs.declared.Total.{Total}
+use Rattle.cut.specs.declared.Total.the-variants.{Sum, Wrong}
+
+-- B, where no segment passes 2^64
+abbrev pub totalOf : List Segment → Total
+totalOf ss = cond (reachable ss) (Sum (sumOf ss)) Wrong
+
+-- a sum of k lengths of 32 bits
+abbrev pub Bounded : ℕ → Total → Type 0
+Bounded k (Sum n) = n ≤ 4294967295 * k
+Bounded k Wrong = Unit {0}
+
+-- the next piece, its address in 64 bits, or done
+abbrev pub nextWrapped : Option Piece → Cut
+nextWrapped none = CutDone
+nextWrapped (some p) = CutPiece (wrapped p)
