@@ -1,0 +1,4 @@
+pub mod Formats
+pub mod Tables
+pub mod Sums
+pub mod Refusing
