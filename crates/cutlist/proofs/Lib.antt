@@ -1,0 +1,5 @@
+pub mod Texts
+pub mod Digits
+pub mod Filling
+pub mod Buffers
+pub mod Whole

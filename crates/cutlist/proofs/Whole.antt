@@ -1,0 +1,48 @@
+-- What document 01 has cutlist print is the text of what the message comes to.
+-- Assumes nothing.
+use mathlib.Core.Path.{_≡_, refl}
+use mathlib.Core.Bool.{Bool, true, false, cond, not, _||_}
+use mathlib.Core.List.{List, [], _++_}
+use mathlib.Core.Option.{Option, none, some}
+use Prim.Native.Nat.{ℕ}
+use lib.Dec.{eqb}
+use Rattle.srp.specs.Limits.{longestAgreed, bothFormats}
+use Rattle.srp.specs.Refusals.{firstOf}
+use Rattle.srp.specs.Descriptors.{Segment, segments, fetched}
+use Rattle.srp.specs.Requests.{lookChecks, commandOf}
+use Rattle.srp.specs.Take.{fieldsFit}
+use Rattle.srp.specs.Outside.{noTables, operationLines, wholeCuts, refusedLine, fetchLine, cutlistOf, cutlist}
+use Rattle.srp.specs.declared.Refusal.{Refusal}
+use Rattle.srp.specs.declared.Refusal.the-variants.{Fields}
+use Rattle.srp.specs.declared.Kind.the-variants.{Read, Write}
+use Rattle.srp.specs.declared.Command.{Command}
+use Rattle.cutlist.specs.Listings.{bufferOf, operationsOf, listingOf, textOf}
+use Rattle.cutlist.specs.declared.list.Listing.{Listing}
+use Rattle.cutlist.specs.declared.list.Listing.the-variants.{Refused, Fetch, Operations}
+use Rattle.cutlist.proofs.Filling.{whole-lines}
+
+module _ (s : List ℕ) where
+  -- of a command that look takes
+  command-text : (c : Command) → cutlistOf c s ≡ textOf (operationsOf c s) s
+  command-text c = go (not (eqb (fetched (c .out)) 0) || not (eqb (fetched (c .inn)) 0)) (not (fieldsFit c s noTables))
+    where
+      out : List Segment
+      out = segments (c .out) s []
+
+      inn : List Segment
+      inn = segments (c .inn) s []
+
+      go : (f g : Bool)
+          → cond f fetchLine (cond g (refusedLine Fields) (operationLines Read (wholeCuts out) ++ operationLines Write (wholeCuts inn)))
+          ≡ textOf (cond f Fetch (cond g (Refused Fields) (Operations (bufferOf (c .out) s) (bufferOf (c .inn) s)))) s
+      go true g = refl
+      go false true = refl
+      go false false = λ i. whole-lines Read out i ++ whole-lines Write inn i
+
+  pub cutlist-text : cutlist s ≡ textOf (listingOf s) s
+  cutlist-text = go (firstOf (lookChecks longestAgreed bothFormats s))
+    where
+      go : (v : Option Refusal) → elim v as (λ _. List ℕ) [ none ↦ cutlistOf (commandOf s) s | some r ↦ refusedLine r ]
+          ≡ textOf (elim v as (λ _. Listing) [ none ↦ operationsOf (commandOf s) s | some r ↦ Refused r ]) s
+      go none = command-text (commandOf s)
+      go (some r) = refl

@@ -1,0 +1,25 @@
+-- `cutlist::text::put_last` meets its contract: the number, and the newline behind it.
+-- Assumes nothing.
+use Rattle.cutlist.proofs.Texts.{then}
+use Rattle.cutlist.proofs.Digits.{decimal-short}
+use native.Mathlib.Omega.{arith}
+use borrow.Author.Needs.{needs}
+use Rattle.cutlist.proofs.text.put_last.Statement.{statement}
+use Rattle.cutlist.proofs.text.put_last.Tie as tie
+
+put-decimal-requires : tie.Need-put-decimal-requires
+put-decimal-requires c κs = search needs
+
+put-byte-requires : tie.Need-put-byte-requires
+put-byte-requires c κs =
+    omega (arith, c .before .before .before .put-decimal .ensures .long, decimal-short (c .before .before .before .before .before .before .args .n) (c .before .before .before .before .before .before .pre .0))
+
+same-length : tie.Need-same-length
+same-length c = search needs
+
+returns : tie.Need-returns
+returns c =
+    then (c .before .before .before .before .before .before .put-decimal .ensures) (c .before .before .put-byte .ensures)
+
+pub put-last-spec : {M : Type 1} → statement M
+put-last-spec = tie.close (tie.spec put-decimal-requires put-byte-requires same-length returns)

@@ -1,0 +1,27 @@
+-- What cutlist prints, as its functions put it together. `cutlist` of crate srp's specs/Outside.antt is the whole.
+use mathlib.Core.Path.{_≡_}
+use mathlib.Core.List.{List, _++_}
+use Prim.Native.Nat.{ℕ, _+_, _-_, _≤_, _<_}
+use lib.ListN.{length, take}
+use Rattle.srp.specs.Descriptors.{Segment}
+use Rattle.srp.specs.Cutting.{pieces}
+use Rattle.srp.specs.Outside.{operationLines}
+use Rattle.srp.specs.declared.Kind.{Kind}
+use Rattle.cutlist.specs.declared.list.Filled.{Filled}
+
+-- behind the first `at` bytes of a text stands what was added, up to `end`
+pub record Appends (before : List ℕ) (at : ℕ) (added after : List ℕ) (end : ℕ) : Type 0 where
+  pub long : end ≡ at + length added
+  pub room : end ≤ length after
+  pub text : take end after ≡ take at before ++ added
+
+-- the lines from byte `from` on, up to byte `to`: "M = 512"
+abbrev pub linesFrom : Kind → ℕ → ℕ → List Segment → List ℕ
+linesFrom k from to ss = operationLines k (pieces (to - from) 512 from to ss)
+
+-- the first lines from byte `from` on, one at least: with those that are left they are all
+pub record Fills (k : Kind) (from to : ℕ) (ss : List Segment) (text : List ℕ) (f : Filled) : Type 0 where
+  pub room : f .len ≤ length text
+  pub more : from < f .from
+  pub upto : f .from ≤ to
+  pub lines : take (f .len) text ++ linesFrom k (f .from) to ss ≡ linesFrom k from to ss
