@@ -1,0 +1,340 @@
+//! Random arguments for look and the cut: valid ones, ones at a bound, and damaged ones.
+
+use crate::calls::{Cut, Look};
+use crate::model::MemoryDescriptor;
+use crate::random::Random;
+
+pub const LONGEST: u32 = 1364;
+pub const BOTH_FORMATS: u32 = 0b110;
+
+/// Lengths of the lent buffer: mostly enough, else around 32.
+fn lent(random: &mut Random) -> usize {
+    if random.one_in(16) {
+        random.of(&[0, 1, 16, 31])
+    } else {
+        random.of(&[32, 32, 32, 33, 40, 64, 132])
+    }
+}
+
+// ---- Commands ----
+
+/// A direction of a command, as an initiator describes it.
+#[derive(Clone, Debug)]
+pub enum Descriptor {
+    None,
+    Direct(MemoryDescriptor),
+    Indirect { table: MemoryDescriptor, total: u32, copies: Vec<MemoryDescriptor> },
+}
+
+impl Descriptor {
+    fn format(&self) -> u8 {
+        match self {
+            Descriptor::None => 0,
+            Descriptor::Direct(_) => 1,
+            Descriptor::Indirect { .. } => 2,
+        }
+    }
+
+    fn bytes(&self) -> Vec<u8> {
+        match self {
+            Descriptor::None => Vec::new(),
+            Descriptor::Direct(segment) => segment.to_bytes().to_vec(),
+            Descriptor::Indirect { table, total, copies } => {
+                let mut bytes = table.to_bytes().to_vec();
+                bytes.extend(total.to_be_bytes());
+                copies.iter().for_each(|copy| bytes.extend(copy.to_bytes()));
+                bytes
+            }
+        }
+    }
+
+    /// The count's byte: without a table it is unread, and may be anything.
+    fn count(&self, random: &mut Random) -> u8 {
+        match self {
+            Descriptor::Indirect { copies, .. } => copies.len() as u8,
+            _ => random.u8(),
+        }
+    }
+}
+
+/// An SRP_CMD with 4n additional bytes of CDB. Whatever is not read is random.
+pub fn command(random: &mut Random, n: u8, data_out: &Descriptor, data_in: &Descriptor) -> Vec<u8> {
+    let mut msg = random.bytes(48);
+    msg[0] = 0x02;
+    msg[5] = data_out.format() << 4 | data_in.format();
+    msg[6] = data_out.count(random);
+    msg[7] = data_in.count(random);
+    msg[31] = n << 2 | msg[31] & 0b11;
+    msg.extend(random.bytes(4 * usize::from(n)));
+    msg.extend(data_out.bytes());
+    msg.extend(data_in.bytes());
+    msg
+}
+
+/// The longest command that document 01 allows: n = 63, and 32 copies each way.
+pub fn longest_command(random: &mut Random) -> Vec<u8> {
+    let (data_out, data_in) = (indirect(random, 32, 512), indirect(random, 32, 512));
+    command(random, 63, &data_out, &data_in)
+}
+
+fn memory(random: &mut Random) -> MemoryDescriptor {
+    MemoryDescriptor { address: random.u64(), handle: random.u32(), length: random.any_size() }
+}
+
+pub fn indirect(random: &mut Random, count: usize, table_length: u32) -> Descriptor {
+    let copies: Vec<MemoryDescriptor> = (0..count).map(|_| memory(random)).collect();
+    let total = copies.iter().fold(0u32, |sum, copy| sum.wrapping_add(copy.length));
+    Descriptor::Indirect { table: MemoryDescriptor { length: table_length, ..memory(random) }, total, copies }
+}
+
+/// Table lengths around the copies' length, around the bounds 16 and 512, not multiples of 16, and huge ones.
+fn table_length(random: &mut Random, count: usize) -> u32 {
+    let copies = 16 * count as u32;
+    match random.below(8) {
+        0 | 1 => copies,
+        2 => random.of(&[copies.saturating_sub(16), copies.saturating_sub(1), copies + 1, copies + 8, copies + 16]),
+        3 => random.of(&[0, 1, 15, 16, 17, 24, 32, 496, 504, 511, 512, 513, 520, 528]),
+        4 => copies + 16 * random.up_to(32u64.saturating_sub(count as u64)) as u32,
+        5 => 16 * random.up_to(64) as u32,
+        6 => random.of(&[0x1_0000, 0x1_0010, 0x1_0200, 0x8000_0010, 0xffff_fe00, 0xffff_fff0, 0xffff_ffff]),
+        _ => random.any_size(),
+    }
+}
+
+fn descriptor(random: &mut Random, most_copies: usize) -> Descriptor {
+    match random.below(4) {
+        0 => Descriptor::None,
+        1 => Descriptor::Direct(memory(random)),
+        _ => {
+            let count = if random.one_in(4) { random.below(3) } else { random.below(most_copies + 1) };
+            let length = table_length(random, count);
+            indirect(random, count, length)
+        }
+    }
+}
+
+/// A command with random descriptors, of up to 32 copies each, and any additional CDB.
+fn any_command(random: &mut Random) -> Vec<u8> {
+    let (data_out, data_in) = (descriptor(random, 32), descriptor(random, 32));
+    let n = if random.one_in(2) { random.below(3) } else { random.below(64) } as u8;
+    command(random, n, &data_out, &data_in)
+}
+
+/// A command with more than 32 copies in a direction, as far as a message can hold them.
+fn many_copies(random: &mut Random) -> Vec<u8> {
+    let count = if random.one_in(8) { 33 + random.below(223) } else { 31 + random.below(50) };
+    let length = random.of(&[16 * count as u32, 512, 4096, u32::MAX]);
+    let (many, other) = (indirect(random, count, length), descriptor(random, 2));
+    if random.one_in(2) {
+        command(random, 0, &many, &other)
+    } else {
+        command(random, 0, &other, &many)
+    }
+}
+
+/// A command in which one byte that look reads was changed: type, formats, counts, n, or a byte of a descriptor.
+fn changed_field(random: &mut Random) -> Vec<u8> {
+    let mut msg = any_command(random);
+    let at = match random.below(8) {
+        0..=4 => random.of(&[0, 5, 5, 6, 7, 31]),
+        _ => 48 + random.below(msg.len().saturating_sub(48)),
+    };
+    if let Some(field) = msg.get_mut(at) {
+        *field = if random.one_in(2) { *field ^ 1 << random.below(8) } else { random.u8() };
+    }
+    msg
+}
+
+fn damaged(random: &mut Random) -> Vec<u8> {
+    let mut msg = any_command(random);
+    let at = random.below(msg.len());
+    match random.below(5) {
+        0 => msg[at] = random.u8(),
+        1 => msg[at] ^= 1 << random.below(8),
+        2 => msg.truncate(at),
+        3 => msg.truncate(msg.len() - 1),
+        _ => {
+            let more = random.of(&[1, 1, 4, 16, 20]);
+            msg.extend(random.bytes(more));
+        }
+    }
+    msg
+}
+
+fn another_type(random: &mut Random) -> Vec<u8> {
+    let length = random.of(&[15, 16, 17, 36, 47, 48, 49, 52, 64, 100]);
+    let mut msg = random.bytes(length);
+    msg[0] = random.of(&[0x00, 0x01, 0x03, 0x12, 0x22, 0x40, 0x41, 0x42, 0x80, 0x81, 0x82, 0xc0, 0xc1, 0xc2]);
+    msg
+}
+
+fn random_bytes(random: &mut Random) -> Vec<u8> {
+    let most = random.of(&[4, 48, 64, 200, 1500]);
+    let length = random.below(most + 1);
+    let mut msg = random.bytes(length);
+    if let (Some(first), true) = (msg.first_mut(), random.one_in(2)) {
+        *first = 0x02;
+    }
+    msg
+}
+
+fn agreed_length(random: &mut Random, length: usize) -> u32 {
+    let length = length as u32;
+    match random.below(32) {
+        0 => random.of(&[0, 16, 48, 63, 1365, 1366, 0x1_0040, 0x8000_0000, u32::MAX]),
+        1 => random.of(&[64, 65, 1363, 1364]),
+        2 => length.saturating_sub(1),
+        3 => length,
+        4 => length.saturating_add(1),
+        5 => 64 + random.below(1301) as u32,
+        6 => random.any_size(),
+        _ => LONGEST,
+    }
+}
+
+fn agreed_formats(random: &mut Random) -> u32 {
+    match random.below(32) {
+        0 => random.of(&[1, 3, 5, 7, 8, 9, 14, 0x106, 0x8000_0006, 0xffff_fff9, u32::MAX]),
+        1 => random.any_size(),
+        2..=5 => random.of(&[0, 2, 4]),
+        _ => BOTH_FORMATS,
+    }
+}
+
+impl Look {
+    pub fn random(random: &mut Random) -> Self {
+        let msg = match random.below(16) {
+            0..=7 => any_command(random),
+            8 => longest_command(random),
+            9 => many_copies(random),
+            10 | 11 => changed_field(random),
+            12 | 13 => damaged(random),
+            14 => another_type(random),
+            _ => random_bytes(random),
+        };
+        let (agreed, formats) = (agreed_length(random, msg.len()), agreed_formats(random));
+        Look { msg, agreed, formats, lent: lent(random) }
+    }
+}
+
+// ---- Lists of segments ----
+
+/// The bytes of a list of memory descriptors.
+pub fn list_of(segments: &[MemoryDescriptor]) -> Vec<u8> {
+    segments.iter().flat_map(|segment| segment.to_bytes()).collect()
+}
+
+/// A segment of that length; its end may be the last byte of memory or just miss it.
+fn segment(random: &mut Random, length: u32, may_pass: bool) -> MemoryDescriptor {
+    let last = 0u64.wrapping_sub(u64::from(length)); // address + length = 2^64; 0 for length 0
+    let address = match random.below(8) {
+        0 => last,
+        1 => last.wrapping_sub(1),
+        2 if may_pass => last.wrapping_add(1),
+        3 if may_pass => random.u64() | 0xffff_ffff_0000_0000,
+        4 => 0,
+        5 => u64::MAX,
+        _ => random.u64() >> 1,
+    };
+    let passes = u128::from(address) + u128::from(length) > 1 << 64;
+    MemoryDescriptor { address: if passes && !may_pass { last } else { address }, handle: random.u32(), length }
+}
+
+/// Lengths of segments, of one manner throughout: some of them 0.
+fn lengths(random: &mut Random, count: usize, m: u32) -> Vec<u32> {
+    let manner = random.below(6);
+    let length = |random: &mut Random| match manner {
+        0 => random.of(&[0, 1, 2, 3]),
+        1 => random.below(2000) as u32,
+        2 => random.of(&[m.wrapping_sub(1), m, m.wrapping_add(1), m.wrapping_mul(2), m.wrapping_mul(3), 1]) % (1 << 24),
+        3 => random.any_size() >> 8,
+        4 => random.any_size(),
+        _ => random.u32() / count.max(1) as u32,
+    };
+    let mut lengths: Vec<u32> = (0..count).map(|_| if random.one_in(5) { 0 } else { length(random) }).collect();
+    match random.below(6) {
+        0 => lengths.iter_mut().take(1 + random.below(2)).for_each(|length| *length = 0),
+        1 => lengths.iter_mut().rev().take(1 + random.below(2)).for_each(|length| *length = 0),
+        _ => {}
+    }
+    lengths
+}
+
+/// Changes lengths so that their sum is `target`, if segments of that count can have it.
+fn bring_sum_to(lengths: &mut [u32], target: u64) {
+    let mut sum: u64 = lengths.iter().map(|&length| u64::from(length)).sum();
+    for length in lengths {
+        let rest = sum - u64::from(*length);
+        *length = target.saturating_sub(rest).min(u64::from(u32::MAX)) as u32;
+        sum = rest + u64::from(*length);
+    }
+}
+
+fn sum_near_2_32(random: &mut Random) -> u64 {
+    let bound = 1u64 << 32;
+    let near = random.of(&[bound - 2, bound - 1, bound, bound + 1, bound + 600]);
+    if random.one_in(4) {
+        bound + near
+    } else {
+        near
+    }
+}
+
+/// A number near `bound`, or anywhere up to it.
+fn near(random: &mut Random, bound: u64) -> u64 {
+    match random.below(6) {
+        0 => bound.saturating_sub(1),
+        1 | 2 => bound,
+        3 => bound + 1,
+        4 => random.of(&[0, 1, u64::from(u32::MAX)]),
+        _ => random.up_to(bound),
+    }
+}
+
+/// A number of bytes handed out: near the end, near a segment's end, a multiple of M, or anywhere up to the end.
+fn handed_out(random: &mut Random, lengths: &[u32], m: u32, end: u64) -> u64 {
+    match random.below(8) {
+        0 => near(random, end),
+        1 | 2 => {
+            let ends: u64 = lengths.iter().take(random.below(lengths.len() + 1)).map(|&length| u64::from(length)).sum();
+            (ends + random.up_to(2)).saturating_sub(1)
+        }
+        3 => u64::from(m) * random.up_to(end.min(1 << 32) / u64::from(m.max(1))),
+        4 => random.of(&[0, 0, 1, end.saturating_sub(u64::from(m))]),
+        _ => random.up_to(end),
+    }
+}
+
+fn longest_piece(random: &mut Random) -> u32 {
+    match random.below(12) {
+        0 => random.of(&[0, 1_048_577, 1_048_578, 0x8000_0000, 0xffff_fe00, u32::MAX]),
+        1 => random.of(&[1, 1_048_575, 1_048_576]),
+        2 => random.any_size(),
+        3..=6 => 512,
+        7 => random.of(&[1, 2, 3, 7]),
+        _ => 1 + random.below(1_048_576) as u32,
+    }
+}
+
+impl Cut {
+    pub fn random(random: &mut Random) -> Self {
+        let m = longest_piece(random);
+        let count = if random.one_in(3) { random.below(4) } else { random.below(33) };
+        let count = if random.one_in(24) { 33 + random.below(3) } else { count };
+        let mut lengths = lengths(random, count, m);
+        if random.one_in(8) {
+            bring_sum_to(&mut lengths, sum_near_2_32(random));
+        }
+        let may_pass = random.one_in(8);
+        let segments: Vec<MemoryDescriptor> = lengths.iter().map(|&length| segment(random, length, may_pass)).collect();
+        let b: u64 = lengths.iter().map(|&length| u64::from(length)).sum();
+        let r = near(random, b).min(u64::from(u32::MAX)) as u32;
+        let handed = handed_out(random, &lengths, m, b.min(u64::from(r))).min(u64::from(u32::MAX)) as u32;
+        let mut list = list_of(&segments);
+        if random.one_in(24) {
+            let length = (list.len() + random.below(31)).saturating_sub(15);
+            list.resize(length, random.u8());
+        }
+        Cut { list, m, r, handed, lent: lent(random) }
+    }
+}

@@ -1,0 +1,36 @@
+//! Counts how often each outcome came up, so that a test can show that its inputs reach all of them.
+
+use std::collections::BTreeMap;
+
+#[derive(Default)]
+pub struct Tally(BTreeMap<String, u64>);
+
+impl Tally {
+    pub fn add(&mut self, outcome: impl Into<String>) {
+        *self.0.entry(outcome.into()).or_default() += 1;
+    }
+
+    pub fn count(&self, outcome: &str) -> u64 {
+        self.0.get(outcome).copied().unwrap_or(0)
+    }
+
+    pub fn total(&self) -> u64 {
+        self.0.values().sum()
+    }
+
+    pub fn print(&self, title: &str) {
+        let lines: Vec<String> = self.0.iter().map(|(outcome, n)| format!("{n:>10}  {outcome}\n")).collect();
+        println!("{title}: {} calls\n{}", self.total(), lines.concat());
+    }
+
+    /// Panics unless just these outcomes came up, each at least so often.
+    pub fn assert_each(&self, least: u64, outcomes: &[&str]) {
+        for outcome in outcomes {
+            let n = self.count(outcome);
+            assert!(n >= least, "'{outcome}' came up {n} times, under {least}");
+        }
+        for outcome in self.0.keys() {
+            assert!(outcomes.contains(&outcome.as_str()), "'{outcome}' is not to come up");
+        }
+    }
+}

@@ -1,0 +1,151 @@
+//! P1, P2, P5, P6 and P7 of document 01, with the bytes written out.
+
+const LONGEST: u32 = 1364;
+const BOTH_FORMATS: u32 = 0b110;
+const FILL: u8 = 0x5b;
+const NO_FETCH: [u8; 16] = [0; 16];
+
+/// Look on a buffer of 36 bytes: what it returned, its 32 bytes, and the 4 behind them, which must stay.
+fn look(msg: &[u8]) -> (u32, [u8; 32]) {
+    let mut buf = [FILL; 36];
+    let returned = srp_tests::look(msg, LONGEST, BOTH_FORMATS, &mut buf);
+    assert_eq!(buf[32..], [FILL; 4]);
+    (returned, buf[..32].try_into().unwrap())
+}
+
+fn cut(list: &[u8], m: u32, r: u32, handed: u32) -> (u32, [u8; 32]) {
+    let mut buf = [FILL; 36];
+    let returned = srp_tests::cut(list, m, r, handed, &mut buf);
+    assert_eq!(buf[32..], [FILL; 4]);
+    (returned, buf[..32].try_into().unwrap())
+}
+
+const UNTOUCHED: [u8; 32] = [FILL; 32];
+const DONE: (u32, [u8; 32]) = (0, [0; 32]);
+
+/// The first 48 bytes of an SRP_CMD with tag 1 and LUN 0: formats, out count, in count, byte 31.
+#[rustfmt::skip]
+const fn head(formats: u8, out_count: u8, in_count: u8, byte_31: u8) -> [u8; 48] {
+    [
+        0x02, 0x04, 0, 0, 0, formats, out_count, in_count, // type, UCSOLNT, formats, counts
+        0, 0, 0, 0, 0, 0, 0, 1,                            // tag
+        0, 0, 0, 0, 0, 0, 0, 0,                            // reserved, LUN
+        0, 0, 0, 0, 0, 0, 0, byte_31,                      // LUN, reserved, task attribute, reserved, n
+        0x28, 0, 0, 0, 0, 0x10, 0, 0,                      // CDB
+        0x08, 0, 0, 0, 0, 0, 0, 0,
+    ]
+}
+
+/// A table at 9000h, handle 7, of 30h bytes; total 700.
+#[rustfmt::skip]
+const TABLE: [u8; 20] = [
+    0, 0, 0, 0, 0, 0, 0x90, 0x00, 0, 0, 0, 7, 0, 0, 0, 0x30,
+    0, 0, 0x02, 0xbc,
+];
+const TABLE_FETCH: [u8; 16] = [0, 0, 0, 0, 0, 0, 0x90, 0x00, 0, 0, 0, 7, 0, 0, 0, 0x30];
+
+/// The segments of P2: 2000h/0, 3000h/600, 5000h/100, handle 7.
+#[rustfmt::skip]
+const SEGMENTS: [u8; 48] = [
+    0, 0, 0, 0, 0, 0, 0x20, 0x00, 0, 0, 0, 7, 0, 0, 0, 0,
+    0, 0, 0, 0, 0, 0, 0x30, 0x00, 0, 0, 0, 7, 0, 0, 0x02, 0x58,
+    0, 0, 0, 0, 0, 0, 0x50, 0x00, 0, 0, 0, 7, 0, 0, 0, 100,
+];
+
+fn joined(parts: &[&[u8]]) -> Vec<u8> {
+    parts.concat()
+}
+
+fn fetches(data_out: [u8; 16], data_in: [u8; 16]) -> (u32, [u8; 32]) {
+    (0, joined(&[&data_out, &data_in]).try_into().unwrap())
+}
+
+#[test]
+#[rustfmt::skip]
+fn p1_direct_in_of_1300_bytes() {
+    let segment = [0, 0, 0, 0, 0, 0, 0x10, 0x00, 0, 0, 0, 7, 0, 0, 0x05, 0x14];
+    let msg = joined(&[&head(0x01, 0, 0, 0), &segment]);
+    assert_eq!(look(&msg), fetches(NO_FETCH, NO_FETCH));
+    let list = &msg[48..64];
+    assert_eq!(cut(list, 512, 1300, 0), (0, [
+        0, 0, 0, 0, 0, 0, 0x10, 0x00, 0, 0, 0, 7, 0, 0, 0x02, 0x00, // 1000h, 512
+        0, 0, 0, 0, 0, 0, 0, 0, 0, 0, 0, 0, 0, 0, 0, 0,
+    ]));
+    assert_eq!(cut(list, 512, 1300, 512), (0, [
+        0, 0, 0, 0, 0, 0, 0x12, 0x00, 0, 0, 0, 7, 0, 0, 0x02, 0x00, // 1200h, 512
+        0, 0, 0x02, 0x00, 0, 0, 0, 0, 0, 0, 0, 0, 0, 0, 0, 0,
+    ]));
+    assert_eq!(cut(list, 512, 1300, 1024), (0, [
+        0, 0, 0, 0, 0, 0, 0x14, 0x00, 0, 0, 0, 7, 0, 0, 0x01, 0x14, // 1400h, 276
+        0, 0, 0x04, 0x00, 0, 0, 0, 0, 0, 0, 0, 0, 0, 0, 0, 0,
+    ]));
+    assert_eq!(cut(list, 512, 1300, 1300), DONE);
+    assert_eq!(cut(list, 512, 1300, 1301), (11, UNTOUCHED));
+}
+
+#[test]
+#[rustfmt::skip]
+fn p2_empty_segment_and_one_above_m() {
+    assert_eq!(cut(&SEGMENTS, 512, 700, 0), (0, [
+        0, 0, 0, 0, 0, 0, 0x30, 0x00, 0, 0, 0, 7, 0, 0, 0x02, 0x00, // 3000h, 512
+        0, 0, 0, 0, 0, 0, 0, 0, 0, 0, 0, 0, 0, 0, 0, 0,
+    ]));
+    assert_eq!(cut(&SEGMENTS, 512, 700, 512), (0, [
+        0, 0, 0, 0, 0, 0, 0x32, 0x00, 0, 0, 0, 7, 0, 0, 0, 88,      // 3200h, 88
+        0, 0, 0x02, 0x00, 0, 0, 0, 0, 0, 0, 0, 0, 0, 0, 0, 0,
+    ]));
+    assert_eq!(cut(&SEGMENTS, 512, 700, 600), (0, [
+        0, 0, 0, 0, 0, 0, 0x50, 0x00, 0, 0, 0, 7, 0, 0, 0, 100,     // 5000h, 100
+        0, 0, 0x02, 0x58, 0, 0, 0, 0, 0, 0, 0, 0, 0, 0, 0, 0,
+    ]));
+    assert_eq!(cut(&SEGMENTS, 512, 700, 700), DONE);
+    // P3 and P4, as far as the cut goes: R = 650 shortens the last piece to 50, R = 800 is as R = 700.
+    assert_eq!(cut(&SEGMENTS, 512, 650, 600), (0, [
+        0, 0, 0, 0, 0, 0, 0x50, 0x00, 0, 0, 0, 7, 0, 0, 0, 50,
+        0, 0, 0x02, 0x58, 0, 0, 0, 0, 0, 0, 0, 0, 0, 0, 0, 0,
+    ]));
+    assert_eq!(cut(&SEGMENTS, 512, 650, 650), DONE);
+    assert_eq!(cut(&SEGMENTS, 512, 800, 600), cut(&SEGMENTS, 512, 700, 600));
+    assert_eq!(cut(&SEGMENTS, 512, 800, 700), DONE);
+}
+
+#[test]
+fn p5_no_data() {
+    let msg = head(0x00, 0, 0, 0);
+    assert_eq!(look(&msg), fetches(NO_FETCH, NO_FETCH));
+    assert_eq!(look(&msg[..47]), (3, UNTOUCHED));
+}
+
+#[test]
+fn p6_additional_cdb_counts_in_four_bytes() {
+    let msg = joined(&[&head(0x00, 0, 0, 0x07), &[0xcd; 5]]);
+    let returned = [48, 49, 51, 52, 53].map(|length| look(&msg[..length]).0);
+    assert_eq!(returned, [3, 3, 3, 0, 3]);
+    assert_eq!(look(&msg[..52]), fetches(NO_FETCH, NO_FETCH));
+}
+
+#[test]
+fn p7_one_indirect() {
+    // c = 0: 68 bytes; c = 2: 100 bytes. The table has three entries, so that it is fetched.
+    let none = joined(&[&head(0x02, 0, 0, 0), &TABLE]);
+    let two = joined(&[&head(0x02, 0, 2, 0), &TABLE, &SEGMENTS[..32]]);
+    assert_eq!([none.len(), two.len()], [68, 100]);
+    assert_eq!(look(&none), fetches(NO_FETCH, TABLE_FETCH));
+    assert_eq!(look(&two), fetches(NO_FETCH, TABLE_FETCH));
+    assert_eq!(look(&none[..67]), (3, UNTOUCHED));
+    assert_eq!(look(&two[..99]), (3, UNTOUCHED));
+
+    // The same as data-out.
+    let none = joined(&[&head(0x20, 0, 0, 0), &TABLE]);
+    let two = joined(&[&head(0x20, 2, 0, 0), &TABLE, &SEGMENTS[..32]]);
+    assert_eq!(look(&none), fetches(TABLE_FETCH, NO_FETCH));
+    assert_eq!(look(&two), fetches(TABLE_FETCH, NO_FETCH));
+
+    // Three copies are the whole table: nothing to fetch. Four are more than it holds.
+    let whole = joined(&[&head(0x20, 3, 0, 0), &TABLE, &SEGMENTS]);
+    assert_eq!(look(&whole), fetches(NO_FETCH, NO_FETCH));
+    let four = joined(&[&head(0x20, 4, 0, 0), &TABLE, &SEGMENTS, &SEGMENTS[..16]]);
+    assert_eq!(look(&four), (7, UNTOUCHED));
+    let four = joined(&[&head(0x02, 0, 4, 0), &TABLE, &SEGMENTS, &SEGMENTS[..16]]);
+    assert_eq!(look(&four), (8, UNTOUCHED));
+}

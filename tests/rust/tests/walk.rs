@@ -1,0 +1,195 @@
+//! Whole walks with srp_cut, from 0 bytes handed out to done, judged by document 01's words and not by the model: the
+//! pieces cover exactly the first min(R, B) bytes in order, each is at most M long and as long as possible, and none
+//! crosses a segment's end.
+
+use srp_tests::calls::{Call, Cut, Memory, Placement};
+use srp_tests::generate;
+use srp_tests::model::MemoryDescriptor;
+use srp_tests::random::Random;
+use srp_tests::tally::Tally;
+
+/// One byte of the buffer: the segment that has it, its handle and its address.
+#[derive(Clone, Copy, Debug, PartialEq)]
+struct Byte {
+    segment: usize,
+    handle: u32,
+    address: u64,
+}
+
+/// The buffer, byte after byte, segment by segment.
+fn bytes_of(segments: &[MemoryDescriptor]) -> Vec<Byte> {
+    let mut bytes = Vec::new();
+    for (at, segment) in segments.iter().enumerate() {
+        for i in 0..u64::from(segment.length) {
+            bytes.push(Byte { segment: at, handle: segment.handle, address: segment.address + i });
+        }
+    }
+    bytes
+}
+
+/// The answer's bytes as a piece and its offset; None for done. Bytes 20-31 of a piece are 0.
+fn read_answer(buf: &[u8]) -> Option<(MemoryDescriptor, u32)> {
+    if buf[..32] == [0; 32] {
+        return None;
+    }
+    assert_eq!(buf[20..32], [0; 12], "unused bytes");
+    Some((MemoryDescriptor::read(buf), u32::from_be_bytes([buf[16], buf[17], buf[18], buf[19]])))
+}
+
+struct Walk {
+    list: Vec<u8>,
+    m: u32,
+    r: u32,
+}
+
+impl Walk {
+    fn returned(&self, memory: &mut Memory, handed: u32) -> (u32, Vec<u8>) {
+        let call = Cut { list: self.list.clone(), m: self.m, r: self.r, handed, lent: 32 };
+        let outcome = call.outcome(memory, Placement::AT_END);
+        (outcome.returned, outcome.buf)
+    }
+
+    /// The pieces in order, up to done.
+    fn pieces(&self, memory: &mut Memory, most: usize) -> Vec<(MemoryDescriptor, u32)> {
+        let (mut pieces, mut handed) = (Vec::new(), 0);
+        loop {
+            let (returned, buf) = self.returned(memory, handed);
+            assert_eq!(returned, 0, "a lawful cut was refused after {handed} bytes");
+            let Some((memory, offset)) = read_answer(&buf) else {
+                break;
+            };
+            assert_eq!(offset, handed, "offset");
+            assert_ne!(memory.length, 0, "empty piece");
+            pieces.push((memory, offset));
+            assert!(pieces.len() <= most, "more than {most} pieces");
+            handed += memory.length;
+        }
+        if let Some(too_many) = handed.checked_add(1) {
+            assert_eq!(self.returned(memory, too_many).0, 11, "one byte more than all");
+        }
+        pieces
+    }
+}
+
+/// Judges the pieces of a walk over the buffer's bytes, of which the first min(R, B) are due.
+fn judge(walk: &Walk, bytes: &[Byte], pieces: &[(MemoryDescriptor, u32)], tally: &mut Tally) {
+    let due = &bytes[..bytes.len().min(walk.r as usize)];
+    let mut covered = Vec::new();
+    for (memory, offset) in pieces {
+        let (start, end) = (*offset as usize, *offset as usize + memory.length as usize);
+        assert!(end <= due.len(), "past min(R, B)");
+        let segment = due[start].segment;
+        assert!(due[start..end].iter().all(|byte| byte.segment == segment), "crosses a segment");
+        let (at_m, at_end) = (memory.length == walk.m, end == due.len());
+        let at_segment = bytes.get(end).is_none_or(|byte| byte.segment != segment);
+        assert!(memory.length <= walk.m, "longer than M");
+        assert!(at_m || at_segment || at_end, "could be longer");
+        tally.add(match (at_m, at_segment, at_end) {
+            (true, _, _) => "piece of M bytes",
+            (_, true, _) => "piece up to its segment's end",
+            _ => "piece up to R, inside a segment",
+        });
+        let byte = |i| Byte { segment, handle: memory.handle, address: memory.address.wrapping_add(i) };
+        covered.extend((0..u64::from(memory.length)).map(byte));
+    }
+    assert!(covered == due, "the pieces do not cover the first min(R, B) bytes in order, once each");
+    tally.add("done");
+}
+
+fn length(random: &mut Random, m: u32) -> u32 {
+    match random.below(6) {
+        0 | 1 => 0,
+        2 => random.of(&[1, 2, m - 1, m, m + 1, 2 * m, 2 * m + 1]) % 400,
+        _ => random.below(90) as u32,
+    }
+}
+
+fn segments(random: &mut Random, m: u32) -> Vec<MemoryDescriptor> {
+    let count = random.below(33);
+    (0..count)
+        .map(|_| {
+            let length = length(random, m);
+            let last = 0u64.wrapping_sub(u64::from(length));
+            let address = match random.below(4) {
+                0 if length > 0 => last,
+                1 => u64::from(random.u8()),
+                _ => random.u64() >> 1,
+            };
+            MemoryDescriptor { address, handle: random.u32(), length }
+        })
+        .collect()
+}
+
+#[test]
+fn every_byte_of_small_buffers() {
+    let (mut random, mut memory, mut tally) = (Random::new(7), Memory::default(), Tally::default());
+    for _ in 0..6_000 {
+        let m = random.of(&[1, 2, 3, 7, 16, 31, 64, 100, 512]);
+        let segments = segments(&mut random, m);
+        let bytes = bytes_of(&segments);
+        let r = random.of(&[bytes.len(), bytes.len() + 1, bytes.len().saturating_sub(1), bytes.len() / 2, 0, 1 << 31]);
+        let walk = Walk { list: generate::list_of(&segments), m, r: r as u32 };
+        let pieces = walk.pieces(&mut memory, 10_000);
+        judge(&walk, &bytes, &pieces, &mut tally);
+    }
+    tally.print("walks, judged byte by byte");
+    let outcomes = ["done", "piece of M bytes", "piece up to its segment's end", "piece up to R, inside a segment"];
+    tally.assert_each(500, &outcomes);
+}
+
+/// Buffers up to 2^32 - 1 bytes: each piece is placed by its offset in its segment.
+#[test]
+fn large_buffers() {
+    let (mut random, mut memory, mut seen) = (Random::new(8), Memory::default(), 0);
+    for _ in 0..200 {
+        let (segments, b) = large_segments(&mut random);
+        let m = 1_048_576 - random.of(&[0, 0, 1, 500_000]);
+        let r = random.of(&[u64::from(u32::MAX), b, b.saturating_sub(1), b / 2]);
+        let walk = Walk { list: generate::list_of(&segments), m, r: r as u32 };
+        let pieces = walk.pieces(&mut memory, 10_000);
+        seen += pieces.len();
+        let mut next = 0;
+        for (memory, offset) in &pieces {
+            assert_eq!(u64::from(*offset), next, "in order, none left out");
+            next += u64::from(memory.length);
+            let segment_end = end_of_its_segment(&segments, memory, *offset);
+            assert!(next <= segment_end, "crosses a segment");
+            assert!(memory.length <= m, "longer than M");
+            assert!(memory.length == m || next == segment_end || next == b.min(r), "could be longer");
+        }
+        assert_eq!(next, b.min(r), "all of the first min(R, B) bytes");
+    }
+    println!("walks over large buffers: {seen} pieces");
+    assert!(seen > 50_000);
+}
+
+/// Up to 32 segments, some of them large; and B, at most 2^32 - 1.
+fn large_segments(random: &mut Random) -> (Vec<MemoryDescriptor>, u64) {
+    let mut left = random.of(&[u64::from(u32::MAX), 1 << 30, 1 << 26]);
+    let mut segments = Vec::new();
+    for _ in 0..random.below(32) {
+        let length = if random.one_in(4) { 0 } else { random.up_to(left) };
+        left -= length;
+        let address = random.of(&[0, 1 << 40, 0u64.wrapping_sub(1 << 33)]);
+        segments.push(MemoryDescriptor { address, handle: random.u32(), length: length as u32 });
+    }
+    segments.push(MemoryDescriptor { address: 0u64.wrapping_sub(left), handle: 5, length: left as u32 });
+    let b = segments.iter().map(|segment| u64::from(segment.length)).sum();
+    (segments, b)
+}
+
+/// The end, as an offset in the buffer, of the segment that has the byte at `offset`. Panics unless the piece's handle
+/// and address are those of that byte.
+fn end_of_its_segment(segments: &[MemoryDescriptor], memory: &MemoryDescriptor, offset: u32) -> u64 {
+    let mut start = 0;
+    for segment in segments {
+        let end = start + u64::from(segment.length);
+        if (start..end).contains(&u64::from(offset)) {
+            assert_eq!(memory.handle, segment.handle, "handle");
+            assert_eq!(memory.address, segment.address + (u64::from(offset) - start), "address");
+            return end;
+        }
+        start = end;
+    }
+    panic!("offset {offset} lies in no segment");
+}
