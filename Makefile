@@ -1,10 +1,24 @@
-.PHONY: run test
+.PHONY: run test bench fuzz lib
 
-# prove the definitions and show the table of rows that was proved with them
+# build cutlist, proved, and run it on document 01's example: three RDMA Writes
 run:
-	@rt check srp
-	@sed -n '/^bench =/,/^    ∷ \[\]/p' crates/srp/specs/Table.antt
+	@mkdir -p target
+	@rt check cutlist >target/run.log 2>&1 || { cat target/run.log; exit 1; }
+	@target/bin/cutlist <crates/cutlist/stdin
 
 # the gate
 test:
 	@bash .ci/run
+
+# target/staticlib/libexports.a, for C and Rust to link
+lib:
+	@rt staticlib exports
+
+# time look and the cut in C beside plain Rust
+bench: lib
+	@cd bench && cargo run --offline --locked --release --quiet
+
+# compare look and the cut in C with their version in plain Rust on random calls: make fuzz SECONDS=60 [SEED=1]
+SECONDS ?= 60
+fuzz: lib
+	@cd tests/rust && cargo run --offline --locked --release --quiet --bin fuzz -- $(SECONDS) $(SEED)
