@@ -1,7 +1,11 @@
-// What an answer is in numbers, for callers that have no enums.
+// What an answer is in numbers, for callers that have no enums; and the answer of a refusal without a message.
+use srp::Answer;
 use srp::Refusal;
+use srp::Reply;
 ghost use mathlib.Core.Path.{_≡_};
-ghost use Rattle.srp.specs.Refusals.{numberOf};
+ghost use Rattle.srp.specs.Refusals.{numberOf, reasonOf};
+ghost use Rattle.srp.specs.Writing;
+ghost use Rattle.srp.specs.Answers.{refusing};
 
 // Document 01's number of a refusal.
 pub fn number_of(refusal: Refusal) -> u32
@@ -29,5 +33,36 @@ pub fn number_of(refusal: Refusal) -> u32
         Refusal::Wanted => 28,
         Refusal::Unplanned => 29,
         Refusal::Planned => 30,
+    }
+}
+
+// The reason in the SRP_T_LOGOUT of a hang-up.
+pub fn reason_of(r: Refusal) -> u32
+    ensures { λ n. ⌜ n ≡ reasonOf (numberOf r) ⌝ }
+{
+    let n = number_of(r);
+    if n < 5 {
+        return 0;
+    }
+    if 8 < n {
+        return 0;
+    }
+    n + 1
+}
+
+// SOLNT of a response, by its status or its RSP_CODE.
+pub fn solicited(ucsolnt: bool, scsolnt: bool, code: u8) -> bool
+    ensures { λ b. ⌜ b ≡ Writing.solicited ucsolnt scsolnt code ⌝ }
+{
+    if code == 0 { scsolnt } else { ucsolnt }
+}
+
+// A refusal without a message.
+pub fn refused(f: Refusal) -> Answer
+    ensures { λ r. ⌜ r ≡ refusing f ⌝ }
+{
+    Answer {
+        reply: Reply::Refused(f),
+        wrote: 0,
     }
 }

@@ -27,6 +27,15 @@ one-of : {A B : Type 0} (p q : Bool) → (p ≡ true → A) → (q ≡ true → 
 one-of true q f g e = inl (f refl)
 one-of false q f g e = inr (g e)
 
+-- ── a list written 0 from its start
+
+-- one more is 0
+pub zeros-more : (i : ℕ) (s : List ℕ) → i < length s → set (zeros i ++ drop i s) i 0 ≡ zeros (suc i) ++ drop (suc i) s
+zeros-more zero [] h = absurd (omega arith)
+zeros-more zero (x ∷ s) h = refl
+zeros-more (suc i) [] h = absurd (omega arith)
+zeros-more (suc i) (x ∷ s) h = ap (λ (l : List ℕ). 0 ∷ l) (zeros-more i s (omega arith))
+
 -- ── some bytes of a list, written over
 
 module _ {A : Type 0} where
@@ -34,7 +43,7 @@ module _ {A : Type 0} where
   over at w s = take at s ++ (w ++ drop (at + length w) s)
 
   -- a region before the seam
-  front : (s t : List A) (at n : ℕ) → at + n ≤ length s → take n (drop at (s ++ t)) ≡ take n (drop at s)
+  pub front : (s t : List A) (at n : ℕ) → at + n ≤ length s → take n (drop at (s ++ t)) ≡ take n (drop at s)
   front s t at n h = rw (drop-append-le at s t (omega arith), take-append-le n (drop at s) t (rw length-drop (omega arith)))
 
   module _ (at : ℕ) (w s : List A) (room : at + length w ≤ length s) where

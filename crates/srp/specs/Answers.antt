@@ -4,13 +4,16 @@ use mathlib.Core.List.{List, [], _∷_}
 use mathlib.Core.Option.{Option, none, some}
 use Prim.Native.Nat.{ℕ}
 use lib.IntN.{ℤ, pos}
+use lib.ListN.{length}
 use Rattle.srp.specs.Messages.{cmd}
 use Rattle.srp.specs.Refusals.{numberOf}
+use Rattle.srp.specs.Take.{Outcome}
 use Rattle.srp.specs.declared.Refusal.{Refusal}
 use Rattle.srp.specs.declared.Kind.{Kind}
 use Rattle.srp.specs.declared.Kind.the-variants.{Read, Write}
 use Rattle.srp.specs.declared.Reply.{Reply}
 use Rattle.srp.specs.declared.Reply.the-variants.{Refused, Performed, NewCommand, TaskAnswered, CreditSettled, LoggedOut, Operation, Done, Accepted, Rejected, Counts, Listed}
+use Rattle.srp.specs.declared.Answer.{Answer}
 
 abbrev pub refusalIn : Reply → Option Refusal
 refusalIn (Refused r) = some r
@@ -53,3 +56,16 @@ valuesOf (Rejected reason) = pos reason ∷ []
 valuesOf (Counts c) = pos (c .wanted) ∷ pos (c .announced) ∷ pos (c .held) ∷ c .owed ∷ []
 -- the number of records
 valuesOf (Listed n) = pos n ∷ []
+
+-- the length of the message written
+abbrev pub sizeOf : List (List ℕ) → ℕ
+sizeOf [] = 0
+sizeOf (s ∷ ss) = length s
+
+-- what a call with a lent buffer answers
+abbrev pub answerOf : Outcome → Answer
+answerOf o = record { reply = o .reply; wrote = sizeOf (o .wrote) }
+
+-- a refusal without a message
+abbrev pub refusing : Refusal → Answer
+refusing f = record { reply = Refused f; wrote = 0 }

@@ -147,3 +147,9 @@ pub enum Reply {
     Counts(Counters),
     Listed(usize),
 }
+
+// A reply, and the length of the message in the lent buffer, 0 where none was written.
+pub struct Answer {
+    pub reply: Reply,
+    pub wrote: usize,
+}

@@ -9,7 +9,7 @@ use native.Mathlib.Omega.{arith}
 use lib.Pow.{pow-add}
 use lib.ListN.{length, take, drop, getD, set, length-drop}
 use lib.Seq.{take-add, drop-drop, take-append-le, take-take, drop-at, length-take-le, drop-cons, set-split}
-use Rattle.srp.specs.Bytes.{bytes, get, put, number, bytesOf, zeros}
+use Rattle.srp.specs.Bytes.{bytes, get, put, number, bytesOf}
 
 -- ── read
 
@@ -87,10 +87,3 @@ module _ (at : ℕ) (s : List ℕ) (fits : at < length s) where
 
   pub write-one : (v : ℕ) → v < 256 → put (bytes at 1) v s ≡ set s at v
   write-one v h = rw (set-split s at v fits, div-one v, mod-eq-of-lt h, add-one at)
-
--- one byte more is 0
-pub zeros-more : (i : ℕ) (s : List ℕ) → i < length s → set (zeros i ++ drop i s) i 0 ≡ zeros (suc i) ++ drop (suc i) s
-zeros-more zero [] h = absurd (omega arith)
-zeros-more zero (x ∷ s) h = refl
-zeros-more (suc i) [] h = absurd (omega arith)
-zeros-more (suc i) (x ∷ s) h = ap (λ (l : List ℕ). 0 ∷ l) (zeros-more i s (omega arith))

@@ -1,7 +1,15 @@
 // Types, sizes, and where the fields of the messages stand: the numbers of crate srp's specs/Messages.antt, in its order.
 
 // types of messages
+pub const LOGIN_REQ: u8 = 0x00;
+
+pub const TSK_MGMT: u8 = 0x01;
+
 pub const COMMAND: u8 = 0x02;
+
+pub const I_LOGOUT: u8 = 0x03;
+
+pub const CRED_RSP: u8 = 0x41;
 
 pub const LOGIN_RSP: u8 = 0xc0;
 
@@ -13,8 +21,12 @@ pub const CRED_REQ: u8 = 0x81;
 
 pub const T_LOGOUT: u8 = 0x80;
 
-// sizes: of SRP_CRED_REQ and SRP_T_LOGOUT, of the two answers to a login, of an SRP_RSP's fixed part;
-// of a memory descriptor, and of a table descriptor with the total length behind it
+// sizes: of SRP_LOGIN_REQ and SRP_TSK_MGMT; of SRP_I_LOGOUT, SRP_CRED_RSP, SRP_CRED_REQ and SRP_T_LOGOUT; of the two answers to a login;
+// of an SRP_RSP's fixed part; of a memory descriptor, and of a table descriptor with the total length behind it
+pub const LOGIN_REQ_SIZE: usize = 64;
+
+pub const TSK_MGMT_SIZE: usize = 48;
+
 pub const SHORT_SIZE: usize = 16;
 
 pub const LOGIN_RSP_SIZE: usize = 52;
@@ -56,7 +68,16 @@ pub const ADDITIONAL: usize = 31;
 
 pub const CDB: usize = 32;
 
-// SRP_LOGIN_REQ
+// SRP_TSK_MGMT
+pub const TASK_FUNCTION: usize = 30;
+
+pub const TASK_TAG: usize = 32;
+
+// SRP_LOGIN_REQ: CRSOLNT, LOSOLNT and the channel action share a byte
+pub const REQUESTED_LENGTH: usize = 16;
+
+pub const LOGIN_BITS: usize = 26;
+
 pub const TARGET_IDENTIFIER: usize = 48;
 
 // SRP_LOGIN_RSP
@@ -88,7 +109,7 @@ pub const SEGMENT_LENGTH: usize = 12;
 
 pub const TOTAL_LENGTH: usize = 16;
 
-// bits of byte 1, of a response's flags, of byte 26 in SRP_LOGIN_RSP
+// bits of byte 1, of a response's flags, of byte 26 in SRP_LOGIN_REQ and SRP_LOGIN_RSP
 pub const SOLNT: u8 = 0;
 
 pub const SCSOLNT: u8 = 1;
@@ -106,5 +127,11 @@ pub const DOUNDER: u8 = 3;
 pub const DIOVER: u8 = 4;
 
 pub const DIUNDER: u8 = 5;
+
+pub const LOGIN_CRSOLNT: u8 = 5;
+
+pub const LOGIN_LOSOLNT: u8 = 4;
+
+pub const CHANNEL_ACTION: u8 = 0;
 
 pub const SOLNTSUP_BIT: u8 = 4;

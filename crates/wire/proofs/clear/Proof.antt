@@ -6,7 +6,7 @@ use native.Mathlib.Omega.{arith}
 use lib.ListN.{length, drop, length-set}
 use native.Mathlib.Numerals.{add-one}
 use Rattle.srp.specs.Bytes.{zeros}
-use Rattle.wire.proofs.Widths.{zeros-more}
+use Rattle.srp.proofs.Fields.{zeros-more}
 use Rattle.wire.proofs.clear.Statement.{statement}
 use Rattle.wire.proofs.clear.Tie as tie
 
