@@ -1,0 +1,113 @@
+-- The port that words are: its open commands, its ranges, open and closed.
+-- Assumes nothing.
+use mathlib.Core.Path.{_≡_, refl, _∙_, ap}
+use mathlib.Core.Bool.{Bool, true, false, cond}
+use mathlib.Core.List.{List}
+use mathlib.Core.Logic.{_⊎_, inl, inr}
+use Prim.Native.Nat.{ℕ, zero, suc, _+_, _*_, _<_}
+use native.Mathlib.Omega.{arith}
+use native.Mathlib.Nat.{add-zero}
+use lib.ListN.{length, getD, drop, replicate, length-map}
+use lib.Seq.{length-take-le, getD-take, getD-drop}
+use Rattle.srp.specs.Credit.{closedPort}
+use Rattle.words.specs.declared.Slot.{Slot}
+use Rattle.words.specs.View.{slotOf, SlotFits, region, slots, noSlot, headOf, HeadFits, opens, openOf, shown, view, closedWords, InRanges}
+use Rattle.words.proofs.Slots.{slots-long, slot-at}
+
+-- ── ranges
+
+-- the slot that words say is in its ranges
+pub said-fits : (r : List ℕ) → SlotFits (slotOf r)
+said-fits r = record { place = omega arith; out = omega arith; inn = omega arith }
+
+-- a slot of a port is in its ranges
+pub slot-fits : (l : List ℕ) (i : ℕ) → i < 16 → SlotFits (getD (slots l) i noSlot)
+slot-fits l i h = rw (slot-at l i h) (said-fits (region l i))
+
+-- so is a head
+pub head-fits : (l : List ℕ) → HeadFits (headOf l)
+head-fits l =
+    record {
+      least = omega arith;
+      most = omega arith;
+      room = omega arith;
+      smallest = omega arith;
+      largest = omega arith;
+      shortest = omega arith;
+      longest = omega arith;
+      even = omega arith;
+      formats = omega arith;
+    }
+
+-- ── the open commands
+
+-- there are as many as the head says
+pub opens-long : (l : List ℕ) → length (opens l) ≡ headOf l .held
+opens-long l = length-take-le (headOf l .held) (slots l) (omega (arith, slots-long 16 0 l))
+
+-- the tag of an open command is its slot's first word
+pub tag-at : (l : List ℕ) (i : ℕ) → i < headOf l .held → getD (opens l) i noSlot .tag ≡ getD l (24 * i + 16) 0
+tag-at l i h =
+    ap (λ (c : Slot). c .tag) (getD-take (headOf l .held) (slots l) i noSlot h ∙ slot-at l i (omega arith))
+    ∙ getD-take 24 (drop (24 * i + 16) l) 0 0 (omega arith)
+    ∙ getD-drop (24 * i + 16) l 0 0
+    ∙ ap (λ (k : ℕ). getD l k 0) (add-zero (24 * i + 16))
+
+-- ── open and closed
+
+-- words that say open are the port of their head and slots
+pub while-open : (l st : List ℕ) → headOf l .live ≡ true → view l st ≡ shown l st
+while-open l st e = ap (λ (b : Bool). cond b (shown l st) closedPort) e
+
+-- words that say closed are the closed port, whatever else they say
+pub while-closed : (l st : List ℕ) → headOf l .live ≡ false → view l st ≡ closedPort
+while-closed l st e = ap (λ (b : Bool). cond b (shown l st) closedPort) e
+
+-- the port is open where the head says so
+pub view-live : (l st : List ℕ) → view l st .live ≡ headOf l .live
+view-live l st = go (headOf l .live)
+  where
+    go : (b : Bool) → cond b (shown l st) closedPort .live ≡ b
+    go true = refl
+    go false = refl
+
+-- ── the closed port's words
+
+zeros-at : (n k : ℕ) → _≡_ {A = ℕ} (getD (replicate n 0) k 0) 0
+zeros-at zero k = refl
+zeros-at (suc n) zero = refl
+zeros-at (suc n) (suc k) = zeros-at n k
+
+-- each of them is 0
+pub closed-word : (k : ℕ) → getD closedWords k 0 ≡ 0
+closed-word k = zeros-at 400 k
+
+-- they are the closed port
+pub closed-view : (l st : List ℕ) → l ≡ closedWords → view l st ≡ closedPort
+closed-view l st e = ap (λ (x : List ℕ). view x st) e ∙ while-closed closedWords st refl
+
+-- ── any words are a port
+
+shown-ranges : (l st : List ℕ) → InRanges (shown l st)
+shown-ranges l st =
+    let F : HeadFits (headOf l) = head-fits l in
+    let n : length (shown l st .held) ≡ headOf l .held = length-map (opens l) (openOf st) ∙ opens-long l in
+    record {
+      least = F .least;
+      most = F .most;
+      room = rw n (F .room);
+      smallest = F .smallest;
+      largest = F .largest;
+      shortest = F .shortest;
+      longest = F .longest;
+      even = F .even;
+      formats = F .formats;
+    }
+
+-- the port that any words are is closed, or in document 01's ranges
+pub any-words : (l st : List ℕ) → (view l st ≡ closedPort) ⊎ InRanges (view l st)
+any-words l st = go (headOf l .live)
+  where
+    go : (b : Bool) → (cond b (shown l st) closedPort ≡ closedPort) ⊎ InRanges (cond b (shown l st) closedPort)
+    go true = inr (shown-ranges l st)
+    go false = inl refl

@@ -1,0 +1,254 @@
+// A port in lent words: a head of 16 words, then 16 slots of 24 words. The open commands are the first slots, oldest first.
+// Any words are a port: each number is read into its range, so that no caller owes anything but 400 words. The words left over in the
+// head and in a slot are written 0.
+ghost use mathlib.Core.Path.{_≡_};
+ghost use mathlib.Core.Bool.{Bool};
+ghost use Prim.Native.Nat.{ℕ, min, _+_, _≤_, _<_};
+ghost use lib.ListN.{length, getD, set};
+ghost use lib.Seq.{paste};
+ghost use Rattle.words.specs.View.{portWords, slotWords, slotOf, wordsOf, headOf, headWords, slots, noSlot, HeadIs, HeadFits, SlotIs, SlotFits, closedWords, CountedIs};
+
+// Words of a port's head and of a slot; bytes of a place in the store and of one direction there.
+pub const HEAD: usize = 16;
+
+pub const SLOT: usize = 24;
+
+pub const PLACE: usize = 1024;
+
+pub const LIST: usize = 512;
+
+// What a number may be.
+const MOST_BUFFERS: u64 = 16;
+
+const MOST_SEGMENTS: u64 = 32;
+
+const PLACES: u64 = 16;
+
+const LARGEST_PIECE: u64 = 1048576;
+
+const SHORTEST_AGREED: u64 = 64;
+
+const AGREED_LENGTHS: u64 = 1301;
+
+const NUMBERS: u64 = 4294967296;
+
+// One direction of an open command: its segments in the store, B, R, the bytes handed out.
+pub struct Part {
+    pub segments: u8,
+    pub total: u32,
+    pub required: u32,
+    pub handed: u32,
+}
+
+// An open command. Its segments stand at its place in the store.
+pub struct Slot {
+    pub tag: u64,
+    pub lun: u64,
+    pub ucsolnt: bool,
+    pub scsolnt: bool,
+    pub planned: bool,
+    pub place: u8,
+    pub out: Part,
+    pub inn: Part,
+}
+
+// The rest of a port: H, W, A, M, the agreed length and formats, and what is on.
+pub struct Head {
+    pub live: bool,
+    pub held: usize,
+    pub wanted: u8,
+    pub announced: u8,
+    pub unanswered: bool,
+    pub maximum: u32,
+    pub agreed: u32,
+    pub formats: u32,
+    pub crsolnt: bool,
+    pub losolnt: bool,
+}
+
+// The smaller of two numbers.
+fn cap(x: u64, most: u64) -> u64
+    ensures { λ r. ⌜ r ≡ min x most ⌝ }
+{
+    if x < most { x } else { most }
+}
+
+fn part_of(r: &[u64], at: usize) -> Part
+    requires { ⌜ at + 4 ≤ length (now r) ⌝ }
+    ensures { λ p. ⌜ p ≡ Rattle.words.specs.View.partOf (now (r .entry)) at ⌝ }
+{
+    let segments = cap(r[at], MOST_SEGMENTS);
+    Part {
+        segments: segments as u8,
+        total: (r[at + 1] % NUMBERS) as u32,
+        required: (r[at + 2] % NUMBERS) as u32,
+        handed: (r[at + 3] % NUMBERS) as u32,
+    }
+}
+
+// The command that a slot's words say.
+fn slot_of(r: &[u64]) -> Slot
+    requires { ⌜ length (now r) ≡ 24 ⌝ }
+    ensures { λ c. ⌜ c ≡ slotOf (now (r .entry)) ⌝ }
+{
+    let out = part_of(r, 6);
+    let inn = part_of(r, 10);
+    Slot {
+        tag: r[0],
+        lun: r[1],
+        ucsolnt: r[2] % 2 == 1,
+        scsolnt: r[3] % 2 == 1,
+        planned: r[4] % 2 == 1,
+        place: (r[5] % PLACES) as u8,
+        out: out,
+        inn: inn,
+    }
+}
+
+fn words_of(c: Slot) -> [u64; 24]
+    ensures { λ r. ⌜ r ≡ wordsOf c ⌝ }
+{
+    let out = c.out;
+    let inn = c.inn;
+    [
+        c.tag,
+        c.lun,
+        c.ucsolnt as u64,
+        c.scsolnt as u64,
+        c.planned as u64,
+        c.place as u64,
+        out.segments as u64,
+        out.total as u64,
+        out.required as u64,
+        out.handed as u64,
+        inn.segments as u64,
+        inn.total as u64,
+        inn.required as u64,
+        inn.handed as u64,
+        0,
+        0,
+        0,
+        0,
+        0,
+        0,
+        0,
+        0,
+        0,
+        0,
+    ]
+}
+
+// Words written into a slice from a place on.
+fn put_words(to: &mut [u64], at: usize, from: &[u64])
+    requires { ⌜ at + length (now from) ≤ length (now to) ⌝ }
+    ensures { λ _. ⌜ now (to .exit) ≡ paste (now (to .entry)) at (now (from .entry)) (length (now (from .entry))) ⌝ }
+{
+    let mut j: usize = 0;
+    while j < from.len() {
+        to[at + j] = from[j];
+        j += 1;
+    }
+}
+
+// The command in slot i.
+pub fn load(s: &[u64], i: usize) -> Slot
+    requires { ⌜ length (now s) ≡ portWords ⌝ }
+    requires { ⌜ i < 16 ⌝ }
+    ensures { λ c. ⌜ SlotIs (now (s .entry)) i c ⌝ }
+{
+    let at = SLOT * i + HEAD;
+    slot_of(&s[at..at + SLOT])
+}
+
+pub fn save(s: &mut [u64], i: usize, c: Slot)
+    requires { ⌜ length (now s) ≡ portWords ⌝ }
+    requires { ⌜ i < 16 ⌝ }
+    requires { ⌜ SlotFits c ⌝ }
+    ensures { λ _. ⌜ (slots (now (s .exit)) ≡ set (slots (now (s .entry))) i c) × (headOf (now (s .exit)) ≡ headOf (now (s .entry))) ⌝ }
+{
+    let w = words_of(c);
+    put_words(s, SLOT * i + HEAD, &w);
+}
+
+pub fn get_head(s: &[u64]) -> Head
+    requires { ⌜ length (now s) ≡ portWords ⌝ }
+    ensures { λ h. ⌜ HeadIs (now (s .entry)) h ⌝ }
+{
+    let held = cap(s[1], MOST_BUFFERS);
+    let announced = cap(s[3], MOST_BUFFERS - held);
+    Head {
+        live: s[0] % 2 == 1,
+        held: held as usize,
+        wanted: (s[2] % MOST_BUFFERS + 1) as u8,
+        announced: announced as u8,
+        unanswered: s[4] % 2 == 1,
+        maximum: (s[5] % LARGEST_PIECE + 1) as u32,
+        agreed: (s[6] % AGREED_LENGTHS + SHORTEST_AGREED) as u32,
+        formats: (s[7] % 4 * 2) as u32,
+        crsolnt: s[8] % 2 == 1,
+        losolnt: s[9] % 2 == 1,
+    }
+}
+
+fn head_words(h: Head) -> [u64; 16]
+    requires { ⌜ HeadFits h ⌝ }
+    ensures { λ r. ⌜ r ≡ headWords h ⌝ }
+{
+    [
+        h.live as u64,
+        h.held as u64,
+        (h.wanted - 1) as u64,
+        h.announced as u64,
+        h.unanswered as u64,
+        (h.maximum - 1) as u64,
+        (h.agreed - 64) as u64,
+        (h.formats / 2) as u64,
+        h.crsolnt as u64,
+        h.losolnt as u64,
+        0,
+        0,
+        0,
+        0,
+        0,
+        0,
+    ]
+}
+
+pub fn set_head(s: &mut [u64], h: Head)
+    requires { ⌜ length (now s) ≡ portWords ⌝ }
+    requires { ⌜ HeadFits h ⌝ }
+    ensures { λ _. ⌜ (slots (now (s .exit)) ≡ slots (now (s .entry))) × (headOf (now (s .exit)) ≡ h) ⌝ }
+{
+    let w = head_words(h);
+    put_words(s, 0, &w);
+}
+
+// The head with other counts.
+pub fn counted(h: Head, held: usize, wanted: u8, announced: u8, unanswered: bool) -> Head
+    ensures { λ r. ⌜ CountedIs h held wanted announced unanswered r ⌝ }
+{
+    Head {
+        live: h.live,
+        held: held,
+        wanted: wanted,
+        announced: announced,
+        unanswered: unanswered,
+        maximum: h.maximum,
+        agreed: h.agreed,
+        formats: h.formats,
+        crsolnt: h.crsolnt,
+        losolnt: h.losolnt,
+    }
+}
+
+// The closed port: every word 0.
+pub fn clear(s: &mut [u64])
+    requires { ⌜ length (now s) ≡ portWords ⌝ }
+    ensures { λ _. ⌜ now (s .exit) ≡ closedWords ⌝ }
+{
+    let mut i: usize = 0;
+    while i < s.len() {
+        s[i] = 0;
+        i += 1;
+    }
+}
