@@ -1,0 +1,199 @@
+-- The open commands: the search for a tag, and those that end dropped from their slots.
+-- Assumes nothing.
+use mathlib.Core.Path.{_≡_, refl, sym, _∙_, ap}
+use mathlib.Core.Bool.{Bool, true, false}
+use mathlib.Core.List.{List, [], _∷_, _++_, map, append-assoc, append-nil}
+use mathlib.Core.Option.{none, some}
+use Prim.Native.Nat.{ℕ, zero, suc, _+_, _*_, _≤_, _<_}
+use native.Mathlib.Omega.{arith}
+use native.Mathlib.Nat.{add-zero}
+use native.Mathlib.Numerals.{add-one}
+use borrow.Author.Count.{below-none, below-more}
+use borrow.Author.Tests.{eq-eqb, ne-eqb}
+use lib.Dec.{eqb}
+use lib.ListN.{length, getD, take, drop, set, drop-of-length-le}
+use lib.Seq.{drop-cons, getD-take, getD-drop, drop-drop, take-suc-set, drop-set-lt, take-set-lt}
+use Rattle.srp.specs.Lists.{find, change, without}
+use Rattle.srp.specs.Credit.{Open, withHeld}
+use Rattle.srp.specs.Take.{hasTag}
+use Rattle.srp.proofs.ListLaws.{without-map}
+use Rattle.words.specs.declared.Slot.{Slot}
+use Rattle.words.specs.declared.Head.{Head}
+use Rattle.words.specs.View.{portWords, headOf, slots, noSlot, opens, openOf, openPort, countedOf, shown}
+use Rattle.words.proofs.Slots.{slots-long}
+use Rattle.words.proofs.Ports.{opens-long, tag-at}
+use Rattle.state.specs.Changes.{FoundAt, FoundIs, Alters, ends, withoutEnded}
+use Rattle.state.specs.declared.Found.the-variants.{Nothing}
+use Rattle.state.specs.declared.Ending.{Ending}
+
+-- ── the first that passes, in a list of images
+
+module _ {A B : Type 0} (p : B → Bool) (f : A → B) (d : A) where
+  -- none of the first i passes
+  abbrev pub NoneOf : List A → ℕ → Type 0
+  NoneOf l i = (j : ℕ) → j < i → p (f (getD l j d)) ≡ false
+
+  -- then the one at i is the first that passes
+  pub first-there : (l : List A) (i : ℕ) → i < length l → NoneOf l i → p (f (getD l i d)) ≡ true → find p (map f l) ≡ some (f (getD l i d))
+  first-there [] i h N e = let z : ⊥ = omega arith in absurd z
+  first-there (x ∷ xs) zero h N e = rw e refl
+  first-there (x ∷ xs) (suc i) h N e = rw (N 0 (omega arith)) (first-there xs i (omega arith) (λ j k. N (suc j) (omega arith)) e)
+
+  -- where those are all, none is found
+  pub none-there : (l : List A) (i : ℕ) → length l ≤ i → NoneOf l i → find p (map f l) ≡ none
+  none-there [] i h N = refl
+  none-there (x ∷ xs) zero h N = let z : ⊥ = omega arith in absurd z
+  none-there (x ∷ xs) (suc i) h N = rw (N 0 (omega arith)) (none-there xs i (omega arith) (λ j k. N (suc j) (omega arith)))
+
+  -- a change of the first that passes is one at i
+  pub change-there : (l : List A) (i : ℕ) → i < length l → NoneOf l i → p (f (getD l i d)) ≡ true → (g : B → B) (c : A) → f c ≡ g (f (getD l i d))
+      → change p g (map f l) ≡ map f (set l i c)
+  change-there [] i h N e g c q = let z : ⊥ = omega arith in absurd z
+  change-there (x ∷ xs) zero h N e g c q = rw (e, q) refl
+  change-there (x ∷ xs) (suc i) h N e g c q =
+      rw (N 0 (omega arith)) (ap (λ (r : List B). f x ∷ r) (change-there xs i (omega arith) (λ j k. N (suc j) (omega arith)) e g c q))
+
+-- ── the search for a tag
+
+-- the first i open commands do not have the tag
+pub record Searching (l : List ℕ) (tag held i : ℕ) : Type 0 where
+  pub count : held ≡ headOf l .held
+  pub in-count : i ≤ held
+  pub small : held ≤ 16
+  pub others : (j : ℕ) → j < i → eqb tag (getD (opens l) j noSlot .tag) ≡ false
+
+-- before the first
+pub search-start : (l : List ℕ) (tag held : ℕ) → held ≡ headOf l .held → Searching l tag held 0
+search-start l tag held e = record { count = e; in-count = omega arith; small = omega arith; others = below-none _ }
+
+module _ (l : List ℕ) (tag held i : ℕ) (S : Searching l tag held i) where
+  -- not this one
+  pub search-more : i < held → (getD l (24 * i + 16) 0 ≡ tag → ⊥) → Searching l tag held (i + 1)
+  search-more h ne =
+      record {
+        count = S .count;
+        in-count = omega arith;
+        small = S .small;
+        others = below-more (λ (j : ℕ). eqb tag (getD (opens l) j noSlot .tag) ≡ false) i (S .others)
+            (ne-eqb tag (getD (opens l) i noSlot .tag) (λ q. ne (sym (tag-at l i (omega (arith, S .count))) ∙ sym q)));
+      }
+
+  -- this one
+  pub search-here : i < held → getD l (24 * i + 16) 0 ≡ tag → FoundAt l tag i
+  search-here h eq =
+      let n : i < headOf l .held = omega (arith, S .count) in
+      let long : i < length (opens l) = omega (arith, opens-long l) in
+      let this : eqb tag (getD (opens l) i noSlot .tag) ≡ true = eq-eqb tag (getD (opens l) i noSlot .tag) (sym eq ∙ sym (tag-at l i n)) in
+      let slot : getD (opens l) i noSlot ≡ getD (slots l) i noSlot = getD-take (headOf l .held) (slots l) i noSlot n in
+      record {
+        inside = n;
+        small = omega (arith, S .small);
+        first = λ st. first-there (hasTag tag) (openOf st) noSlot (opens l) i long (S .others) this ∙ ap (λ (c : Slot). some (openOf st c)) slot;
+        changes = λ st g c e.
+            change-there (hasTag tag) (openOf st) noSlot (opens l) i long (S .others) this g c (e ∙ ap (λ (x : Slot). g (openOf st x)) (sym slot))
+            ∙ ap (map (openOf st)) (sym (take-set-lt (headOf l .held) (slots l) i c n));
+      }
+
+  -- none
+  pub search-end : held ≤ i → FoundIs l tag Nothing
+  search-end h st = none-there (hasTag tag) (openOf st) noSlot (opens l) i (omega (arith, opens-long l, S .count)) (S .others)
+
+-- ── commands dropped
+
+module _ {A : Type 0} where
+  -- lists that agree from i on agree behind it, and at it
+  tail-same : (l m : List A) (i : ℕ) → drop i l ≡ drop i m → drop (i + 1) l ≡ drop (i + 1) m
+  tail-same l m i e = sym (drop-drop 1 i l) ∙ ap (drop 1) e ∙ drop-drop 1 i m
+
+  head-same : (l m : List A) (i : ℕ) (d : A) → drop i l ≡ drop i m → getD l i d ≡ getD m i d
+  head-same l m i d e = rw (getD-drop i l, getD-drop i m, add-zero) at (ap (λ (x : List A). getD x 0 d) e)
+
+  module _ (p : A → Bool) (l : List A) (i : ℕ) (d : A) (h : i < length l) where
+    -- one that stays
+    stays : p (getD l i d) ≡ false → without p (drop i l) ≡ getD l i d ∷ without p (drop (i + 1) l)
+    stays e = rw (drop-cons l i d, e, add-one) refl
+
+    -- one that ends
+    goes : p (getD l i d) ≡ true → without p (drop i l) ≡ without p (drop (i + 1) l)
+    goes e = rw (drop-cons l i d, e, add-one) refl
+
+-- whether the command in a slot ends
+abbrev pub over : Ending → Slot → Bool
+over e c = ends e (c .tag) (c .lun)
+
+-- of the words p, with `held` open commands, the words q are made: the first i commands are looked at, `kept` of them stay
+pub record Dropping (e : Ending) (held : ℕ) (p q : List ℕ) (i kept : ℕ) : Type 0 where
+  pub count : held ≡ headOf p .held
+  pub long : length q ≡ portWords
+  pub same-long : length q ≡ length p
+  pub in-count : i ≤ held
+  pub small : held ≤ 16
+  pub behind : kept ≤ i
+  pub ahead : drop i (slots q) ≡ drop i (slots p)
+  pub done : take kept (slots q) ++ without (over e) (drop i (opens p)) ≡ without (over e) (opens p)
+
+-- before the first
+pub drop-start : (e : Ending) (held : ℕ) (p : List ℕ) → held ≡ headOf p .held → length p ≡ portWords → Dropping e held p p 0 0
+drop-start e held p n l =
+    record { count = n; long = l; same-long = refl; in-count = omega arith; small = omega arith; behind = omega arith; ahead = refl; done = refl }
+
+module _ (e : Ending) (held : ℕ) (p q : List ℕ) (i kept : ℕ) (D : Dropping e held p q i kept) (c : Slot) (is : c ≡ getD (slots q) i noSlot) (h : i < held) where
+  this : c ≡ getD (opens p) i noSlot
+  this =
+      let g : i < headOf p .held = omega (arith, D .count) in
+      is ∙ head-same (slots q) (slots p) i noSlot (D .ahead) ∙ sym (getD-take (headOf p .held) (slots p) i noSlot g)
+
+  inside : i < length (opens p)
+  inside = omega (arith, opens-long p, D .count)
+
+  -- this one ends
+  pub drop-ended : ends e (c .tag) (c .lun) ≡ true → Dropping e held p q (i + 1) kept
+  drop-ended t =
+      let u : over e (getD (opens p) i noSlot) ≡ true = ap (over e) (sym this) ∙ t in
+      record {
+        count = D .count;
+        long = D .long;
+        same-long = D .same-long;
+        in-count = omega arith;
+        small = D .small;
+        behind = omega (arith, D .behind);
+        ahead = tail-same (slots q) (slots p) i (D .ahead);
+        done = rw (← goes (over e) (opens p) i noSlot inside u) (D .done);
+      }
+
+  -- this one stays
+  pub drop-kept : ends e (c .tag) (c .lun) ≡ false → (q′ : List ℕ) → length q′ ≡ length q → slots q′ ≡ set (slots q) kept c
+      → Dropping e held p q′ (i + 1) (kept + 1)
+  drop-kept t q′ lq sq =
+      let u : over e (getD (opens p) i noSlot) ≡ false = ap (over e) (sym this) ∙ t in
+      let k : kept < length (slots q) = omega (arith, slots-long 16 0 q, D .behind, D .small) in
+      record {
+        count = D .count;
+        long = lq ∙ D .long;
+        same-long = lq ∙ D .same-long;
+        in-count = omega arith;
+        small = D .small;
+        behind = omega (arith, D .behind);
+        ahead = rw sq (drop-set-lt (i + 1) (slots q) kept c (omega (arith, D .behind)) ∙ tail-same (slots q) (slots p) i (D .ahead));
+        done = rw (sq, add-one kept, take-suc-set (slots q) kept c k, append-assoc, this, ← stays (over e) (opens p) i noSlot inside u) (D .done);
+      }
+
+module _ (e : Ending) (held : ℕ) (p q : List ℕ) (i kept : ℕ) (D : Dropping e held p q i kept) (end : held ≤ i) where
+  stay : take kept (slots q) ≡ without (over e) (opens p)
+  stay =
+      let o : length (opens p) ≤ i = omega (arith, opens-long p, D .count) in
+      rw (drop-of-length-le (opens p) o, append-nil) at (D .done)
+
+  -- the port without those that ended
+  pub dropped : (q′ : List ℕ) → slots q′ ≡ slots q → headOf q′ ≡ countedOf (headOf p) kept (headOf p .wanted) (headOf p .announced) (headOf p .unanswered)
+      → Alters p q′ (withoutEnded e)
+  dropped q′ sq hq =
+      record {
+        live = ap (λ (x : Head). x .live) hq;
+        port = λ st.
+            ap (λ (x : Head). openPort x (slots q′) st) hq
+            ∙ ap (λ (cs : List Open). withHeld (shown p st) (headOf p .announced) cs)
+            (ap (λ (cs : List Slot). map (openOf st) (take kept cs)) sq
+            ∙ ap (map (openOf st)) stay
+            ∙ sym (without-map (openOf st) (λ (c : Open). ends e (c .tag) (c .lun)) (opens p)));
+      }

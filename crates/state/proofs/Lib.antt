@@ -1,0 +1,5 @@
+pub mod Promises
+pub mod Altered
+pub mod Held
+pub mod Answering
+pub mod Opened

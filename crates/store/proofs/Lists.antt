@@ -1,0 +1,127 @@
+-- The store with one command's memory descriptors more, and the port with one command more.
+-- Assumes nothing.
+use mathlib.Core.Path.{_≡_, refl, _∙_, ap}
+use mathlib.Core.Bool.{Bool}
+use mathlib.Core.List.{List, [], _∷_, _++_, map, map-append}
+use mathlib.Core.Logic.{inl, inr, ⊎-elim}
+use Prim.Native.Nat.{ℕ, suc, _+_, _-_, _*_, _/_, _≤_, _<_}
+use native.Mathlib.Omega.{arith}
+use native.Mathlib.Numerals.{add-one}
+use lib.ListN.{length, getD, take, drop, set}
+use lib.Seq.{paste, length-paste, take-suc-set, getD-take}
+use Rattle.words.specs.declared.Head.{Head}
+use Rattle.words.specs.declared.Slot.{Slot}
+use Rattle.words.specs.View.{SlotFits, HeadFits, HeadIs, CountedIs, headOf, slots, opens, noSlot, openOf, openPort, countedOf}
+use Rattle.words.proofs.Slots.{apart, written, either, slots-long}
+use Rattle.words.proofs.Ports.{opens-long, slot-fits}
+use Rattle.store.specs.declared.Fresh.{Fresh}
+use Rattle.store.specs.Places.{Free, Segments, Entered, freshSlot, freshOpen}
+
+-- maps that agree on the elements of a list
+map-same : {A B : Type 0} (f g : A → B) (l : List A) (d : A) → ((j : ℕ) → j < length l → f (getD l j d) ≡ g (getD l j d)) → map f l ≡ map g l
+map-same f g [] d h = refl
+map-same f g (x ∷ xs) d h = rw (h 0 (omega arith), map-same f g xs d (λ j q. h (suc j) (omega arith))) refl
+
+-- as many bytes as the descriptors counted
+whole-list : (l : List ℕ) → Segments l → 16 * (length l / 16) ≡ length l
+whole-list l S = omega (arith, S .whole)
+
+-- an open command is in its ranges
+open-fits : (l : List ℕ) (j : ℕ) → j < headOf l .held → SlotFits (getD (opens l) j noSlot)
+open-fits l j h = rw (getD-take (headOf l .held) (slots l) j noSlot h) (slot-fits l j (omega arith))
+
+-- ── what is written fits
+
+-- where a buffer is announced, a slot is left
+pub slot-left : (l : List ℕ) (h : Head) → HeadIs l h → 0 < headOf l .announced → h .held < 16
+slot-left l h H pos = omega (arith, H .fits .room, H .announced)
+
+-- up to 32 descriptors each way are in a slot's ranges
+pub fresh-fits : (f : Fresh) (k : ℕ) (out inn : List ℕ) → k < 16 → Segments out → Segments inn → SlotFits (freshSlot f k (length out / 16) (length inn / 16))
+fresh-fits f k out inn small So Si = record { place = small; out = omega (arith, So .short); inn = omega (arith, Si .short) }
+
+-- a head with one command more and one announced buffer less is in its ranges
+pub counted-fits : (l : List ℕ) (h r : Head) (u : Bool) → HeadIs l h → 0 < headOf l .announced → CountedIs h (h .held + 1) (h .wanted) (h .announced - 1) u r → HeadFits r
+counted-fits l h r u H pos C =
+    let F = H .fits in
+    record {
+      least = omega (arith, F .least, C .wanted);
+      most = omega (arith, F .most, C .wanted);
+      room = omega (arith, F .room, H .announced, C .announced, C .held);
+      smallest = omega (arith, F .smallest, C .maximum);
+      largest = omega (arith, F .largest, C .maximum);
+      shortest = omega (arith, F .shortest, C .agreed);
+      longest = omega (arith, F .longest, C .agreed);
+      even = rw (C .formats) (F .even);
+      formats = omega (arith, F .formats, C .formats);
+    }
+
+-- ── both lists written at a place
+
+module _ (st out inn : List ℕ) (long : length st ≡ 16384) (So : Segments out) (Si : Segments inn) (k : ℕ) (small : k < 16) where
+  -- the store with data-out's list, then with both
+  abbrev with-out : List ℕ
+  with-out = paste st (k * 1024) out (length out)
+
+  abbrev with-both : List ℕ
+  with-both = paste with-out (k * 1024 + 512) inn (length inn)
+
+  -- the store is as long as before
+  out-long : length with-out ≡ 16384
+  out-long = length-paste st (k * 1024) out (length out) (omega (arith, So .short)) (omega arith) ∙ long
+
+  -- the descriptors of another place stay
+  elsewhere : (j at n : ℕ) → (j ≡ k → ⊥) → j * 1024 ≤ at → at + n ≤ j * 1024 + 1024 → take n (drop at with-both) ≡ take n (drop at st)
+  elsewhere j at n ne lo hi =
+      apart with-out (k * 1024 + 512) inn (length inn) (omega (arith, Si .short, out-long)) (omega arith) at n
+      (⊎-elim (λ h. inl (omega arith)) (λ h. inr (omega (arith, Si .short))) (either j k ne))
+      ∙ apart st (k * 1024) out (length out) (omega (arith, So .short)) (omega arith) at n
+      (⊎-elim (λ h. inl (omega arith)) (λ h. inr (omega (arith, So .short))) (either j k ne))
+
+  -- so a command of another place stays
+  others : (c : Slot) → SlotFits c → (c .place ≡ k → ⊥) → openOf with-both c ≡ openOf st c
+  others c F ne =
+      rw (
+        elsewhere (c .place) (1024 * c .place) (16 * c .out .segments) ne (omega arith) (omega (arith, F .out)),
+        elsewhere (c .place) (1024 * c .place + 512) (16 * c .inn .segments) ne (omega arith) (omega (arith, F .inn)),
+      ) refl
+
+  -- data-out's list is there, also behind the second write
+  out-there : take (length out) (drop (k * 1024) with-both) ≡ out
+  out-there =
+      apart with-out (k * 1024 + 512) inn (length inn) (omega (arith, Si .short, out-long)) (omega arith) (k * 1024) (length out) (inl (omega (arith, So .short)))
+      ∙ written st (k * 1024) out (omega (arith, So .short))
+
+  -- data-in's list is there
+  inn-there : take (length inn) (drop (k * 1024 + 512) with-both) ≡ inn
+  inn-there = written with-out (k * 1024 + 512) inn (omega (arith, Si .short, out-long))
+
+  -- the new command has both lists
+  here : (f : Fresh) → openOf with-both (freshSlot f k (length out / 16) (length inn / 16)) ≡ freshOpen f out inn
+  here f =
+      let e : 1024 * k ≡ k * 1024 = omega arith in
+      rw (e, whole-list out So, whole-list inn Si, out-there, inn-there) refl
+
+  -- ── the new command behind the open ones
+
+  module _ (l : List ℕ) (free : Free (opens l) k) (room : headOf l .held < 16) (f : Fresh) where
+    -- its slot
+    abbrev slot : Slot
+    slot = freshSlot f k (length out / 16) (length inn / 16)
+
+    -- the open commands stay, and the new one is the last
+    held : map (openOf with-both) (take (headOf l .held + 1) (set (slots l) (headOf l .held) slot)) ≡ map (openOf st) (opens l) ++ (freshOpen f out inn ∷ [])
+    held =
+        rw
+        (add-one, take-suc-set (slots l) (headOf l .held) slot (rw (slots-long 16 0 l) room), map-append, here f, map-same (openOf with-both) (openOf st) (opens l) noSlot (λ j q. others (getD (opens l) j noSlot) (open-fits l j (omega (arith, opens-long l))) (free .apart j q)))
+        refl
+
+    -- the words with the slot and the counts are the port with the command
+    pub entered : (l′ : List ℕ) → slots l′ ≡ set (slots l) (headOf l .held) slot
+        → headOf l′ ≡ countedOf (headOf l) (headOf l .held + 1) (headOf l .wanted) (headOf l .announced - 1) (headOf l .unanswered)
+        → Entered l st l′ with-both f out inn
+    entered l′ sq hq =
+        record {
+          live = ap (λ (h : Head). h .live) hq;
+          port = ap (λ (h : Head). openPort h (slots l′) with-both) hq ∙ rw (sq, held) refl;
+        }
