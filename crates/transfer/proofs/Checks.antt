@@ -1,0 +1,57 @@
+-- What plan and step come to under their checks.
+-- Assumes nothing.
+use mathlib.Core.Path.{_≡_, refl}
+use mathlib.Core.Bool.{true, false, not}
+use mathlib.Core.Option.{none, some}
+use Prim.Native.Nat.{ℕ}
+use Rattle.srp.specs.Lists.{find, change}
+use Rattle.srp.specs.Credit.{Open, Port, withHeld}
+use Rattle.srp.specs.Take.{silent, hasTag}
+use Rattle.srp.specs.Calls.{planDef, planned, stepDef}
+use Rattle.srp.specs.declared.Direction.{Direction}
+use Rattle.srp.specs.declared.Refusal.the-variants.{Closed, TagNotOpen, Unplanned, Planned}
+use Rattle.srp.specs.declared.Reply.the-variants.{Refused, Performed}
+use Rattle.transfer.specs.Parts.{handDef}
+
+-- ── plan
+
+module _ (p : Port) (tag out inn : ℕ) where
+  -- 21
+  pub plan-closed : p .live ≡ false → planDef p tag out inn ≡ silent p (Refused Closed)
+  plan-closed e = rw e refl
+
+  module _ (live : p .live ≡ true) where
+    -- 24
+    pub plan-unknown : find (hasTag tag) (p .held) ≡ none → planDef p tag out inn ≡ silent p (Refused TagNotOpen)
+    plan-unknown e = rw (live, e) refl
+
+    module _ (c : Open) (found : find (hasTag tag) (p .held) ≡ some c) where
+      -- 30
+      pub plan-again : c .planned ≡ true → planDef p tag out inn ≡ silent p (Refused Planned)
+      plan-again e = rw (live, found, e) refl
+
+      -- none of them
+      pub plan-passed : c .planned ≡ false
+          → planDef p tag out inn ≡ silent (withHeld p (p .announced) (change (hasTag tag) (planned out inn) (p .held))) Performed
+      plan-passed e = rw (live, found, e) refl
+
+-- ── step
+
+module _ (p : Port) (tag : ℕ) (d : Direction) where
+  -- 21
+  pub step-closed : p .live ≡ false → stepDef p tag d ≡ silent p (Refused Closed)
+  step-closed e = rw e refl
+
+  module _ (live : p .live ≡ true) where
+    -- 24
+    pub step-unknown : find (hasTag tag) (p .held) ≡ none → stepDef p tag d ≡ silent p (Refused TagNotOpen)
+    step-unknown e = rw (live, e) refl
+
+    module _ (c : Open) (found : find (hasTag tag) (p .held) ≡ some c) where
+      -- 29
+      pub step-unplanned : not (c .planned) ≡ true → stepDef p tag d ≡ silent p (Refused Unplanned)
+      step-unplanned e = rw (live, found, e) refl
+
+      -- none of them
+      pub step-passed : not (c .planned) ≡ false → stepDef p tag d ≡ handDef p tag d
+      step-passed e = rw (live, found, e) refl

@@ -1,0 +1,54 @@
+-- Step behind its checks: the next piece of the command found handed out, or none left.
+-- Assumes nothing.
+use mathlib.Core.Path.{_≡_, refl, sym, _∙_, ap}
+use mathlib.Core.Bool.{true}
+use mathlib.Core.List.{List}
+use mathlib.Core.Option.{Option, some}
+use Prim.Native.Nat.{ℕ}
+use lib.ListN.{getD}
+use Rattle.srp.specs.Lists.{find}
+use Rattle.srp.specs.Credit.{Port}
+use Rattle.srp.specs.Take.{hasTag}
+use Rattle.srp.specs.Calls.{kindOf, nextOf, advanced, handOut}
+use Rattle.srp.specs.declared.Direction.{Direction}
+use Rattle.srp.specs.declared.Kind.{Kind}
+use Rattle.srp.specs.declared.Piece.{Piece}
+use Rattle.srp.specs.declared.Cut.{Cut}
+use Rattle.srp.specs.declared.Cut.the-variants.{CutPiece, CutDone}
+use Rattle.srp.specs.declared.Reply.the-variants.{Operation, Done}
+use Rattle.cut.specs.Walk.{nextWrapped}
+use Rattle.words.specs.View.{headOf, slots, noSlot, openOf, view, SlotIs}
+use Rattle.words.specs.declared.Slot.{Slot}
+use Rattle.words.proofs.Ports.{while-open}
+use Rattle.state.specs.Changes.{FoundAt, Replaced}
+use Rattle.state.specs.Promises.{Replies}
+use Rattle.state.proofs.Promises.{replies-by, performed, replaced-view, found-slot}
+use Rattle.transfer.specs.Parts.{handDef}
+use Rattle.transfer.proofs.Pieces.{no-piece, a-piece}
+
+module _ {l : List ℕ} {tag i : ℕ} {c : Slot} (F : FoundAt l tag i) (S : SlotIs l i c) (live : headOf l .live ≡ true) (st : List ℕ)
+    (M : ℕ) (d : Direction) (most : M ≡ headOf l .maximum) where
+  -- the next piece of the command with the tag is that of its slot
+  found-next : nextOf (view l st .maximum) d (find (hasTag tag) (view l st .held)) ≡ nextOf M d (some (openOf st c))
+  found-next =
+      ap (nextOf (view l st .maximum) d) (found-slot F live st S)
+      ∙ ap (λ (n : ℕ). nextOf n d (some (openOf st c))) (ap (λ (p : Port). p .maximum) (while-open l st live) ∙ sym most)
+
+  -- what step comes to
+  hand-by : {n : Option Piece} → nextOf M d (some (openOf st c)) ≡ n → handDef (view l st) tag d ≡ handOut (view l st) tag d n
+  hand-by e = ap (handOut (view l st) tag d) (found-next ∙ e)
+
+  module _ {r : Cut} (is : r ≡ nextWrapped (nextOf M d (some (openOf st c)))) where
+    -- no piece is left
+    pub none-left : r ≡ CutDone → Replies l st l st Done (handDef (view l st) tag d)
+    none-left e = replies-by (hand-by (no-piece (nextOf M d (some (openOf st c))) is e)) (performed refl refl refl refl)
+
+    -- a piece is handed out
+    pub one-handed : {l′ : List ℕ} {k : Kind} (m : Piece) {g : Slot} → r ≡ CutPiece m → k ≡ kindOf d → Replaced l l′ i tag g
+        → openOf st g ≡ advanced d (m .len) (openOf st c) → Replies l st l′ st (Operation k m) (handDef (view l st) tag d)
+    one-handed {l′} m {g} e q R a =
+        let o = a-piece (nextOf M d (some (openOf st c))) is e in
+        let moved : openOf st g ≡ advanced d (o .0 .len) (openOf st (getD (slots l) i noSlot)) =
+        a ∙ ap (λ (x : Piece). advanced d (x .len) (openOf st c)) (o .2) ∙ ap (λ (x : Slot). advanced d (o .0 .len) (openOf st x)) (S .whole) in
+        replies-by (hand-by (o .1))
+        (performed (ap (λ (x : Kind). Operation x m) q ∙ ap (Operation (kindOf d)) (o .2)) (replaced-view l l′ st live R (advanced d (o .0 .len)) moved) refl refl)

@@ -1,0 +1,3 @@
+pub mod Checks
+pub mod Handing
+pub mod Pieces

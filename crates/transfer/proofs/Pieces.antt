@@ -1,0 +1,126 @@
+-- A command's slot under plan and step, and the piece that step hands out.
+-- Assumes nothing.
+use mathlib.Core.Path.{_≡_, refl, sym, _∙_, ap}
+use mathlib.Core.List.{List}
+use mathlib.Core.Option.{Option, none, some}
+use Prim.Native.Nat.{ℕ, _+_, _-_, _*_, _≤_, _<_, min}
+use native.Mathlib.Omega.{arith}
+use lib.ListN.{take, drop}
+use Rattle.srp.specs.Descriptors.{segmentsOf}
+use Rattle.srp.specs.Cutting.{next}
+use Rattle.srp.specs.Credit.{Side}
+use Rattle.srp.specs.Calls.{nextOf, wrapped, planned, advanced}
+use Rattle.srp.specs.declared.Direction.{Direction}
+use Rattle.srp.specs.declared.Direction.the-variants.{Out, In}
+use Rattle.srp.specs.declared.Piece.{Piece}
+use Rattle.srp.specs.declared.Refusal.{Refusal}
+use Rattle.srp.specs.declared.Cut.{Cut}
+use Rattle.srp.specs.declared.Cut.the-variants.{CutRefused, CutPiece, CutDone}
+use Rattle.srp.proofs.Pieces.{piece-fits}
+use Rattle.cut.specs.Walk.{nextWrapped}
+use Rattle.words.specs.View.{slotOf, SlotFits, SlotIs, region, openOf}
+use Rattle.words.specs.declared.Part.{Part}
+use Rattle.words.specs.declared.Slot.{Slot}
+use Rattle.words.proofs.Slots.{slot-at}
+use Rattle.transfer.specs.Parts.{plannedSlot, partFor, placeFor, handedOn, withPart, advancedSlot}
+
+-- ── the slot
+
+advanced-open : (st : List ℕ) (d : Direction) (n : ℕ) (c : Slot) → openOf st (advancedSlot d n c) ≡ advanced d n (openOf st c)
+advanced-open st Out n c = refl
+advanced-open st In n c = refl
+
+advanced-fits : (d : Direction) (n : ℕ) (c : Slot) → SlotFits c → SlotFits (advancedSlot d n c)
+advanced-fits Out n c F = record { place = F .place; out = F .out; inn = F .inn }
+advanced-fits In n c F = record { place = F .place; out = F .out; inn = F .inn }
+
+module _ (c : Slot) (d : Direction) (n : ℕ) {p q : Part} {g : Slot} (e : p ≡ partFor d c) (f : q ≡ handedOn n p) (h : g ≡ withPart d q c) where
+  -- the command with n bytes more handed out
+  pub moved-open : (st : List ℕ) → openOf st g ≡ advanced d n (openOf st c)
+  moved-open st = rw (h, f, e) (advanced-open st d n c)
+
+  -- it is in its ranges
+  pub moved-fits : SlotFits c → SlotFits g
+  moved-fits F = rw (h, f, e) (advanced-fits d n c F)
+
+module _ (c : Slot) (out inn : ℕ) {g : Slot} (e : g ≡ plannedSlot out inn c) where
+  -- the command with its plan
+  pub planned-open : (st : List ℕ) → openOf st g ≡ planned out inn (openOf st c)
+  planned-open st = ap (openOf st) e
+
+  -- it is in its ranges too
+  pub planned-fits : SlotFits c → SlotFits g
+  planned-fits F = rw e (record { place = F .place; out = F .out; inn = F .inn })
+
+-- a direction has at most 32 memory descriptors
+pub few-segments : {c : Slot} → SlotFits c → (d : Direction) → partFor d c .segments ≤ 32
+few-segments F Out = F .out
+few-segments F In = F .inn
+
+-- ── the next piece
+
+-- the next piece, from the slot and the store
+pub next-part : (M : ℕ) (st : List ℕ) (c : Slot) (d : Direction) {p : Part} {at to : ℕ} → p ≡ partFor d c → at ≡ placeFor d c → to ≡ min (p .required) (p .total)
+    → next M (p .handed) to (segmentsOf (take (at + p .segments * 16 - at) (drop at st))) ≡ nextOf M d (some (openOf st c))
+next-part M st c d {p} {at} e f g =
+    let h : at + p .segments * 16 - at ≡ 16 * p .segments = omega arith in rw (h, g, f, e) (by d)
+  where
+    by : (d : Direction)
+        → next M (partFor d c .handed) (min (partFor d c .required) (partFor d c .total)) (segmentsOf (take (16 * partFor d c .segments) (drop (placeFor d c) st)))
+        ≡ nextOf M d (some (openOf st c))
+    by Out = refl
+    by In = refl
+
+ends-by : (M : ℕ) (s : Side) (o : Piece) → 1 ≤ M → next M (s .handed) (min (s .required) (s .total)) (s .segs) ≡ some o → s .handed + o .len ≤ s .total
+ends-by M s o m e = omega (arith, piece-fits M 0 (s .handed) (min (s .required) (s .total)) (s .segs) o m e .upto)
+
+-- it ends by B
+piece-ends : (M : ℕ) (st : List ℕ) (c : Slot) (d : Direction) (o : Piece) → 1 ≤ M → nextOf M d (some (openOf st c)) ≡ some o
+    → partFor d c .handed + o .len ≤ partFor d c .total
+piece-ends M st c Out o m e = ends-by M (openOf st c .out) o m e
+piece-ends M st c In o m e = ends-by M (openOf st c .inn) o m e
+
+-- ── the next piece as the walk over the memory descriptors answers it
+
+module _ (n : Option Piece) {r : Cut} (is : r ≡ nextWrapped n) where
+  -- never refused
+  pub no-refusal : {f : Refusal} → r ≡ CutRefused f → ⊥
+  no-refusal {f} e = go n (sym is ∙ e)
+    where
+      go : (n : Option Piece) → nextWrapped n ≡ CutRefused f → ⊥
+      go none q = let z : _≡_ {A = ℕ} 0 1 = cc in omega arith
+      go (some o) q = let z : _≡_ {A = ℕ} 0 1 = cc in omega arith
+
+  -- done
+  pub no-piece : r ≡ CutDone → n ≡ none
+  no-piece e = go n (sym is ∙ e)
+    where
+      go : (n : Option Piece) → nextWrapped n ≡ CutDone → n ≡ none
+      go none q = refl
+      go (some o) q = let z : _≡_ {A = ℕ} 0 1 = cc in let y : ⊥ = omega arith in absurd y
+
+  -- a piece, its address in 64 bits
+  pub a-piece : {m : Piece} → r ≡ CutPiece m → (o : Piece) × (n ≡ some o) × (m ≡ wrapped o)
+  a-piece {m} e = go n (sym is ∙ e)
+    where
+      go : (n : Option Piece) → nextWrapped n ≡ CutPiece m → (o : Piece) × (n ≡ some o) × (m ≡ wrapped o)
+      go none q = let z : _≡_ {A = ℕ} 0 1 = cc in let y : ⊥ = omega arith in absurd y
+      go (some o) q = (o, refl, (cc))
+
+-- ── the bytes handed out
+
+module _ {l : List ℕ} {i : ℕ} {c : Slot} (S : SlotIs l i c) (small : i < 16) where
+  -- B is below 2^32
+  total-fits : (d : Direction) → partFor d c .total < 4294967296
+  total-fits d = rw (S .whole, slot-at l i small) (said d)
+    where
+      said : (d : Direction) → partFor d (slotOf (region l i)) .total < 4294967296
+      said Out = omega arith
+      said In = omega arith
+
+  -- with the next piece they stay in 32 bits
+  pub handed-fits : (M : ℕ) (st : List ℕ) (d : Direction) {p : Part} {r : Cut} (m : Piece) → 1 ≤ M → p ≡ partFor d c
+      → r ≡ nextWrapped (nextOf M d (some (openOf st c))) → r ≡ CutPiece m → p .handed + m .len < 4294967296
+  handed-fits M st d m most e is f =
+      let o = a-piece (nextOf M d (some (openOf st c))) is f in
+      rw (e, o .2) (omega (arith, piece-ends M st c d (o .0) most (o .1), total-fits d))

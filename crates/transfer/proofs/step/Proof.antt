@@ -1,0 +1,85 @@
+-- `transfer::step` meets its contract. Assumes nothing.
+use mathlib.Core.Path.{_≡_, _∙_, ap}
+use mathlib.Core.Bool.{true}
+use Rattle.srp.specs.declared.Refusal.the-variants.{Closed, TagNotOpen, Unplanned}
+use Rattle.words.specs.View.{openOf, view, headOf}
+use Rattle.words.specs.declared.Head.{Head}
+use Rattle.words.proofs.Ports.{view-live}
+use Rattle.state.specs.Changes.{FoundAt}
+use Rattle.state.proofs.Promises.{refused, replies-by, found-none, found-slot}
+use Rattle.state.proofs.Opened.{head-open, port-closed}
+use Rattle.transfer.proofs.Checks.{step-closed, step-unknown, step-unplanned, step-passed}
+use borrow.Author.Needs.{needs}
+use Rattle.transfer.proofs.step.Statement.{statement}
+use Rattle.transfer.proofs.step.Tie as tie
+
+get-head-requires : tie.Need-get-head-requires
+get-head-requires c κs = search needs
+
+returns : tie.Need-returns
+returns c =
+    let a = c .before .before .before .before .args in
+    let l = a .s .now in
+    let st = a .store .now in
+    replies-by (step-closed (view l st) (a .tag) (a .d) (port-closed (c .before .get-head .ensures) st (c .if1 .taken))) (refused l st Closed)
+
+find-requires : tie.Need-find-requires
+find-requires c κs = search needs
+
+enum-known-i : tie.Need-enum-known-i
+enum-known-i c = search needs
+
+enum-told : tie.Need-enum-told
+enum-told c = search needs
+
+returns-2 : tie.Need-returns-2
+returns-2 c =
+    let a = c .before .before .before .before .before .before .before .before .before .args in
+    let l = a .s .now in
+    let st = a .store .now in
+    let live : headOf l .live ≡ true = head-open (c .before .before .before .before .before .before .get-head .ensures) (c .before .before .before .before .before .if1 .left) in
+    replies-by (step-unknown (view l st) (a .tag) (a .d) (view-live l st ∙ live) (found-none l (a .tag) (rw (c .enum-told .given .1) at (c .before .before .find .ensures)) live st)) (refused l st TagNotOpen)
+
+load-requires : tie.Need-load-requires
+load-requires c κs =
+    let F : FoundAt (c .before .before .before .before .before .before .before .before .before .before .before .before .args .s .now) (c .before .before .before .before .before .before .before .before .before .before .before .before .args .tag) (c .before .before .before .i .given .0 .0) = rw (c .before .before .before .i .given .1) at (c .before .before .before .before .before .find .ensures) in
+    (search needs, F .small)
+
+returns-3 : tie.Need-returns-3
+returns-3 c =
+    let a = c .before .before .before .before .before .before .before .before .before .before .before .before .before .before .args in
+    let l = a .s .now in
+    let st = a .store .now in
+    let live : headOf l .live ≡ true = head-open (c .before .before .before .before .before .before .before .before .before .before .before .get-head .ensures) (c .before .before .before .before .before .before .before .before .before .before .if1 .left) in
+    let F : FoundAt l (a .tag) (c .before .before .before .before .before .i .given .0 .0) = rw (c .before .before .before .before .before .i .given .1) at (c .before .before .before .before .before .before .before .find .ensures) in
+    replies-by (step-unplanned (view l st) (a .tag) (a .d) (view-live l st ∙ live) (openOf st (c .before .load .result)) (found-slot F live st (c .before .load .ensures)) (c .if2 .taken)) (refused l st Unplanned)
+
+hand-out-requires : tie.Need-hand-out-requires
+hand-out-requires c κs =
+    let a = c .before .before .before .before .before .before .before .before .before .before .before .before .before .before .before .before .args in
+    let F : FoundAt (a .s .now) (a .tag) (c .before .before .before .before .before .before .before .i .given .0 .0) = rw (c .before .before .before .before .before .before .before .i .given .1) at (c .before .before .before .before .before .before .before .before .before .find .ensures) in
+    (search needs, (search needs, (head-open (c .before .before .before .before .before .before .before .before .before .before .before .before .before .get-head .ensures) (c .before .before .before .before .before .before .before .before .before .before .before .before .if1 .left), (F, (c .before .before .before .load .ensures, ap (λ (h : Head). h .maximum) (c .before .before .before .before .before .before .before .before .before .before .before .before .before .get-head .ensures .whole))))))
+
+returns-4 : tie.Need-returns-4
+returns-4 c =
+    let a = c .before .before .before .before .before .before .before .before .before .before .before .before .before .before .before .before .before .args in
+    let l = a .s .now in
+    let st = a .store .now in
+    let live : headOf l .live ≡ true = head-open (c .before .before .before .before .before .before .before .before .before .before .before .before .before .before .get-head .ensures) (c .before .before .before .before .before .before .before .before .before .before .before .before .before .if1 .left) in
+    let F : FoundAt l (a .tag) (c .before .before .before .before .before .before .before .before .i .given .0 .0) = rw (c .before .before .before .before .before .before .before .before .i .given .1) at (c .before .before .before .before .before .before .before .before .before .before .find .ensures) in
+    replies-by (step-passed (view l st) (a .tag) (a .d) (view-live l st ∙ live) (openOf st (c .before .before .before .before .load .result)) (found-slot F live st (c .before .before .before .before .load .ensures)) (c .before .before .before .if2 .left)) (c .hand-out .ensures)
+
+pub step-spec : {M : Type 1} → statement M
+step-spec =
+    tie.close
+    (tie.spec
+    get-head-requires
+    returns
+    find-requires
+    enum-known-i
+    enum-told
+    returns-2
+    load-requires
+    returns-3
+    hand-out-requires
+    returns-4)
