@@ -1,0 +1,82 @@
+-- What the definition of finish comes to, test by test, and the response of the command that ends.
+-- Assumes nothing.
+use mathlib.Core.Path.{_≡_, refl, _∙_, ap}
+use mathlib.Core.Bool.{Bool, true, false}
+use mathlib.Core.List.{List, _++_}
+use mathlib.Core.Option.{Option, none, some}
+use Prim.Native.Nat.{ℕ, _+_, _≤_, _<_}
+use lib.ListN.{length, length-append}
+use borrow.Author.Tests.{lt-ltb, le-ltb}
+use Rattle.srp.specs.Limits.{bufferSize}
+use Rattle.srp.specs.Bytes.{write}
+use Rattle.srp.specs.Messages.{rsp}
+use Rattle.srp.specs.Credit.{Open, Port}
+use Rattle.srp.specs.Writing.{residualOf, Response, responseBytes, responseValues, response, solicited}
+use Rattle.srp.specs.Take.{silent, isOpen}
+use Rattle.srp.specs.Calls.{badSense, finalResponse, finishDef}
+use Rattle.srp.specs.declared.Refusal.the-variants.{ShortBuffer, Argument, Closed, TagNotOpen}
+use Rattle.srp.specs.declared.Residual.{Residual}
+use Rattle.srp.specs.declared.Reply.the-variants.{Refused}
+use Rattle.words.specs.View.{openOf}
+use Rattle.words.specs.declared.Slot.{Slot}
+use Rattle.message.specs.Header.{responseOf}
+use Rattle.message.specs.declared.Header.{Header}
+use Rattle.message.proofs.Laying.{long}
+use Rattle.finish.specs.Parts.{endedDef, HeaderIs}
+
+-- ── the checks
+
+module _ (p : Port) (room tag status : ℕ) (sense : List ℕ) where
+  pub finish-short : room < bufferSize → finishDef p room tag status sense ≡ silent p (Refused ShortBuffer)
+  finish-short h = rw (lt-ltb room bufferSize h) refl
+
+  module _ (enough : bufferSize ≤ room) where
+    pub finish-closed : p .live ≡ false → finishDef p room tag status sense ≡ silent p (Refused Closed)
+    finish-closed e = rw (le-ltb room bufferSize enough, e) refl
+
+    module _ (o : p .live ≡ true) where
+      pub finish-bad : badSense status sense ≡ true → finishDef p room tag status sense ≡ silent p (Refused Argument)
+      finish-bad e = rw (le-ltb room bufferSize enough, o, e) refl
+
+      module _ (g : badSense status sense ≡ false) where
+        pub finish-none : isOpen p tag ≡ false → finishDef p room tag status sense ≡ silent p (Refused TagNotOpen)
+        finish-none e = rw (le-ltb room bufferSize enough, o, g, e) refl
+
+        pub finished : isOpen p tag ≡ true → finishDef p room tag status sense ≡ endedDef p tag status sense
+        finished e = rw (le-ltb room bufferSize enough, o, g, e) refl
+
+-- ── the response
+
+-- without response bytes it is the fixed fields and the sense
+without-code : (r : Response) → r .code ≡ none → length (response r) ≡ 36 + length (r .sense)
+without-code r e =
+    length-append (write rsp (responseValues r)) (responseBytes (r .code) ++ r .sense)
+    ∙ ap (λ (n : ℕ). n + length (responseBytes (r .code) ++ r .sense)) (long rsp (responseValues r) refl)
+    ∙ ap (λ (o : Option ℕ). 36 + length (responseBytes o ++ r .sense)) e
+
+-- of a command: its length
+pub response-long : (c : Open) (status : ℕ) (sense : List ℕ) (delta : ℕ) → length (finalResponse (some c) status sense delta) ≡ 36 + length sense
+response-long c status sense delta =
+    without-code
+    (record {
+      solnt = solicited (c .ucsolnt) (c .scsolnt) status;
+      delta = delta;
+      tag = c .tag;
+      status = status;
+      out = residualOf (c .out);
+      inn = residualOf (c .inn);
+      code = none;
+      sense = sense;
+    })
+    refl
+
+-- a header by its parts
+pub header-by : (delta tag status : ℕ) {s s′ : Bool} {o o′ i i′ : Residual} → s ≡ s′ → o ≡ o′ → i ≡ i′
+    → _≡_ {A = Header} (record { solnt = s; delta = delta; tag = tag; status = status; out = o; inn = i })
+    (record { solnt = s′; delta = delta; tag = tag; status = status; out = o′; inn = i′ })
+header-by delta tag status e f g = rw (e, f, g) refl
+
+-- it is the one that the header says
+pub response-is : (c : Slot) (status delta : ℕ) (sense st : List ℕ) (h : Header) → HeaderIs c status delta h
+    → response (responseOf h sense) ≡ finalResponse (some (openOf st c)) status sense delta
+response-is c status delta sense st h H = ap (λ (x : Header). response (responseOf x sense)) (H st)

@@ -1,0 +1,120 @@
+// Finish: a command ends with its status, sense and residuals.
+use message::Header;
+use srp::Answer;
+use srp::Refusal;
+use srp::Reply;
+use srp::Residual;
+use srp::limits::LONGEST_WRITTEN_MESSAGE;
+use state::Ending;
+use state::Found;
+use wire::layout::RSP_SIZE;
+use words::Part;
+use words::Slot;
+ghost use mathlib.Core.Path.{_≡_};
+ghost use mathlib.Core.Bool.{true};
+ghost use mathlib.Core.List.{List};
+ghost use Prim.Native.Nat.{ℕ, _≤_, _<_, _+_};
+ghost use lib.ListN.{length};
+ghost use Rattle.srp.specs.Limits.{bufferSize, longestSense};
+ghost use Rattle.srp.specs.Writing.{residualOf};
+ghost use Rattle.srp.specs.Calls.{badSense, finishDef};
+ghost use Rattle.words.specs.View.{portWords, headOf, sideOf, view};
+ghost use Rattle.state.specs.Changes.{FoundAt};
+ghost use Rattle.state.specs.Promises.{Answers};
+ghost use Rattle.finish.specs.Parts.{endedDef, HeaderIs};
+
+const CHECK_CONDITION: u8 = 0x02;
+
+const LONGEST_SENSE: usize = 96;
+
+// Sense that is too long, or that stands beside another status.
+fn bad_sense(status: u8, n: usize) -> bool
+    ensures { λ r. ⌜ ((sense : List ℕ) → length sense ≡ n → r ≡ badSense status sense) ⌝ }
+{
+    if LONGEST_SENSE < n {
+        return true;
+    }
+    if n == 0 {
+        return false;
+    }
+    status != CHECK_CONDITION
+}
+
+fn residual(p: Part) -> Residual
+    ensures { λ r. ⌜ ((st : List ℕ) (at : ℕ) → r ≡ residualOf (sideOf st at p)) ⌝ }
+{
+    let total = p.total;
+    let required = p.required;
+    let handed = p.handed;
+    if total < required {
+        return Residual::Over(required - total);
+    }
+    if handed < total {
+        return Residual::Under(total - handed);
+    }
+    Residual::Even
+}
+
+// What the response says but for its sense.
+fn header(c: Slot, status: u8, delta: u32) -> Header
+    ensures { λ r. ⌜ HeaderIs c status delta r ⌝ }
+{
+    let out = c.out;
+    let inn = c.inn;
+    Header {
+        solnt: answer::solicited(c.ucsolnt, c.scsolnt, status),
+        delta: delta,
+        tag: c.tag,
+        status: status,
+        out: residual(out),
+        inn: residual(inn),
+    }
+}
+
+// The command in slot i ends.
+fn end_command(
+    s: &mut [u64],
+    i: usize,
+    tag: u64,
+    status: u8,
+    sense: &[u8],
+    buf: &mut [u8],
+) -> Answer
+    requires { ⌜ length (now s) ≡ portWords ⌝ }
+    requires { ⌜ headOf (now s) .live ≡ true ⌝ }
+    requires { ⌜ FoundAt (now s) tag i ⌝ }
+    requires { ⌜ length (now sense) ≤ longestSense ⌝ }
+    requires { ⌜ bufferSize ≤ length (now buf) ⌝ }
+    ensures { λ r. ⌜ ((st : List ℕ) → Answers (now (s .entry)) st (now (buf .entry)) (now (s .exit)) st (now (buf .exit)) r (endedDef (view (now (s .entry)) st) tag status (now (sense .entry)))) ⌝ }
+{
+    let c = words::load(s, i);
+    state::drop_commands(&mut *s, Ending::Finished(tag));
+    let delta = state::settle(s, 0);
+    let h = header(c, status, delta);
+    message::put_response(buf, h, sense);
+    Answer {
+        reply: Reply::Performed,
+        wrote: RSP_SIZE + sense.len(),
+    }
+}
+
+// Ends a command. Refused 1, 21, 11, 24.
+pub fn finish(s: &mut [u64; 400], tag: u64, status: u8, sense: &[u8], buf: &mut [u8]) -> Answer
+    ensures { λ r. ⌜ ((st : List ℕ) → Answers (now (s .entry)) st (now (buf .entry)) (now (s .exit)) st (now (buf .exit)) r (finishDef (view (now (s .entry)) st) (length (now (buf .entry))) tag status (now (sense .entry)))) ⌝ }
+{
+    if buf.len() < (LONGEST_WRITTEN_MESSAGE as usize) {
+        return answer::refused(Refusal::ShortBuffer);
+    }
+    let h = words::get_head(s);
+    let live = h.live;
+    if !live {
+        return answer::refused(Refusal::Closed);
+    }
+    if bad_sense(status, sense.len()) {
+        return answer::refused(Refusal::Argument);
+    }
+    let Found::At(i) = state::find(s, tag) else {
+        return answer::refused(Refusal::TagNotOpen);
+    };
+    end_command(s, i, tag, status, sense, buf)
+}
