@@ -1,0 +1,60 @@
+-- `take::end_task` meets its contract. Assumes nothing.
+use mathlib.Core.Path.{_∙_, ap}
+use native.Mathlib.Omega.{arith}
+use Rattle.srp.specs.Credit.{Port}
+use Rattle.srp.specs.Writing.{solicited}
+use Rattle.srp.specs.Take.{taskCode}
+use Rattle.srp.specs.declared.Reply.the-variants.{TaskAnswered}
+use Rattle.words.specs.View.{view}
+use Rattle.state.specs.declared.Ending.the-variants.{Aborted}
+use Rattle.state.proofs.Promises.{answers-by, altered-view, announced-same}
+use Rattle.take.proofs.Endings.{answered, task-ends, answer-by}
+use borrow.Author.Needs.{needs}
+use Rattle.take.proofs.end_task.Statement.{statement}
+use Rattle.take.proofs.end_task.Tie as tie
+
+task-code-requires : tie.Need-task-code-requires
+task-code-requires c κs = search needs
+
+solicited-requires : tie.Need-solicited-requires
+solicited-requires c κs = search needs
+
+drop-commands-requires : tie.Need-drop-commands-requires
+drop-commands-requires c κs = search needs
+
+settle-requires : tie.Need-settle-requires
+settle-requires c κs =
+    (c .before .before .before .drop-commands .kept .0 ∙ c .before .before .before .before .before .before .before .before .before .pre .0, omega (arith, announced-same (Aborted (c .before .before .before .before .before .before .before .before .before .args .t)) (c .before .before .before .drop-commands .ensures)))
+
+put-answer-requires : tie.Need-put-answer-requires
+put-answer-requires c κs = search needs
+
+same-length : tie.Need-same-length
+same-length c = search needs
+
+same-length-2 : tie.Need-same-length-2
+same-length-2 c = search needs
+
+returns : tie.Need-returns
+returns c st m b =
+    let a = c .before .before .before .before .before .before .before .before .before .before .before .before .before .before .before .before .args in
+    let k = a .t in
+    let l = c .before .before .before .before .before .before .before .before .before .before .drop-commands .last .0 in
+    let n = c .before .before .before .before .before .before .before .before .before .before .before .before .before .task-code .ensures in
+    let e = altered-view (a .s .now) l st (c .before .before .before .before .before .before .before .before .before .before .before .before .before .before .before .before .pre .1 .0) (c .before .before .before .before .before .before .before .before .before .before .drop-commands .ensures) in
+    answers-by (task-ends (view (a .s .now) st) (view l st) m b k e)
+    (answered (a .s .now) l st (a .buf .now) _ _ (solicited (k .ucsolnt) (k .scsolnt) (taskCode (k .function))) (k .tag) (taskCode (k .function)) (c .before .before .before .before .before .before .settle .result) (TaskAnswered (k .tag) (k .lun)) (ap (λ (p : Port). p .live) e) (c .before .before .before .before .before .before .before .before .before .before .drop-commands .ensures .live ∙ c .before .before .before .before .before .before .before .before .before .before .before .before .before .before .before .before .pre .1 .0) (c .before .before .before .before .before .before .settle .ensures)
+    (c .before .before .put-answer .ensures ∙ answer-by (a .buf .now) (k .tag) (c .before .before .before .before .before .before .settle .result) (c .before .before .before .before .before .before .before .before .before .before .before .before .solicited .ensures ∙ ap (solicited (k .ucsolnt) (k .scsolnt)) n) n))
+
+pub end-task-spec : {M : Type 1} → statement M
+end-task-spec =
+    tie.close
+    (tie.spec
+    task-code-requires
+    solicited-requires
+    drop-commands-requires
+    settle-requires
+    put-answer-requires
+    same-length
+    same-length-2
+    returns)
