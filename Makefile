@@ -1,10 +1,10 @@
 .PHONY: run test bench fuzz lib
 
-# build cutlist, proved, and run it on document 01's example: three RDMA Writes
+# build exchange, proved, and run it: an initiator and the port, each message and each RDMA operation a line
 run:
 	@mkdir -p target
-	@rt check cutlist >target/run.log 2>&1 || { cat target/run.log; exit 1; }
-	@target/bin/cutlist <crates/cutlist/stdin
+	@rt check exchange >target/run.log 2>&1 || { cat target/run.log; exit 1; }
+	@target/bin/exchange
 
 # the gate
 test:

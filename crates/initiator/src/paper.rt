@@ -1,0 +1,86 @@
+// Document 01's numbers, stated here anew, so that a wrong place in the port's own table shows.
+
+// types of messages
+pub const LOGIN_REQ: u8 = 0x00;
+
+pub const TSK_MGMT: u8 = 0x01;
+
+pub const COMMAND: u8 = 0x02;
+
+pub const I_LOGOUT: u8 = 0x03;
+
+pub const CRED_RSP: u8 = 0x41;
+
+pub const CRED_REQ: u8 = 0x81;
+
+pub const LOGIN_RSP: u8 = 0xc0;
+
+pub const RSP: u8 = 0xc1;
+
+// sizes: of SRP_LOGIN_REQ; of the shortest message; of an SRP_RSP without response bytes and with them
+pub const LOGIN_REQ_SIZE: usize = 64;
+
+pub const SHORTEST: usize = 16;
+
+pub const RSP_SIZE: usize = 36;
+
+pub const RSP_WITH_CODE: usize = 40;
+
+// fields of several messages
+pub const NOTIFICATION: usize = 1;
+
+pub const TAG: usize = 8;
+
+pub const LUN: usize = 20;
+
+// SRP_CMD
+pub const FORMATS: usize = 5;
+
+pub const OUT_COUNT: usize = 6;
+
+pub const IN_COUNT: usize = 7;
+
+pub const CDB: usize = 32;
+
+// SRP_TSK_MGMT
+pub const TASK_FUNCTION: usize = 30;
+
+pub const TASK_TAG: usize = 32;
+
+// a memory descriptor, and the total length behind a table descriptor
+pub const ADDRESS: usize = 0;
+
+pub const HANDLE: usize = 8;
+
+pub const SEGMENT_LENGTH: usize = 12;
+
+pub const TOTAL_LENGTH: usize = 16;
+
+// SRP_RSP; SRP_CRED_REQ has its delta and SRP_LOGIN_RSP its N at the same bytes, SRP_T_LOGOUT its reason
+pub const DELTA: usize = 4;
+
+pub const REASON: usize = 4;
+
+pub const FLAGS: usize = 18;
+
+pub const STATUS: usize = 19;
+
+pub const OUT_RESIDUAL: usize = 20;
+
+pub const IN_RESIDUAL: usize = 24;
+
+pub const SENSE_LENGTH: usize = 28;
+
+pub const RSP_CODE: usize = 39;
+
+// bits: SOLNT of byte 1, RSPVALID of the flags
+pub const SOLNT: u8 = 0;
+
+pub const RSPVALID: u8 = 0;
+
+// SRP_LOGIN_REQ
+pub const REQUESTED_LENGTH: usize = 16;
+
+pub const FORMAT_BITS: usize = 24;
+
+pub const TARGET_IDENTIFIER: usize = 48;

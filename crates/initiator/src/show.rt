@@ -1,0 +1,267 @@
+// What happens, a line each: messages, RDMA operations, counts.
+use crate::paper::DELTA;
+use crate::paper::FLAGS;
+use crate::paper::IN_RESIDUAL;
+use crate::paper::NOTIFICATION;
+use crate::paper::OUT_RESIDUAL;
+use crate::paper::REASON;
+use crate::paper::RSP_CODE;
+use crate::paper::RSP_SIZE;
+use crate::paper::RSP_WITH_CODE;
+use crate::paper::RSPVALID;
+use crate::paper::SENSE_LENGTH;
+use crate::paper::SHORTEST;
+use crate::paper::SOLNT;
+use crate::paper::STATUS;
+use crate::paper::TAG;
+use libc::STDOUT_FILENO;
+use srp::Counters;
+use srp::Fetch;
+use srp::Kind;
+use srp::Piece;
+use srp::Record;
+use srp::Refusal;
+use srp::Reply;
+
+pub fn text(s: &[u8]) {
+    io::write_all(STDOUT_FILENO, s);
+}
+
+pub fn number(name: &[u8], n: u64) {
+    text(name);
+    io::print_decimal(STDOUT_FILENO, n);
+}
+
+pub fn hexadecimal(name: &[u8], n: u64, digits: usize) {
+    text(name);
+    io::print_hex(STDOUT_FILENO, n, digits);
+}
+
+pub fn end() {
+    text(b"\n");
+}
+
+// Which message it is, by its type.
+fn name(kind: u8) {
+    match kind {
+        0x00 => text(b"SRP_LOGIN_REQ"),
+        0x01 => text(b"SRP_TSK_MGMT "),
+        0x02 => text(b"SRP_CMD      "),
+        0x03 => text(b"SRP_I_LOGOUT "),
+        0x41 => text(b"SRP_CRED_RSP "),
+        0x80 => text(b"SRP_T_LOGOUT "),
+        0x81 => text(b"SRP_CRED_REQ "),
+        0xc0 => text(b"SRP_LOGIN_RSP"),
+        0xc1 => text(b"SRP_RSP      "),
+        0xc2 => text(b"SRP_LOGIN_REJ"),
+        _ => text(b"another type "),
+    }
+}
+
+// Of an SRP_RSP with response bytes, the last of them.
+fn code(msg: &[u8]) {
+    if msg.len() < RSP_WITH_CODE {
+        return;
+    }
+    if wire::read_bits(msg, FLAGS, RSPVALID, 1) == 1 {
+        hexadecimal(b", code ", wire::read8(msg, RSP_CODE) as u64, 2);
+    }
+}
+
+// The fields of an SRP_RSP.
+fn response(msg: &[u8]) {
+    if msg.len() < RSP_SIZE {
+        return;
+    }
+    number(b", delta ", wire::read32(msg, DELTA) as u64);
+    number(
+        b", solnt ",
+        wire::read_bits(msg, NOTIFICATION, SOLNT, 1) as u64,
+    );
+    hexadecimal(b", status ", wire::read8(msg, STATUS) as u64, 2);
+    hexadecimal(b", flags ", wire::read8(msg, FLAGS) as u64, 2);
+    number(b", residuals ", wire::read32(msg, OUT_RESIDUAL) as u64);
+    number(b" and ", wire::read32(msg, IN_RESIDUAL) as u64);
+    number(b", sense ", wire::read32(msg, SENSE_LENGTH) as u64);
+    code(msg);
+}
+
+// What of a message is in its type's own fields.
+fn fields(msg: &[u8]) {
+    if msg.len() < SHORTEST {
+        return;
+    }
+    match wire::read8(msg, 0) {
+        0x80 => number(b", reason ", wire::read32(msg, REASON) as u64),
+        0x81 => number(b", delta ", wire::read32(msg, DELTA) as u64),
+        0xc0 => number(b", buffers ", wire::read32(msg, DELTA) as u64),
+        0xc1 => response(msg),
+        _ => {}
+    }
+}
+
+// A message on its way: the arrow, the name, the length, the tag, its own fields.
+pub fn message(arrow: &[u8], msg: &[u8]) {
+    text(arrow);
+    if msg.len() < SHORTEST {
+        text(b"a message too short\n");
+        return;
+    }
+    name(wire::read8(msg, 0));
+    number(b" ", msg.len() as u64);
+    hexadecimal(b" bytes, tag ", wire::read64(msg, TAG), 4);
+    fields(msg);
+    end();
+}
+
+pub fn operation(kind: Kind, p: Piece) {
+    match kind {
+        Kind::Read => text(b"   RDMA Read  handle "),
+        Kind::Write => text(b"   RDMA Write handle "),
+    }
+    hexadecimal(b"", p.handle as u64, 8);
+    hexadecimal(b" address ", p.address, 16);
+    number(b" length ", p.len as u64);
+    number(b" offset ", p.offset as u64);
+    end();
+}
+
+// The fetch of a table.
+pub fn fetch(f: Fetch) {
+    hexadecimal(b"   RDMA Read  handle ", f.handle as u64, 8);
+    hexadecimal(b" address ", f.address, 16);
+    number(b" length ", f.len as u64);
+    text(b" (the table of descriptors)\n");
+}
+
+// How far D is below 0. D is at most 16 either way: it is read off, as a cast would have to be proved in range.
+fn below(d: i64) -> u64 {
+    match d {
+        -1 => 1,
+        -2 => 2,
+        -3 => 3,
+        -4 => 4,
+        -5 => 5,
+        -6 => 6,
+        -7 => 7,
+        -8 => 8,
+        -9 => 9,
+        -10 => 10,
+        -11 => 11,
+        -12 => 12,
+        -13 => 13,
+        -14 => 14,
+        -15 => 15,
+        -16 => 16,
+        _ => 0,
+    }
+}
+
+// How far D is above 0.
+fn above(d: i64) -> u64 {
+    match d {
+        1 => 1,
+        2 => 2,
+        3 => 3,
+        4 => 4,
+        5 => 5,
+        6 => 6,
+        7 => 7,
+        8 => 8,
+        9 => 9,
+        10 => 10,
+        11 => 11,
+        12 => 12,
+        13 => 13,
+        14 => 14,
+        15 => 15,
+        16 => 16,
+        _ => 0,
+    }
+}
+
+// D with its sign.
+fn owed(d: i64) {
+    if d < 0 {
+        number(b", D -", below(d));
+        return;
+    }
+    number(b", D ", above(d));
+}
+
+pub fn counts(c: Counters, limit: u64) {
+    number(b"W ", c.wanted as u64);
+    number(b", A ", c.announced as u64);
+    number(b", H ", c.held as u64);
+    owed(c.owed);
+    number(b"; the initiator's limit ", limit);
+    end();
+}
+
+// A command in the listing: the bytes handed out each way.
+pub fn record(r: Record) {
+    hexadecimal(b"   open: tag ", r.tag, 4);
+    hexadecimal(b", LUN ", r.lun, 16);
+    number(b", out ", r.out as u64);
+    number(b", in ", r.inn as u64);
+    text(b" bytes\n");
+}
+
+fn refused(f: Refusal) {
+    number(b"refused ", answer::number_of(f) as u64);
+    end();
+}
+
+// A refusal, and nothing of another reply.
+pub fn refusal(lead: &[u8], r: Reply) {
+    match r {
+        Reply::Refused(f) => {
+            text(lead);
+            refused(f);
+        }
+        _ => {}
+    }
+}
+
+// What taking a message comes to.
+pub fn taken(r: Reply) {
+    match r {
+        Reply::NewCommand { tag, lun, cdb } => {
+            hexadecimal(b"   taken: tag ", tag, 4);
+            number(b", CDB ", cdb as u64);
+            text(b" bytes\n");
+        }
+        Reply::Accepted => text(b"   accepted\n"),
+        Reply::Rejected(_) => text(b"   rejected\n"),
+        Reply::Refused(f) => {
+            text(b"   ");
+            refused(f);
+        }
+        _ => text(b"   taken\n"),
+    }
+}
+
+// A step, after so many pieces of its direction; whether there may be more.
+pub fn stepped(r: Reply, pieces: usize) -> bool {
+    match r {
+        Reply::Operation(kind, p) => {
+            operation(kind, p);
+            true
+        }
+        Reply::Done => {
+            done(pieces);
+            false
+        }
+        _ => {
+            refusal(b"   ", r);
+            false
+        }
+    }
+}
+
+// A direction without a piece is passed over.
+fn done(pieces: usize) {
+    if pieces != 0 {
+        text(b"   done\n");
+    }
+}
