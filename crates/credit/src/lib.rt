@@ -5,6 +5,7 @@ use srp::Record;
 use srp::Refusal;
 use srp::Reply;
 use srp::limits::LONGEST_WRITTEN_MESSAGE;
+use srp::limits::MOST_BUFFERS;
 use wire::layout::SHORT_SIZE;
 use words::Head;
 use words::Slot;
@@ -20,9 +21,6 @@ ghost use Rattle.srp.specs.Calls.{addDef, withdrawDef, grantDef, closeDef, coun
 ghost use Rattle.words.specs.View.{portWords, headOf, view};
 ghost use Rattle.state.specs.Promises.{Replies, Answers};
 ghost use Rattle.credit.specs.Parts.{ListingIs, recordOf, grantedDef};
-
-// The most buffers.
-const MOST_BUFFERS: u8 = 16;
 
 // A listing: its reply, and 16 records, blank behind those of the open commands.
 pub struct Listing {

@@ -4,6 +4,7 @@ use srp::Answer;
 use srp::Refusal;
 use srp::Reply;
 use srp::Residual;
+use srp::limits::LONGEST_SENSE;
 use srp::limits::LONGEST_WRITTEN_MESSAGE;
 use state::Ending;
 use state::Found;
@@ -24,8 +25,6 @@ ghost use Rattle.state.specs.Promises.{Answers};
 ghost use Rattle.finish.specs.Parts.{endedDef, HeaderIs};
 
 const CHECK_CONDITION: u8 = 0x02;
-
-const LONGEST_SENSE: usize = 96;
 
 // Sense that is too long, or that stands beside another status.
 fn bad_sense(status: u8, n: usize) -> bool

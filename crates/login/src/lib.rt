@@ -2,7 +2,9 @@
 use srp::Answer;
 use srp::Refusal;
 use srp::Reply;
+use srp::limits;
 use srp::limits::BOTH_FORMATS;
+use srp::limits::DIRECT_ONLY;
 use srp::limits::LARGEST_PIECE;
 use srp::limits::LONGEST_AGREED;
 use srp::limits::LONGEST_WRITTEN_MESSAGE;
@@ -30,9 +32,7 @@ ghost use Rattle.srp.specs.Login.{badSettings, rejections, loginDef, judged};
 ghost use Rattle.words.specs.View.{portWords, closedWords};
 ghost use Rattle.login.specs.Parts.{settingsOf, supportedBy, verdictOf, GoodSettings, Accepts, LogsIn};
 
-const MOST_BUFFERS: u32 = 16;
-
-const DIRECT_ONLY: u32 = 0x0002;
+const MOST_BUFFERS: u32 = limits::MOST_BUFFERS as u32;
 
 // Reasons of a rejection, in the order of document 01's checks.
 const NO_REASON: u32 = 0x00010000;

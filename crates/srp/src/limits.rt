@@ -3,6 +3,9 @@
 // the longest message that the port writes
 pub const LONGEST_WRITTEN_MESSAGE: u32 = 132;
 
+// N and W are 1 to this
+pub const MOST_BUFFERS: u8 = 16;
+
 // M is 1 to this
 pub const LARGEST_PIECE: u32 = 1048576;
 
@@ -23,5 +26,9 @@ pub const LONGEST_LIST: usize = 512;
 
 pub const MOST_COPIES: u8 = 32;
 
-// direct and indirect formats, as login bits
+pub const LONGEST_SENSE: usize = 96;
+
+// formats as login bits: direct alone, and direct and indirect
+pub const DIRECT_ONLY: u32 = 0x0002;
+
 pub const BOTH_FORMATS: u32 = 0x0006;

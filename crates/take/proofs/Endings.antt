@@ -24,7 +24,7 @@ use Rattle.srp.specs.declared.Reply.the-variants.{Refused, TaskAnswered}
 use Rattle.cut.specs.declared.Total.the-variants.{Sum}
 use Rattle.command.specs.Reading.{fieldsOf}
 use Rattle.message.proofs.Laying.{long}
-use Rattle.words.specs.View.{headOf, HeadIs, view, closedWords}
+use Rattle.words.specs.View.{headOf, HeadIs, view, closedWords, shown}
 use Rattle.words.specs.declared.Head.{Head}
 use Rattle.words.proofs.Ports.{while-open, closed-view}
 use Rattle.state.specs.Changes.{Settled, withoutEnded, afterUse}
@@ -35,7 +35,7 @@ use Rattle.state.proofs.Answering as settling
 use Rattle.state.proofs.Opened.{losolnt-is}
 use Rattle.store.specs.Places.{Entered, freshOpen, oneMore}
 use Rattle.store.specs.declared.Fresh.{Fresh}
-use Rattle.take.specs.Parts.{tables}
+use Rattle.take.specs.Parts.{tables, freshOf}
 use Rattle.take.proofs.Branches.{fields-right}
 
 -- ── a hang-up
@@ -82,16 +82,14 @@ answer-by b tag d {x} {y} {m} {n} e f = ap (λ (z : Bool). placed (answer z tag 
 
 -- ── a new command
 
-abbrev pub freshOf : Command → ℕ → ℕ → Fresh
-freshOf c out inn = record { tag = c .tag; lun = c .lun; ucsolnt = c .ucsolnt; scsolnt = c .scsolnt; out = out; inn = inn }
-
 -- what is entered is the command's own
-pub entered : (l st l′ st′ m o i : List ℕ) (c : Command) (b d : ℕ) (lo li : List ℕ) → headOf l .live ≡ true
+pub entered : (l st l′ st′ m o i : List ℕ) (c : Command) (b d : ℕ) (lo li : List ℕ) (f : Fresh) → headOf l .live ≡ true
     → lo ≡ segmentBytes (c .out) m o → li ≡ segmentBytes (c .inn) m i → fieldsOf (c .out) m o ≡ Sum b → fieldsOf (c .inn) m i ≡ Sum d
-    → Entered l st l′ st′ (freshOf c b d) lo li → view l′ st′ ≡ accepted (view l st) m (tables o i) (Cmd c) .port
-entered l st l′ st′ m o i c b d lo li e eo ei fo fi E =
+    → f ≡ freshOf c b d → Entered l st l′ st′ f lo li → view l′ st′ ≡ accepted (view l st) m (tables o i) (Cmd c) .port
+entered l st l′ st′ m o i c b d lo li f e eo ei fo fi q E =
     while-open l′ st′ (E .live ∙ e)
     ∙ E .port
+    ∙ ap (λ (x : Fresh). oneMore (freshOpen x lo li) (shown l st)) q
     ∙ ap (oneMore (freshOpen (freshOf c b d) lo li)) (sym (while-open l st e))
     ∙ ap (λ (x : List ℕ). oneMore (freshOpen (freshOf c b d) x li) (view l st)) eo
     ∙ ap (λ (x : List ℕ). oneMore (freshOpen (freshOf c b d) (segmentBytes (c .out) m o) x) (view l st)) ei

@@ -15,6 +15,7 @@ use Rattle.srp.specs.declared.Message.the-variants.{Cmd}
 use Rattle.srp.specs.declared.Reply.the-variants.{Refused}
 use Rattle.cut.specs.declared.Total.the-variants.{Sum}
 use Rattle.command.specs.Reading.{fieldsOf, Listed}
+use Rattle.store.specs.declared.Fresh.{Fresh}
 
 abbrev pub tables : List ℕ → List ℕ → Tables
 tables out inn = record { out = out; inn = inn }
@@ -37,3 +38,8 @@ pub record Summed (s out inn : List ℕ) (c : Command) (b d : ℕ) : Type 0 wher
   pub in-sum : fieldsOf (c .inn) s inn ≡ Sum d
   pub out-listed : Listed (segmentBytes (c .out) s out) (Sum b)
   pub in-listed : Listed (segmentBytes (c .inn) s inn) (Sum d)
+
+-- what a message says of a new command, with B of each direction
+abbrev pub freshOf : Command → ℕ → ℕ → Fresh
+freshOf c out inn =
+    record { tag = c .tag; lun = c .lun; ucsolnt = c .ucsolnt; scsolnt = c .scsolnt; out = out; inn = inn }

@@ -24,7 +24,7 @@ ghost use Rattle.srp.specs.declared.Message.the-variants.{Cmd, TskMgmt, CredRsp
 ghost use Rattle.command.specs.Reading.{FitsIn};
 ghost use Rattle.words.specs.View.{portWords, storeSize, headOf, view};
 ghost use Rattle.state.specs.Promises.{Answers};
-ghost use Rattle.take.specs.Parts.{tables, laterDef, fieldsDef, badDef, Summed};
+ghost use Rattle.take.specs.Parts.{tables, laterDef, fieldsDef, badDef, Summed, freshOf};
 
 const CLEAR_ACA: u8 = 0x40;
 
@@ -161,6 +161,20 @@ fn take_logout(s: &mut [u64]) -> Answer
     }
 }
 
+// What the message says of a new command, with B of each direction.
+fn fresh_of(c: Command, out: u32, inn: u32) -> Fresh
+    ensures { λ r. ⌜ r ≡ freshOf c out inn ⌝ }
+{
+    Fresh {
+        tag: c.tag,
+        lun: c.lun,
+        ucsolnt: c.ucsolnt,
+        scsolnt: c.scsolnt,
+        out: out,
+        inn: inn,
+    }
+}
+
 // A command that passed its checks is open from here on.
 fn enter_command<'a>(
     s: &mut [u64],
@@ -182,25 +196,15 @@ fn enter_command<'a>(
 {
     let o = c.out;
     let i = c.inn;
-    let tag = c.tag;
-    let lun = c.lun;
-    let cdb = c.cdb;
     let out_list = command::segment_list(msg, out, o);
     let in_list = command::segment_list(msg, inn, i);
-    let f = Fresh {
-        tag: tag,
-        lun: lun,
-        ucsolnt: c.ucsolnt,
-        scsolnt: c.scsolnt,
-        out: out_total as u32,
-        inn: in_total as u32,
-    };
+    let f = fresh_of(c, out_total as u32, in_total as u32);
     store::enter(s, store, f, out_list, in_list);
     Answer {
         reply: Reply::NewCommand {
-            tag: tag,
-            lun: lun,
-            cdb: cdb,
+            tag: c.tag,
+            lun: c.lun,
+            cdb: c.cdb,
         },
         wrote: 0,
     }

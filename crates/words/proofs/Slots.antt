@@ -14,7 +14,6 @@ use denote.Laws.{Is}
 use Rattle.srp.specs.Bytes.{bit}
 use Rattle.srp.proofs.Fields.{front}
 use Rattle.words.proofs.Slot.{the-row}
-use Rattle.words.proofs.Head as head
 use Rattle.words.specs.declared.Slot.{Slot}
 use Rattle.words.specs.declared.Head.{Head}
 use Rattle.words.specs.View.{on, slotOf, wordsOf, SlotFits, region, slotsFrom, slots, noSlot, headOf, headWords, HeadFits}

@@ -1,6 +1,7 @@
 // A port in lent words: a head of 16 words, then 16 slots of 24 words. The open commands are the first slots, oldest first.
 // Any words are a port: each number is read into its range, so that no caller owes anything but 400 words. The words left over in the
 // head and in a slot are written 0.
+use srp::limits;
 ghost use mathlib.Core.Path.{_≡_};
 ghost use mathlib.Core.Bool.{Bool};
 ghost use Prim.Native.Nat.{ℕ, min, _+_, _≤_, _<_};
@@ -17,18 +18,18 @@ pub const PLACE: usize = 1024;
 
 pub const LIST: usize = 512;
 
-// What a number may be.
-const MOST_BUFFERS: u64 = 16;
+// What a number may be; there are as many places as commands can be open.
+const MOST_BUFFERS: u64 = limits::MOST_BUFFERS as u64;
 
-const MOST_SEGMENTS: u64 = 32;
+const MOST_SEGMENTS: u64 = limits::MOST_COPIES as u64;
 
-const PLACES: u64 = 16;
+const PLACES: u64 = MOST_BUFFERS;
 
-const LARGEST_PIECE: u64 = 1048576;
+const LARGEST_PIECE: u64 = limits::LARGEST_PIECE as u64;
 
-const SHORTEST_AGREED: u64 = 64;
+const SHORTEST_AGREED: u64 = limits::SHORTEST_AGREED as u64;
 
-const AGREED_LENGTHS: u64 = 1301;
+const AGREED_LENGTHS: u64 = (limits::LONGEST_AGREED - limits::SHORTEST_AGREED + 1) as u64;
 
 const NUMBERS: u64 = 4294967296;
 
@@ -201,7 +202,7 @@ fn head_words(h: Head) -> [u64; 16]
         h.announced as u64,
         h.unanswered as u64,
         (h.maximum - 1) as u64,
-        (h.agreed - 64) as u64,
+        (h.agreed - limits::SHORTEST_AGREED) as u64,
         (h.formats / 2) as u64,
         h.crsolnt as u64,
         h.losolnt as u64,
