@@ -12,7 +12,7 @@ use lib.ListN.{length}
 use Rattle.srp.specs.Bytes.{get, behind}
 use Rattle.srp.specs.Messages.{segmentLength}
 use Rattle.srp.specs.Descriptors.{agrees, descriptorSize, descriptorOf, badCount}
-use Rattle.command.specs.Reading.{agreedOf, Within}
+use Rattle.command.specs.Reading.{agreedOf, withTotal, Within}
 use Rattle.command.specs.declared.Format.{Format}
 use Rattle.command.specs.declared.Format.the-variants.{Agreed, NotAgreed}
 
@@ -90,9 +90,9 @@ few : (b : Bool) (c n : ℕ) → (b && (ltb 32 (cond b c 0) || ltb (cond b n 0) 
 few true c n e = (ltb-false 32 c (both (ltb 32 c) (ltb n (16 * c)) e .0), ltb-false n (16 * c) (both (ltb 32 c) (ltb n (16 * c)) e .1))
 few false c n e = (omega arith, omega arith)
 
--- what passed the checks lies within the message
+-- what passed the checks, read but for its total length, lies within the message
 pub within : (formats f c at : ℕ) (s : List ℕ) → agrees formats f ≡ true → at + descriptorSize f c ≤ length s → badCount (descriptorOf f c at s) ≡ false
-    → Within s (descriptorOf f c at s)
+    → Within s (withTotal 0 (descriptorOf f c at s))
 within formats f c at s a h e =
     let n = get (behind at segmentLength) s in
     record {

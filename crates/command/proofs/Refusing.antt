@@ -18,9 +18,12 @@ use Rattle.srp.specs.declared.Descriptor.{Descriptor}
 use Rattle.srp.specs.declared.Command.{Command}
 use Rattle.srp.specs.declared.Refusal.{Refusal}
 use Rattle.srp.specs.declared.Refusal.the-variants.{Setting, Length, OtherType, OutFormat, InFormat, OutCount, InCount}
-use Rattle.command.specs.Reading.{withTotal, decodedBy, FitsIn, Fits}
+use Rattle.command.specs.Reading.{withTotal, decodedBy, Within, FitsIn, Fits, shapeOf, shapedBy, FitsShape, FitsShaped}
 use Rattle.command.specs.declared.Decoded.{Decoded}
 use Rattle.command.specs.declared.Decoded.the-variants.{Read, Bad}
+use Rattle.command.specs.declared.Shape.{Shape}
+use Rattle.command.specs.declared.Shaped.{Shaped}
+use Rattle.command.specs.declared.Shaped.the-variants.{Fit, Unfit}
 use Rattle.command.proofs.Formats.{within}
 
 -- ── reading a command
@@ -56,7 +59,7 @@ module _ (formats : ℕ) (s : List ℕ) where
               all-clear : Read (commandOf s) ≡ read
               all-clear = rw (le-ltb (length s) 48 h, o, i, eq-eqb (length s) (exactLength s) x, f, g)
 
-              fits : FitsIn s (commandOf s)
+              fits : FitsShape s (shapeOf (commandOf s))
               fits =
                   record {
                     cdb = omega arith;
@@ -64,8 +67,8 @@ module _ (formats : ℕ) (s : List ℕ) where
                     inn = within formats (get inFormat s) (get inCount s) (inAt s) s i (omega arith) g;
                   }
 
-              pub command-read : {m : Command} → m ≡ commandOf s → (Read m ≡ read) × FitsIn s m
-              command-read e = (ap Read e ∙ all-clear, subst (FitsIn s) (sym e) fits)
+              pub shape-read : {y : Shape} → y ≡ shapeOf (commandOf s) → (Fit y ≡ shapedBy read) × FitsShape s y
+              shape-read e = (ap Fit e ∙ ap shapedBy all-clear, subst (FitsShape s) (sym e) fits)
 
 -- ── what the code has at hand is what the definitions name
 
@@ -80,17 +83,42 @@ module _ (s : List ℕ) {f c n : ℕ} (ef : f ≡ get outFormat s) (ec : c ≡ g
     pub end-is : {y : ℕ} → y ≡ descriptorSize g k → 32 + (16 + 4 * n) + z + y ≡ exactLength s
     end-is ey = rw (ey, eg, ek, ez, ef, ec, en)
 
--- a descriptor that was read but for its total length, with that
-pub total-is : (f c at : ℕ) (s : List ℕ) {d r : Descriptor} {t : ℕ} → d ≡ withTotal 0 (descriptorOf f c at s) → t ≡ descriptorOf f c at s .total → r ≡ withTotal t d
-    → r ≡ descriptorOf f c at s
-total-is f c at s ed et er = er ∙ rw (ed, et)
+-- the shape, from what the code reads
+abbrev shape : ℕ → Descriptor → Descriptor → Shape
+shape n o i = record { cdb = 16 + 4 * n; out = o; inn = i }
 
-abbrev pub command : ℕ → ℕ → ℕ → ℕ → ℕ → Descriptor → Descriptor → Command
-command t l u v n o i = record { tag = t; lun = l; ucsolnt = eqb u 1; scsolnt = eqb v 1; cdb = 16 + 4 * n; out = o; inn = i }
+pub shape-is : (s : List ℕ) {n : ℕ} {o i : Descriptor} → n ≡ get additional s → o ≡ withTotal 0 (outDescriptor s) → i ≡ withTotal 0 (inDescriptor s)
+    → shape n o i ≡ shapeOf (commandOf s)
+shape-is s en eo ei = rw (en, eo, ei)
 
-pub command-is : (s : List ℕ) {t l u v n : ℕ} {o i : Descriptor} → t ≡ get tag s → l ≡ get lun s → u ≡ get ucsolnt s → v ≡ get scsolnt s → n ≡ get additional s
-    → o ≡ outDescriptor s → i ≡ inDescriptor s → command t l u v n o i ≡ commandOf s
-command-is s et el eu ev en eo ei = rw (et, el, eu, ev, en, eo, ei)
+-- ── a command of which the shape was read
+
+-- where a descriptor lies does not depend on its total length
+with-any-total : (s : List ℕ) (d : Descriptor) → Within s (withTotal 0 d) → Within s d
+with-any-total s d w = record { format = w .format; count = w .count; inside = w .inside; table = w .table }
+
+module _ (s : List ℕ) {x : Shape} (e : x ≡ shapeOf (commandOf s)) where
+  -- a descriptor of the shape, with the total length that is read at its place
+  pub out-whole : {t : ℕ} {r : Descriptor} → t ≡ descriptorOf (x .out .format) (x .out .count) (x .out .at) s .total → r ≡ withTotal t (x .out) → r ≡ outDescriptor s
+  out-whole et er = er ∙ rw (et, e)
+
+  pub in-whole : {t : ℕ} {r : Descriptor} → t ≡ descriptorOf (x .inn .format) (x .inn .count) (x .inn .at) s .total → r ≡ withTotal t (x .inn) → r ≡ inDescriptor s
+  in-whole et er = er ∙ rw (et, e)
+
+  -- the command lies inside the message as its shape does
+  pub whole-fits : FitsShape s x → {c : Command} → c ≡ commandOf s → FitsIn s c
+  whole-fits h ec =
+      let g = subst (FitsShape s) e h in
+      let f : FitsIn s (commandOf s) = record { cdb = g .cdb; out = with-any-total s (outDescriptor s) (g .out); inn = with-any-total s (inDescriptor s) (g .inn) } in
+      subst (FitsIn s) (sym ec) f
+
+  -- the command, from the shape and the fields that the code reads
+  abbrev command : ℕ → ℕ → ℕ → ℕ → Descriptor → Descriptor → Command
+  command t l u v o i = record { tag = t; lun = l; ucsolnt = eqb u 1; scsolnt = eqb v 1; cdb = x .cdb; out = o; inn = i }
+
+  pub command-is : {t l u v : ℕ} {o i : Descriptor} → t ≡ get tag s → l ≡ get lun s → u ≡ get ucsolnt s → v ≡ get scsolnt s → o ≡ outDescriptor s → i ≡ inDescriptor s
+      → command t l u v o i ≡ commandOf s
+  command-is et el eu ev eo ei = rw (et, el, eu, ev, eo, ei, e)
 
 -- ── looking at a message
 
@@ -132,6 +160,19 @@ module _ (agreed formats : ℕ) (s : List ℕ) where
               is-command z = rw (set, le-ltb (length s) 16 h₅, le-ltb agreed (length s) h₆, eq-eqb (typeOf s) 2 (sym e ∙ z))
 
 -- ── what was read, or refused, tells which check hit
+
+-- a shape was refused as the command is
+pub when-unfit : (d : Decoded) {r : Refusal} → shapedBy d ≡ Unfit r → Bad r ≡ d
+when-unfit (Read c) e = let z : _≡_ {A = ℕ} 0 1 = cc in let q : ⊥ = omega arith in absurd q
+when-unfit (Bad r) e = ap Bad (cc)
+
+-- a shape was read, so the command is, and the shape is its
+pub when-fit : (o : Option Refusal) (m : Command) {x : Shape} → shapedBy (decodedBy o m) ≡ Fit x → (x ≡ shapeOf m) × (Read m ≡ decodedBy o m)
+when-fit none m e = (cc, refl)
+when-fit (some r) m e = let z : _≡_ {A = ℕ} 0 1 = cc in let q : ⊥ = omega arith in absurd q
+
+pub fits-shape : {s : List ℕ} {r : Shaped} {x : Shape} → r ≡ Fit x → FitsShaped s r → FitsShape s x
+fits-shape e h = rw e at h
 
 pub when-bad : {A : Type 0} (o : Option Refusal) (m : Command) (x : A) (f : Refusal → A) {r : Refusal} → decodedBy o m ≡ Bad r → f r ≡ elim o [ none ↦ x | some r ↦ f r ]
 when-bad none m x f e = let z : _≡_ {A = ℕ} 0 1 = cc in let q : ⊥ = omega arith in absurd q

@@ -15,6 +15,9 @@ use Rattle.command.specs.declared.Format.{Format}
 use Rattle.command.specs.declared.Format.the-variants.{Agreed, NotAgreed}
 use Rattle.command.specs.declared.Decoded.{Decoded}
 use Rattle.command.specs.declared.Decoded.the-variants.{Read, Bad}
+use Rattle.command.specs.declared.Shape.{Shape}
+use Rattle.command.specs.declared.Shaped.{Shaped}
+use Rattle.command.specs.declared.Shaped.the-variants.{Fit, Unfit}
 
 abbrev pub agreedOf : ℕ → ℕ → Format
 agreedOf formats format = cond (agrees formats format) (Agreed format) NotAgreed
@@ -28,6 +31,15 @@ abbrev pub decodedBy : Option Refusal → Command → Decoded
 decodedBy none c = Read c
 decodedBy (some r) c = Bad r
 
+-- what look needs of a command
+abbrev pub shapeOf : Command → Shape
+shapeOf c = record { cdb = c .cdb; out = withTotal 0 (c .out); inn = withTotal 0 (c .inn) }
+
+-- or the refusal
+abbrev pub shapedBy : Decoded → Shaped
+shapedBy (Read c) = Fit (shapeOf c)
+shapedBy (Bad r) = Unfit r
+
 -- a descriptor of format 0, 1 or 2 inside the message s, with at most 32 copies and no more than its table has
 pub record Within (s : List ℕ) (d : Descriptor) : Type 0 where
   pub format : d .format ≤ 2
@@ -35,15 +47,27 @@ pub record Within (s : List ℕ) (d : Descriptor) : Type 0 where
   pub inside : d .at + descriptorSize (d .format) (d .count) ≤ length s
   pub table : 16 * d .count ≤ d .len
 
+-- a CDB of n bytes and the descriptors o and i lie inside the message s
+pub record Inside (s : List ℕ) (n : ℕ) (o i : Descriptor) : Type 0 where
+  pub cdb : 32 + n ≤ length s
+  pub out : Within s o
+  pub inn : Within s i
+
 -- a command that was read lies inside its message
-pub record FitsIn (s : List ℕ) (c : Command) : Type 0 where
-  pub cdb : 32 + c .cdb ≤ length s
-  pub out : Within s (c .out)
-  pub inn : Within s (c .inn)
+abbrev pub FitsIn : List ℕ → Command → Type 0
+FitsIn s c = Inside s (c .cdb) (c .out) (c .inn)
 
 abbrev pub Fits : List ℕ → Decoded → Type 0
 Fits s (Read c) = FitsIn s c
 Fits s (Bad r) = Unit {0}
+
+-- and so does a shape that was read
+abbrev pub FitsShape : List ℕ → Shape → Type 0
+FitsShape s x = Inside s (x .cdb) (x .out) (x .inn)
+
+abbrev pub FitsShaped : List ℕ → Shaped → Type 0
+FitsShaped s (Fit x) = FitsShape s x
+FitsShaped s (Unfit r) = Unit {0}
 
 -- B of a direction, unless a field is bad
 abbrev pub fieldsOf : Descriptor → List ℕ → List ℕ → Total

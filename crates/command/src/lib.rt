@@ -39,7 +39,7 @@ ghost use lib.ListN.{length};
 ghost use Rattle.srp.specs.Refusals.{firstOf};
 ghost use Rattle.srp.specs.Descriptors.{descriptorSize, descriptorOf, badCount, goodTable, fetched, fetchOf, segmentBytes, copiesAgree};
 ghost use Rattle.srp.specs.Requests.{commandOf, commandChecks, lookChecks, lookDef, cdbDef, segmentsDef};
-ghost use Rattle.command.specs.Reading.{agreedOf, decodedBy, withTotal, Within, Fits, fieldsOf, Listed};
+ghost use Rattle.command.specs.Reading.{agreedOf, decodedBy, withTotal, Within, FitsIn, Fits, shapeOf, shapedBy, FitsShape, FitsShaped, fieldsOf, Listed};
 
 // A format, where it is agreed.
 pub enum Format {
@@ -51,6 +51,19 @@ pub enum Format {
 pub enum Decoded {
     Read(Command),
     Bad(Refusal),
+}
+
+// The CDB's length, and both descriptors but for their total lengths, which no check before refusal 10 reads.
+pub struct Shape {
+    pub cdb: usize,
+    pub out: Descriptor,
+    pub inn: Descriptor,
+}
+
+// The shape of an SRP_CMD, or which refusal it draws.
+pub enum Shaped {
+    Fit(Shape),
+    Unfit(Refusal),
 }
 
 fn format_of(formats: u32, format: u8) -> Format
@@ -81,7 +94,7 @@ fn size(format: u8, count: u8) -> usize
     0
 }
 
-// A descriptor but for its total length, which no check before refusal 10 reads.
+// A descriptor but for its total length.
 fn descriptor(msg: &[u8], format: u8, count: u8, at: usize) -> Descriptor
     requires { ⌜ at + descriptorSize format count ≤ length (now msg) ⌝ }
     ensures { λ r. ⌜ r ≡ withTotal 0 (descriptorOf format count at (now (msg .entry))) ⌝ }
@@ -142,18 +155,18 @@ fn bad_count(d: Descriptor) -> bool
     len < 16 * (count as u32)
 }
 
-// Refusals 3, 5, 6, 3, 7, 8 of a command, or what it says.
-pub fn read_command(msg: &[u8], formats: u32) -> Decoded
-    ensures { λ r. ⌜ (r ≡ decodedBy (firstOf (commandChecks formats (now (msg .entry)))) (commandOf (now (msg .entry)))) × Fits (now (msg .entry)) r ⌝ }
+// Refusals 3, 5, 6, 3, 7, 8 of a command, or its shape: all that look needs.
+fn read_shape(msg: &[u8], formats: u32) -> Shaped
+    ensures { λ r. ⌜ (r ≡ shapedBy (decodedBy (firstOf (commandChecks formats (now (msg .entry)))) (commandOf (now (msg .entry))))) × FitsShaped (now (msg .entry)) r ⌝ }
 {
     if msg.len() < SHORTEST_COMMAND {
-        return Decoded::Bad(Refusal::Length);
+        return Shaped::Unfit(Refusal::Length);
     }
     let Format::Agreed(out_format) = format_of(formats, wire::read_bits(msg, FORMATS, 4, 4)) else {
-        return Decoded::Bad(Refusal::OutFormat);
+        return Shaped::Unfit(Refusal::OutFormat);
     };
     let Format::Agreed(in_format) = format_of(formats, wire::read_bits(msg, FORMATS, 0, 4)) else {
-        return Decoded::Bad(Refusal::InFormat);
+        return Shaped::Unfit(Refusal::InFormat);
     };
     let out_count = wire::read8(msg, OUT_COUNT);
     let in_count = wire::read8(msg, IN_COUNT);
@@ -161,53 +174,88 @@ pub fn read_command(msg: &[u8], formats: u32) -> Decoded
     let out_at = CDB + cdb;
     let in_at = out_at + size(out_format, out_count);
     if msg.len() != in_at + size(in_format, in_count) {
-        return Decoded::Bad(Refusal::Length);
+        return Shaped::Unfit(Refusal::Length);
     }
     let out = descriptor(msg, out_format, out_count, out_at);
     if bad_count(out) {
-        return Decoded::Bad(Refusal::OutCount);
+        return Shaped::Unfit(Refusal::OutCount);
     }
     let inn = descriptor(msg, in_format, in_count, in_at);
     if bad_count(inn) {
-        return Decoded::Bad(Refusal::InCount);
+        return Shaped::Unfit(Refusal::InCount);
     }
-    Decoded::Read(Command {
-        tag: wire::read64(msg, TAG),
-        lun: wire::read64(msg, LUN),
-        ucsolnt: wire::read_bits(msg, NOTIFICATION, UCSOLNT, 1) == 1,
-        scsolnt: wire::read_bits(msg, NOTIFICATION, SCSOLNT, 1) == 1,
+    Shaped::Fit(Shape {
         cdb: cdb,
-        out: with_total(out, total_length(msg, out_format, out_count, out_at)),
-        inn: with_total(inn, total_length(msg, in_format, in_count, in_at)),
+        out: out,
+        inn: inn,
     })
 }
 
 // Look's refusals 2, 3, 4, and then those of a command.
+fn look_shape(msg: &[u8], agreed: u32, formats: u32) -> Shaped
+    ensures { λ r. ⌜ (r ≡ shapedBy (decodedBy (firstOf (lookChecks agreed formats (now (msg .entry)))) (commandOf (now (msg .entry))))) × FitsShaped (now (msg .entry)) r ⌝ }
+{
+    if agreed < SHORTEST_AGREED {
+        return Shaped::Unfit(Refusal::Setting);
+    }
+    if LONGEST_AGREED < agreed {
+        return Shaped::Unfit(Refusal::Setting);
+    }
+    if formats % 2 == 1 {
+        return Shaped::Unfit(Refusal::Setting);
+    }
+    if BOTH_FORMATS + 1 < formats {
+        return Shaped::Unfit(Refusal::Setting);
+    }
+    if msg.len() < SHORTEST_MESSAGE {
+        return Shaped::Unfit(Refusal::Length);
+    }
+    if (agreed as usize) < msg.len() {
+        return Shaped::Unfit(Refusal::Length);
+    }
+    if wire::read8(msg, 0) != COMMAND {
+        return Shaped::Unfit(Refusal::OtherType);
+    }
+    read_shape(msg, formats)
+}
+
+// A command of which the shape was read: its other fields.
+fn command_of(msg: &[u8], shape: Shape) -> Command
+    requires { ⌜ shape ≡ shapeOf (commandOf (now msg)) ⌝ }
+    requires { ⌜ FitsShape (now msg) shape ⌝ }
+    ensures { λ r. ⌜ (r ≡ commandOf (now (msg .entry))) × FitsIn (now (msg .entry)) r ⌝ }
+{
+    let out = shape.out;
+    let inn = shape.inn;
+    Command {
+        tag: wire::read64(msg, TAG),
+        lun: wire::read64(msg, LUN),
+        ucsolnt: wire::read_bits(msg, NOTIFICATION, UCSOLNT, 1) == 1,
+        scsolnt: wire::read_bits(msg, NOTIFICATION, SCSOLNT, 1) == 1,
+        cdb: shape.cdb,
+        out: with_total(out, total_length(msg, out.format, out.count, out.at)),
+        inn: with_total(inn, total_length(msg, inn.format, inn.count, inn.at)),
+    }
+}
+
+// Refusals 3, 5, 6, 3, 7, 8 of a command, or what it says.
+pub fn read_command(msg: &[u8], formats: u32) -> Decoded
+    ensures { λ r. ⌜ (r ≡ decodedBy (firstOf (commandChecks formats (now (msg .entry)))) (commandOf (now (msg .entry)))) × Fits (now (msg .entry)) r ⌝ }
+{
+    match read_shape(msg, formats) {
+        Shaped::Unfit(refusal) => Decoded::Bad(refusal),
+        Shaped::Fit(shape) => Decoded::Read(command_of(msg, shape)),
+    }
+}
+
+// The same behind look's refusals.
 pub fn look_command(msg: &[u8], agreed: u32, formats: u32) -> Decoded
     ensures { λ r. ⌜ (r ≡ decodedBy (firstOf (lookChecks agreed formats (now (msg .entry)))) (commandOf (now (msg .entry)))) × Fits (now (msg .entry)) r ⌝ }
 {
-    if agreed < SHORTEST_AGREED {
-        return Decoded::Bad(Refusal::Setting);
+    match look_shape(msg, agreed, formats) {
+        Shaped::Unfit(refusal) => Decoded::Bad(refusal),
+        Shaped::Fit(shape) => Decoded::Read(command_of(msg, shape)),
     }
-    if LONGEST_AGREED < agreed {
-        return Decoded::Bad(Refusal::Setting);
-    }
-    if formats % 2 == 1 {
-        return Decoded::Bad(Refusal::Setting);
-    }
-    if BOTH_FORMATS + 1 < formats {
-        return Decoded::Bad(Refusal::Setting);
-    }
-    if msg.len() < SHORTEST_MESSAGE {
-        return Decoded::Bad(Refusal::Length);
-    }
-    if (agreed as usize) < msg.len() {
-        return Decoded::Bad(Refusal::Length);
-    }
-    if wire::read8(msg, 0) != COMMAND {
-        return Decoded::Bad(Refusal::OtherType);
-    }
-    read_command(msg, formats)
 }
 
 fn good_table(len: u32) -> bool
@@ -265,11 +313,11 @@ fn fetch(msg: &[u8], d: Descriptor) -> Fetch
 pub fn look(msg: &[u8], agreed: u32, formats: u32) -> Look
     ensures { λ r. ⌜ r ≡ lookDef agreed formats (now (msg .entry)) ⌝ }
 {
-    match look_command(msg, agreed, formats) {
-        Decoded::Bad(refusal) => Look::LookRefused(refusal),
-        Decoded::Read(c) => {
-            let out = c.out;
-            let inn = c.inn;
+    match look_shape(msg, agreed, formats) {
+        Shaped::Unfit(refusal) => Look::LookRefused(refusal),
+        Shaped::Fit(shape) => {
+            let out = shape.out;
+            let inn = shape.inn;
             Look::Fetches(fetch(msg, out), fetch(msg, inn))
         }
     }

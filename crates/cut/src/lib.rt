@@ -58,35 +58,36 @@ pub fn sum(list: &[u8]) -> Total
     Total::Sum(so_far)
 }
 
-fn least(a: u32, b: u32) -> u32
+// The smaller of two numbers.
+pub fn least(a: u32, b: u32) -> u32
     ensures { λ r. ⌜ r ≡ min a b ⌝ }
 {
     if a < b { a } else { b }
 }
 
 // The piece at `from` of the bytes up to `to`, at most `most` long. An address counts modulo 2^64.
+// A segment that is passed over ends before `to`, so `to` is only asked first and where the piece stands.
 pub fn next_piece(list: &[u8], most: u32, from: u32, to: u32) -> Cut
     ensures { λ r. ⌜ r ≡ nextWrapped (next most from to (segmentsOf (now (list .entry)))) ⌝ }
 {
+    if to <= from {
+        return Cut::CutDone;
+    }
     let mut at: usize = 0;
     let mut rest = list.len() / SEGMENT;
-    let mut offset: u32 = 0;
     let mut skip = from;
-    let mut left = to;
     while 0 < rest {
-        let n = least(wire::read32(list, at + SEGMENT_LENGTH), left);
+        let n = wire::read32(list, at + SEGMENT_LENGTH);
         if skip < n {
             let address = wire::read64(list, at + ADDRESS);
             return Cut::CutPiece(Piece {
                 address: std::num::wrapping_add_u64(address, skip as u64),
                 handle: wire::read32(list, at + HANDLE),
-                len: least(most, n - skip),
-                offset: offset + skip,
+                len: least(most, least(n - skip, to - from)),
+                offset: from,
             });
         }
-        offset = offset + n;
         skip = skip - n;
-        left = left - n;
         at = at + SEGMENT;
         rest = rest - 1;
     }

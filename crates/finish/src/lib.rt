@@ -87,7 +87,7 @@ fn end_command(
     ensures { λ r. ⌜ ((st : List ℕ) → Answers (now (s .entry)) st (now (buf .entry)) (now (s .exit)) st (now (buf .exit)) r (endedDef (view (now (s .entry)) st) tag status (now (sense .entry)))) ⌝ }
 {
     let c = words::load(s, i);
-    state::drop_commands(&mut *s, Ending::Finished(tag));
+    state::drop_commands(&mut *s, i, Ending::Finished(tag));
     let delta = state::settle(s, 0);
     let h = header(c, status, delta);
     message::put_response(buf, h, sense);

@@ -1,4 +1,4 @@
--- Which commands a task request aborts; the changes of an open port's head, and of one slot, as changes of the port.
+-- Which commands a task request aborts; the changes of an open port's head as changes of the port.
 -- Assumes nothing.
 use mathlib.Core.Path.{_≡_, refl, sym, _∙_, ap}
 use mathlib.Core.Bool.{Bool, true, false, _&&_, _||_}
@@ -6,15 +6,15 @@ use mathlib.Core.List.{List}
 use Prim.Native.Nat.{ℕ, _+_, _-_}
 use borrow.Author.Tests.{eq-eqb, ne-eqb}
 use lib.Dec.{eqb}
-use lib.ListN.{set, length-map}
-use Rattle.srp.specs.Credit.{Open, withHeld, withWanted, withUnanswered}
+use lib.ListN.{length-map}
+use Rattle.srp.specs.Credit.{withWanted, withUnanswered}
 use Rattle.srp.specs.Take.{wholeLun, aborts}
 use Rattle.srp.specs.declared.TaskRequest.{TaskRequest}
 use Rattle.words.specs.declared.Slot.{Slot}
 use Rattle.words.specs.declared.Head.{Head}
 use Rattle.words.specs.View.{headOf, slots, countedOf, openOf, openPort, opens, shown}
 use Rattle.words.proofs.Ports.{opens-long}
-use Rattle.state.specs.Changes.{FoundAt, Alters, Settled, Replaced}
+use Rattle.state.specs.Changes.{Alters, Settled}
 
 -- ── which commands a task request aborts
 
@@ -58,35 +58,22 @@ module _ (l l′ : List ℕ) (sq : slots l′ ≡ slots l) where
     counted-port st =
         ap (λ (h : Head). openPort h (slots l′) st) hq ∙ ap (λ (cs : List Slot). openPort (countedOf (headOf l) n w a u) cs st) sq
 
-  -- another W
-  pub wanted-altered : (w : ℕ) → headOf l′ ≡ countedOf (headOf l) (headOf l .held) w (headOf l .announced) (headOf l .unanswered) → Alters l l′ (λ p. withWanted p w)
-  wanted-altered w hq = record { live = counted-live _ _ _ _ hq; port = counted-port _ _ _ _ hq }
+  -- those of the head that was read
+  module _ (h : Head) (is : h ≡ headOf l) where
+    -- another W
+    pub wanted-altered : (w : ℕ) → headOf l′ ≡ countedOf (headOf l) (h .held) w (h .announced) (h .unanswered) → Alters l l′ (λ p. withWanted p w)
+    wanted-altered w hq = record { live = counted-live _ _ _ _ hq; port = counted-port _ _ _ _ (rw is at hq) }
 
-  -- a credit request unanswered, or no longer
-  pub unanswered-altered : (u : Bool) → headOf l′ ≡ countedOf (headOf l) (headOf l .held) (headOf l .wanted) (headOf l .announced) u
-      → Alters l l′ (λ p. withUnanswered p u)
-  unanswered-altered u hq = record { live = counted-live _ _ _ _ hq; port = counted-port _ _ _ _ hq }
+    -- a credit request unanswered, or no longer
+    pub unanswered-altered : (u : Bool) → headOf l′ ≡ countedOf (headOf l) (h .held) (h .wanted) (h .announced) u → Alters l l′ (λ p. withUnanswered p u)
+    unanswered-altered u hq = record { live = counted-live _ _ _ _ hq; port = counted-port _ _ _ _ (rw is at hq) }
 
-  -- what is due announced
-  pub settled : (used delta : ℕ) → delta ≡ headOf l .wanted - (headOf l .announced - used + headOf l .held)
-      → headOf l′ ≡ countedOf (headOf l) (headOf l .held) (headOf l .wanted) (headOf l .announced - used + delta) (headOf l .unanswered)
-      → Settled used delta l l′
-  settled used delta d hq =
-      record {
-        live = counted-live _ _ _ _ hq;
-        delta-is = λ st. d ∙ ap (λ (n : ℕ). headOf l .wanted - (headOf l .announced - used + n)) (sym (length-map (opens l) (openOf st) ∙ opens-long l));
-        port = counted-port _ _ _ _ hq;
-      }
-
--- ── one slot
-
--- another command in the slot of the command with a tag
-pub replaced : (l l′ : List ℕ) (i tag : ℕ) (c : Slot) → FoundAt l tag i → slots l′ ≡ set (slots l) i c → headOf l′ ≡ headOf l → Replaced l l′ i tag c
-replaced l l′ i tag c F sq hq =
-    record {
-      live = ap (λ (h : Head). h .live) hq;
-      port = λ st g e.
-          ap (λ (h : Head). openPort h (slots l′) st) hq
-          ∙ ap (λ (cs : List Slot). openPort (headOf l) cs st) sq
-          ∙ ap (λ (cs : List Open). withHeld (shown l st) (headOf l .announced) cs) (sym (F .changes st g c e));
-    }
+    -- what is due announced
+    pub settled : (used delta : ℕ) → delta ≡ h .wanted - (h .announced - used + h .held)
+        → headOf l′ ≡ countedOf (headOf l) (h .held) (h .wanted) (h .announced - used + delta) (h .unanswered) → Settled used delta l l′
+    settled used delta d hq =
+        record {
+          live = counted-live _ _ _ _ hq;
+          delta-is = λ st. rw is at d ∙ ap (λ (n : ℕ). headOf l .wanted - (headOf l .announced - used + n)) (sym (length-map (opens l) (openOf st) ∙ opens-long l));
+          port = counted-port _ _ _ _ (rw is at hq);
+        }

@@ -12,17 +12,17 @@ use borrow.Author.Count.{below-none, below-more}
 use borrow.Author.Tests.{eq-eqb, ne-eqb}
 use lib.Dec.{eqb}
 use lib.ListN.{length, getD, take, drop, set, drop-of-length-le}
-use lib.Seq.{drop-cons, getD-take, getD-drop, drop-drop, take-suc-set, drop-set-lt, take-set-lt}
+use lib.Seq.{drop-cons, getD-take, getD-drop, drop-drop, take-suc-set, take-take, drop-set-lt, take-set-lt, set-getD}
 use Rattle.srp.specs.Lists.{find, change, without}
 use Rattle.srp.specs.Credit.{Open, withHeld}
 use Rattle.srp.specs.Take.{hasTag}
 use Rattle.srp.proofs.ListLaws.{without-map}
 use Rattle.words.specs.declared.Slot.{Slot}
 use Rattle.words.specs.declared.Head.{Head}
-use Rattle.words.specs.View.{portWords, headOf, slots, noSlot, opens, openOf, openPort, countedOf, shown}
-use Rattle.words.proofs.Slots.{slots-long}
+use Rattle.words.specs.View.{portWords, headOf, slots, noSlot, opens, openOf, openPort, countedOf, shown, SlotMoved}
+use Rattle.words.proofs.Slots.{slots-long, slot-tag, slot-lun}
 use Rattle.words.proofs.Ports.{opens-long, tag-at}
-use Rattle.state.specs.Changes.{FoundAt, FoundIs, Alters, ends, withoutEnded}
+use Rattle.state.specs.Changes.{FoundAt, FoundIs, Alters, ends, over, NoneEnds, withoutEnded}
 use Rattle.state.specs.declared.Found.the-variants.{Nothing}
 use Rattle.state.specs.declared.Ending.{Ending}
 
@@ -88,6 +88,7 @@ module _ (l : List ℕ) (tag held i : ℕ) (S : Searching l tag held i) where
       record {
         inside = n;
         small = omega (arith, S .small);
+        others = S .others;
         first = λ st. first-there (hasTag tag) (openOf st) noSlot (opens l) i long (S .others) this ∙ ap (λ (c : Slot). some (openOf st c)) slot;
         changes = λ st g c e.
             change-there (hasTag tag) (openOf st) noSlot (opens l) i long (S .others) this g c (e ∙ ap (λ (x : Slot). g (openOf st x)) (sym slot))
@@ -108,6 +109,14 @@ module _ {A : Type 0} where
   head-same : (l m : List A) (i : ℕ) (d : A) → drop i l ≡ drop i m → getD l i d ≡ getD m i d
   head-same l m i d e = rw (getD-drop i l, getD-drop i m, add-zero) at (ap (λ (x : List A). getD x 0 d) e)
 
+  -- the first i stay where none of them ends
+  stay-first : (p : A → Bool) (d : A) (l : List A) (i : ℕ) → i ≤ length l → ((j : ℕ) → j < i → p (getD l j d) ≡ false)
+      → take i l ++ without p (drop i l) ≡ without p l
+  stay-first p d l zero h N = refl
+  stay-first p d [] (suc i) h N = let z : ⊥ = omega arith in absurd z
+  stay-first p d (x ∷ xs) (suc i) h N =
+      rw (N 0 (omega arith)) (ap (λ (r : List A). x ∷ r) (stay-first p d xs i (omega arith) (λ j k. N (suc j) (omega arith))))
+
   module _ (p : A → Bool) (l : List A) (i : ℕ) (d : A) (h : i < length l) where
     -- one that stays
     stays : p (getD l i d) ≡ false → without p (drop i l) ≡ getD l i d ∷ without p (drop (i + 1) l)
@@ -117,66 +126,92 @@ module _ {A : Type 0} where
     goes : p (getD l i d) ≡ true → without p (drop i l) ≡ without p (drop (i + 1) l)
     goes e = rw (drop-cons l i d, e, add-one) refl
 
--- whether the command in a slot ends
-abbrev pub over : Ending → Slot → Bool
-over e c = ends e (c .tag) (c .lun)
+-- whether the command in slot i ends, by the two words that are read
+abbrev readOver : Ending → List ℕ → ℕ → Bool
+readOver e l i = ends e (getD l (24 * i + 16) 0) (getD l (24 * i + 16 + 1) 0)
 
 -- of the words p, with `held` open commands, the words q are made: the first i commands are looked at, `kept` of them stay
 pub record Dropping (e : Ending) (held : ℕ) (p q : List ℕ) (i kept : ℕ) : Type 0 where
   pub count : held ≡ headOf p .held
   pub long : length q ≡ portWords
   pub same-long : length q ≡ length p
+  pub head : headOf q ≡ headOf p
   pub in-count : i ≤ held
   pub small : held ≤ 16
   pub behind : kept ≤ i
   pub ahead : drop i (slots q) ≡ drop i (slots p)
   pub done : take kept (slots q) ++ without (over e) (drop i (opens p)) ≡ without (over e) (opens p)
 
--- before the first
-pub drop-start : (e : Ending) (held : ℕ) (p : List ℕ) → held ≡ headOf p .held → length p ≡ portWords → Dropping e held p p 0 0
-drop-start e held p n l =
-    record { count = n; long = l; same-long = refl; in-count = omega arith; small = omega arith; behind = omega arith; ahead = refl; done = refl }
+-- before the first that may end
+pub drop-start : (e : Ending) (held : ℕ) (p : List ℕ) (i : ℕ) → held ≡ headOf p .held → length p ≡ portWords → i ≤ headOf p .held → NoneEnds e p i
+    → Dropping e held p p i i
+drop-start e held p i n l h N =
+    record {
+      count = n;
+      long = l;
+      same-long = refl;
+      head = refl;
+      in-count = omega arith;
+      small = omega arith;
+      behind = omega arith;
+      ahead = refl;
+      done = rw (← take-take i (headOf p .held) (slots p) h) (stay-first (over e) noSlot (opens p) i (omega (arith, opens-long p)) N);
+    }
 
-module _ (e : Ending) (held : ℕ) (p q : List ℕ) (i kept : ℕ) (D : Dropping e held p q i kept) (c : Slot) (is : c ≡ getD (slots q) i noSlot) (h : i < held) where
-  this : c ≡ getD (opens p) i noSlot
+module _ (e : Ending) (held : ℕ) (p q : List ℕ) (i kept : ℕ) (D : Dropping e held p q i kept) (h : i < held) where
+  this : getD (slots q) i noSlot ≡ getD (opens p) i noSlot
   this =
       let g : i < headOf p .held = omega (arith, D .count) in
-      is ∙ head-same (slots q) (slots p) i noSlot (D .ahead) ∙ sym (getD-take (headOf p .held) (slots p) i noSlot g)
+      head-same (slots q) (slots p) i noSlot (D .ahead) ∙ sym (getD-take (headOf p .held) (slots p) i noSlot g)
+
+  -- they are those of the command
+  test : {b : Bool} → readOver e q i ≡ b → over e (getD (opens p) i noSlot) ≡ b
+  test t =
+      let g : i < 16 = omega (arith, D .small) in
+      ap (over e) (sym this)
+      ∙ ap (λ (n : ℕ). ends e n (getD (slots q) i noSlot .lun)) (slot-tag q i g)
+      ∙ ap (ends e (getD q (24 * i + 16) 0)) (slot-lun q i g)
+      ∙ t
 
   inside : i < length (opens p)
   inside = omega (arith, opens-long p, D .count)
 
   -- this one ends
-  pub drop-ended : ends e (c .tag) (c .lun) ≡ true → Dropping e held p q (i + 1) kept
+  pub drop-ended : readOver e q i ≡ true → Dropping e held p q (i + 1) kept
   drop-ended t =
-      let u : over e (getD (opens p) i noSlot) ≡ true = ap (over e) (sym this) ∙ t in
       record {
         count = D .count;
         long = D .long;
         same-long = D .same-long;
+        head = D .head;
         in-count = omega arith;
         small = D .small;
         behind = omega (arith, D .behind);
         ahead = tail-same (slots q) (slots p) i (D .ahead);
-        done = rw (← goes (over e) (opens p) i noSlot inside u) (D .done);
+        done = rw (← goes (over e) (opens p) i noSlot inside (test t)) (D .done);
       }
 
-  -- this one stays
-  pub drop-kept : ends e (c .tag) (c .lun) ≡ false → (q′ : List ℕ) → length q′ ≡ length q → slots q′ ≡ set (slots q) kept c
-      → Dropping e held p q′ (i + 1) (kept + 1)
-  drop-kept t q′ lq sq =
-      let u : over e (getD (opens p) i noSlot) ≡ false = ap (over e) (sym this) ∙ t in
+  -- this one stays, moved up
+  pub drop-kept : readOver e q i ≡ false → (q′ : List ℕ) → length q′ ≡ length q → SlotMoved q q′ i kept → Dropping e held p q′ (i + 1) (kept + 1)
+  drop-kept t q′ lq M =
       let k : kept < length (slots q) = omega (arith, slots-long 16 0 q, D .behind, D .small) in
       record {
         count = D .count;
         long = lq ∙ D .long;
         same-long = lq ∙ D .same-long;
+        head = M .head ∙ D .head;
         in-count = omega arith;
         small = D .small;
         behind = omega (arith, D .behind);
-        ahead = rw sq (drop-set-lt (i + 1) (slots q) kept c (omega (arith, D .behind)) ∙ tail-same (slots q) (slots p) i (D .ahead));
-        done = rw (sq, add-one kept, take-suc-set (slots q) kept c k, append-assoc, this, ← stays (over e) (opens p) i noSlot inside u) (D .done);
+        ahead = rw (M .slots) (drop-set-lt (i + 1) (slots q) kept (getD (slots q) i noSlot) (omega (arith, D .behind)) ∙ tail-same (slots q) (slots p) i (D .ahead));
+        done = rw (M .slots, add-one kept, take-suc-set (slots q) kept (getD (slots q) i noSlot) k, append-assoc, this, ← stays (over e) (opens p) i noSlot inside (test t)) (D .done);
       }
+
+  -- this one stays where it is
+  pub drop-unmoved : readOver e q i ≡ false → i ≤ kept → Dropping e held p q (i + 1) (kept + 1)
+  drop-unmoved t g =
+      let k : kept ≡ i = omega (arith, D .behind) in
+      drop-kept t q refl (record { slots = rw k (sym (set-getD (slots q) i noSlot)); head = refl })
 
 module _ (e : Ending) (held : ℕ) (p q : List ℕ) (i kept : ℕ) (D : Dropping e held p q i kept) (end : held ≤ i) where
   stay : take kept (slots q) ≡ without (over e) (opens p)
@@ -184,14 +219,16 @@ module _ (e : Ending) (held : ℕ) (p q : List ℕ) (i kept : ℕ) (D : Dropping
       let o : length (opens p) ≤ i = omega (arith, opens-long p, D .count) in
       rw (drop-of-length-le (opens p) o, append-nil) at (D .done)
 
-  -- the port without those that ended
-  pub dropped : (q′ : List ℕ) → slots q′ ≡ slots q → headOf q′ ≡ countedOf (headOf p) kept (headOf p .wanted) (headOf p .announced) (headOf p .unanswered)
-      → Alters p q′ (withoutEnded e)
-  dropped q′ sq hq =
+  -- the port without those that ended, its other counts those of the head that was read
+  pub dropped : (h : Head) → h ≡ headOf p → (q′ : List ℕ) → slots q′ ≡ slots q
+      → headOf q′ ≡ countedOf (headOf q) kept (h .wanted) (h .announced) (h .unanswered) → Alters p q′ (withoutEnded e)
+  dropped h is q′ sq hq =
+      let hp : headOf q′ ≡ countedOf (headOf p) kept (headOf p .wanted) (headOf p .announced) (headOf p .unanswered) =
+      hq ∙ ap (λ (x : Head). countedOf x kept (h .wanted) (h .announced) (h .unanswered)) (D .head) ∙ ap (λ (x : Head). countedOf (headOf p) kept (x .wanted) (x .announced) (x .unanswered)) is in
       record {
-        live = ap (λ (x : Head). x .live) hq;
+        live = ap (λ (x : Head). x .live) hp;
         port = λ st.
-            ap (λ (x : Head). openPort x (slots q′) st) hq
+            ap (λ (x : Head). openPort x (slots q′) st) hp
             ∙ ap (λ (cs : List Open). withHeld (shown p st) (headOf p .announced) cs)
             (ap (λ (cs : List Slot). map (openOf st) (take kept cs)) sq
             ∙ ap (map (openOf st)) stay

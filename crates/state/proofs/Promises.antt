@@ -16,10 +16,11 @@ use Rattle.srp.specs.declared.Refusal.{Refusal}
 use Rattle.srp.specs.declared.Reply.{Reply}
 use Rattle.srp.specs.declared.Reply.the-variants.{Refused}
 use Rattle.srp.specs.declared.Answer.{Answer}
-use Rattle.words.specs.View.{headOf, slots, noSlot, SlotIs, openOf, shown, view, closedWords}
+use Rattle.words.specs.View.{headOf, slots, noSlot, SlotIs, SlotChanged, openOf, openPort, shown, view, closedWords}
+use Rattle.words.specs.declared.Head.{Head}
 use Rattle.words.specs.declared.Slot.{Slot}
 use Rattle.words.proofs.Ports.{while-open}
-use Rattle.state.specs.Changes.{FoundAt, FoundIs, Alters, Settled, Replaced, withoutEnded, afterUse}
+use Rattle.state.specs.Changes.{FoundAt, FoundIs, Alters, Settled, withoutEnded, afterUse}
 use Rattle.state.specs.Promises.{Replies, Answers}
 use Rattle.state.specs.declared.Ending.{Ending}
 use Rattle.state.specs.declared.Found.the-variants.{Nothing}
@@ -99,11 +100,16 @@ module _ (l l′ st : List ℕ) where
     while-open l′ st (S .live ∙ e) ∙ S .port st ∙ ap (λ (p : Port). withHeld p (p .announced - used + delta) (p .held)) (sym (while-open l st e)),
   )
 
-  -- the command with a tag replaced
-  pub replaced-view : {i tag : ℕ} {c : Slot} → headOf l .live ≡ true → Replaced l l′ i tag c → (g : Open → Open) → openOf st c ≡ g (openOf st (getD (slots l) i noSlot))
+  -- the command with a tag changed in its slot
+  pub changed-view : {i tag : ℕ} {f : Slot → Slot} → headOf l .live ≡ true → FoundAt l tag i → SlotChanged l l′ i f
+      → (g : Open → Open) → openOf st (f (getD (slots l) i noSlot)) ≡ g (openOf st (getD (slots l) i noSlot))
       → view l′ st ≡ withHeld (view l st) (view l st .announced) (change (hasTag tag) g (view l st .held))
-  replaced-view {i} {tag} {c} e R g q =
-      while-open l′ st (R .live ∙ e) ∙ R .port st g q ∙ ap (λ (p : Port). withHeld p (p .announced) (change (hasTag tag) g (p .held))) (sym (while-open l st e))
+  changed-view {i} {tag} {f} e F C g q =
+      while-open l′ st (ap (λ (h : Head). h .live) (C .head) ∙ e)
+      ∙ ap (λ (h : Head). openPort h (slots l′) st) (C .head)
+      ∙ ap (λ (cs : List Slot). openPort (headOf l) cs st) (C .slots)
+      ∙ ap (λ (cs : List Open). withHeld (shown l st) (headOf l .announced) cs) (sym (F .changes st g (f (getD (slots l) i noSlot)) q))
+      ∙ ap (λ (p : Port). withHeld p (p .announced) (change (hasTag tag) g (p .held))) (sym (while-open l st e))
 
 -- the end of commands leaves A
 pub announced-same : {l l′ : List ℕ} (e : Ending) → Alters l l′ (withoutEnded e) → headOf l′ .announced ≡ headOf l .announced

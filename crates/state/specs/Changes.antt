@@ -1,20 +1,34 @@
 -- What the changes of an open port's words do to the port that they show.
 use mathlib.Core.Path.{_≡_}
-use mathlib.Core.Bool.{Bool}
+use mathlib.Core.Bool.{Bool, false}
 use mathlib.Core.List.{List, map}
-use mathlib.Core.Option.{Option, none, some}
-use Prim.Native.Nat.{ℕ, _+_, _-_, _≤_, _<_}
+use mathlib.Core.Option.{none, some}
+use Prim.Native.Nat.{ℕ, _+_, _-_, _<_}
 use lib.Dec.{eqb}
 use lib.ListN.{take, getD, set}
 use Rattle.srp.specs.Lists.{find, change, without}
 use Rattle.srp.specs.Credit.{Open, Port, due, withHeld}
 use Rattle.srp.specs.Take.{aborts, hasTag}
-use Rattle.words.specs.View.{headOf, slots, noSlot, openOf, shown}
+use Rattle.words.specs.View.{headOf, slots, noSlot, opens, openOf, shown}
 use Rattle.words.specs.declared.Slot.{Slot}
 use Rattle.state.specs.declared.Found.{Found}
 use Rattle.state.specs.declared.Found.the-variants.{At, Nothing}
 use Rattle.state.specs.declared.Ending.{Ending}
 use Rattle.state.specs.declared.Ending.the-variants.{Finished, Aborted}
+
+-- ── commands that end
+
+abbrev pub ends : Ending → ℕ → ℕ → Bool
+ends (Finished t) tag lun = eqb t tag
+ends (Aborted t) tag lun = aborts t tag lun
+
+-- whether the command in a slot ends
+abbrev pub over : Ending → Slot → Bool
+over e c = ends e (c .tag) (c .lun)
+
+-- none of the first i open commands ends
+abbrev pub NoneEnds : Ending → List ℕ → ℕ → Type 0
+NoneEnds e l i = (j : ℕ) → j < i → over e (getD (opens l) j noSlot) ≡ false
 
 -- ── the search for a tag
 
@@ -22,6 +36,8 @@ use Rattle.state.specs.declared.Ending.the-variants.{Finished, Aborted}
 pub record FoundAt (l : List ℕ) (tag i : ℕ) : Type 0 where
   pub inside : i < headOf l .held
   pub small : i < 16
+  -- the commands before it have other tags
+  pub others : NoneEnds (Finished tag) l i
   pub first : (st : List ℕ) → find (hasTag tag) (shown l st .held) ≡ some (openOf st (getD (slots l) i noSlot))
   -- a change of that command is a change of its slot
   pub changes : (st : List ℕ) (g : Open → Open) (c : Slot) → openOf st c ≡ g (openOf st (getD (slots l) i noSlot))
@@ -38,10 +54,6 @@ pub record Alters (l l′ : List ℕ) (f : Port → Port) : Type 0 where
   pub live : headOf l′ .live ≡ headOf l .live
   pub port : (st : List ℕ) → shown l′ st ≡ f (shown l st)
 
-abbrev pub ends : Ending → ℕ → ℕ → Bool
-ends (Finished t) tag lun = eqb t tag
-ends (Aborted t) tag lun = aborts t tag lun
-
 abbrev pub withoutEnded : Ending → Port → Port
 withoutEnded e p = withHeld p (p .announced) (without (λ (c : Open). ends e (c .tag) (c .lun)) (p .held))
 
@@ -54,9 +66,3 @@ pub record Settled (used delta : ℕ) (l l′ : List ℕ) : Type 0 where
   pub live : headOf l′ .live ≡ headOf l .live
   pub delta-is : (st : List ℕ) → delta ≡ due (afterUse used (shown l st))
   pub port : (st : List ℕ) → shown l′ st ≡ withHeld (shown l st) (shown l st .announced - used + delta) (shown l st .held)
-
--- the command with the tag, in slot i, is now c
-pub record Replaced (l l′ : List ℕ) (i tag : ℕ) (c : Slot) : Type 0 where
-  pub live : headOf l′ .live ≡ headOf l .live
-  pub port : (st : List ℕ) (g : Open → Open) → openOf st c ≡ g (openOf st (getD (slots l) i noSlot))
-      → shown l′ st ≡ withHeld (shown l st) (shown l st .announced) (change (hasTag tag) g (shown l st .held))

@@ -3,15 +3,14 @@
 use srp::TaskRequest;
 use words::HEAD;
 use words::SLOT;
-use words::Slot;
 ghost use mathlib.Core.Path.{_≡_};
 ghost use mathlib.Core.Bool.{Bool};
 ghost use Prim.Native.Nat.{ℕ, _+_, _-_, _≤_, _<_};
 ghost use lib.ListN.{length};
-ghost use Rattle.srp.specs.Credit.{Port, withHeld, withWanted, withUnanswered};
+ghost use Rattle.srp.specs.Credit.{withWanted, withUnanswered};
 ghost use Rattle.srp.specs.Take.{wholeLun};
 ghost use Rattle.words.specs.View.{portWords, headOf};
-ghost use Rattle.state.specs.Changes.{FoundIs, ends, withoutEnded, Alters, Settled};
+ghost use Rattle.state.specs.Changes.{FoundIs, ends, NoneEnds, withoutEnded, Alters, Settled};
 
 // Where the open command with a tag stands.
 pub enum Found {
@@ -91,25 +90,29 @@ fn ended(which: Ending, tag: u64, lun: u64) -> bool
     }
 }
 
-// Ends commands; those that stay keep their order.
-pub fn drop_commands(s: &mut [u64], which: Ending)
+// Ends commands, of which none stands before slot `first`; those that stay keep their order, and those before the first that ends are
+// not written.
+pub fn drop_commands(s: &mut [u64], first: usize, which: Ending)
     requires { ⌜ length (now s) ≡ portWords ⌝ }
+    requires { ⌜ first ≤ headOf (now s) .held ⌝ }
+    requires { ⌜ NoneEnds which (now s) first ⌝ }
     ensures { λ _. ⌜ Alters (now (s .entry)) (now (s .exit)) (withoutEnded which) ⌝ }
 {
     let h = words::get_head(s);
     let held = h.held;
-    let mut i: usize = 0;
-    let mut kept: usize = 0;
+    let mut i = first;
+    let mut kept = first;
     while i < held {
-        let c = words::load(s, i);
-        if !ended(which, c.tag, c.lun) {
-            words::save(s, kept, c);
+        let at = SLOT * i + HEAD;
+        if !ended(which, s[at], s[at + 1]) {
+            if kept < i {
+                words::move_slot(s, i, kept);
+            }
             kept += 1;
         }
         i += 1;
     }
-    let g = words::counted(h, kept, h.wanted, h.announced, h.unanswered);
-    words::set_head(s, g);
+    words::set_counts(s, kept, h.wanted, h.announced, h.unanswered);
 }
 
 // D, or 0 where it is negative.
@@ -130,8 +133,7 @@ pub fn settle(s: &mut [u64], used: u8) -> u32
     let h = words::get_head(s);
     let left = h.announced - used;
     let delta = due(h.wanted, left, h.held);
-    let g = words::counted(h, h.held, h.wanted, left + delta, h.unanswered);
-    words::set_head(s, g);
+    words::set_counts(s, h.held, h.wanted, left + delta, h.unanswered);
     delta as u32
 }
 
@@ -143,8 +145,7 @@ pub fn set_wanted(s: &mut [u64], wanted: u8)
     ensures { λ _. ⌜ Alters (now (s .entry)) (now (s .exit)) (λ p. withWanted p wanted) ⌝ }
 {
     let h = words::get_head(s);
-    let g = words::counted(h, h.held, wanted, h.announced, h.unanswered);
-    words::set_head(s, g);
+    words::set_counts(s, h.held, wanted, h.announced, h.unanswered);
 }
 
 // A credit request is unanswered from now on, or no longer.
@@ -153,16 +154,5 @@ pub fn set_unanswered(s: &mut [u64], unanswered: bool)
     ensures { λ _. ⌜ Alters (now (s .entry)) (now (s .exit)) (λ p. withUnanswered p unanswered) ⌝ }
 {
     let h = words::get_head(s);
-    let g = words::counted(h, h.held, h.wanted, h.announced, unanswered);
-    words::set_head(s, g);
-}
-
-// The command in slot i is another.
-pub fn replace(s: &mut [u64], i: usize, tag: u64, c: Slot)
-    requires { ⌜ length (now s) ≡ portWords ⌝ }
-    requires { ⌜ Rattle.state.specs.Changes.FoundAt (now s) tag i ⌝ }
-    requires { ⌜ Rattle.words.specs.View.SlotFits c ⌝ }
-    ensures { λ _. ⌜ Rattle.state.specs.Changes.Replaced (now (s .entry)) (now (s .exit)) i tag c ⌝ }
-{
-    words::save(s, i, c);
+    words::set_counts(s, h.held, h.wanted, h.announced, unanswered);
 }

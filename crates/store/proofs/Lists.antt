@@ -1,7 +1,6 @@
 -- The store with one command's memory descriptors more, and the port with one command more.
 -- Assumes nothing.
 use mathlib.Core.Path.{_≡_, refl, _∙_, ap}
-use mathlib.Core.Bool.{Bool}
 use mathlib.Core.List.{List, [], _∷_, _++_, map, map-append}
 use mathlib.Core.Logic.{inl, inr, ⊎-elim}
 use Prim.Native.Nat.{ℕ, suc, _+_, _-_, _*_, _/_, _≤_, _<_}
@@ -11,7 +10,7 @@ use lib.ListN.{length, getD, take, drop, set}
 use lib.Seq.{paste, length-paste, take-suc-set, getD-take}
 use Rattle.words.specs.declared.Head.{Head}
 use Rattle.words.specs.declared.Slot.{Slot}
-use Rattle.words.specs.View.{SlotFits, HeadFits, HeadIs, CountedIs, headOf, slots, opens, noSlot, openOf, openPort, countedOf}
+use Rattle.words.specs.View.{SlotFits, HeadIs, CountsFit, headOf, slots, opens, noSlot, openOf, openPort, countedOf}
 use Rattle.words.proofs.Slots.{apart, written, either, slots-long}
 use Rattle.words.proofs.Ports.{opens-long, slot-fits}
 use Rattle.store.specs.declared.Fresh.{Fresh}
@@ -40,21 +39,11 @@ slot-left l h H pos = omega (arith, H .fits .room, H .announced)
 pub fresh-fits : (f : Fresh) (k : ℕ) (out inn : List ℕ) → k < 16 → Segments out → Segments inn → SlotFits (freshSlot f k (length out / 16) (length inn / 16))
 fresh-fits f k out inn small So Si = record { place = small; out = omega (arith, So .short); inn = omega (arith, Si .short) }
 
--- a head with one command more and one announced buffer less is in its ranges
-pub counted-fits : (l : List ℕ) (h r : Head) (u : Bool) → HeadIs l h → 0 < headOf l .announced → CountedIs h (h .held + 1) (h .wanted) (h .announced - 1) u r → HeadFits r
-counted-fits l h r u H pos C =
+-- one command more and one announced buffer less are in the head's ranges
+pub counts-fit : (l : List ℕ) (h : Head) → HeadIs l h → 0 < headOf l .announced → CountsFit (h .held + 1) (h .wanted) (h .announced - 1)
+counts-fit l h H pos =
     let F = H .fits in
-    record {
-      least = omega (arith, F .least, C .wanted);
-      most = omega (arith, F .most, C .wanted);
-      room = omega (arith, F .room, H .announced, C .announced, C .held);
-      smallest = omega (arith, F .smallest, C .maximum);
-      largest = omega (arith, F .largest, C .maximum);
-      shortest = omega (arith, F .shortest, C .agreed);
-      longest = omega (arith, F .longest, C .agreed);
-      even = rw (C .formats) (F .even);
-      formats = omega (arith, F .formats, C .formats);
-    }
+    record { least = F .least; most = F .most; room = omega (arith, F .room, H .announced) }
 
 -- ── both lists written at a place
 
@@ -116,12 +105,17 @@ module _ (st out inn : List ℕ) (long : length st ≡ 16384) (So : Segments out
         (add-one, take-suc-set (slots l) (headOf l .held) slot (rw (slots-long 16 0 l) room), map-append, here f, map-same (openOf with-both) (openOf st) (opens l) noSlot (λ j q. others (getD (opens l) j noSlot) (open-fits l j (omega (arith, opens-long l))) (free .apart j q)))
         refl
 
-    -- the words with the slot and the counts are the port with the command
-    pub entered : (l′ : List ℕ) → slots l′ ≡ set (slots l) (headOf l .held) slot
-        → headOf l′ ≡ countedOf (headOf l) (headOf l .held + 1) (headOf l .wanted) (headOf l .announced - 1) (headOf l .unanswered)
+    -- the words with the slot, then with the counts, are the port with the command; the other counts are those of the head that was read
+    pub entered : (h : Head) → h ≡ headOf l → (m : List ℕ) → slots m ≡ set (slots l) (h .held) slot → headOf m ≡ headOf l
+        → (l′ : List ℕ) → slots l′ ≡ slots m → headOf l′ ≡ countedOf (headOf m) (h .held + 1) (h .wanted) (h .announced - 1) (h .unanswered)
         → Entered l st l′ with-both f out inn
-    entered l′ sq hq =
+    entered h is m sm hm l′ sq hq =
+        let hl : headOf l′ ≡ countedOf (headOf l) (headOf l .held + 1) (headOf l .wanted) (headOf l .announced - 1) (headOf l .unanswered) =
+        hq
+        ∙ ap (λ (x : Head). countedOf x (h .held + 1) (h .wanted) (h .announced - 1) (h .unanswered)) hm
+        ∙ ap (λ (x : Head). countedOf (headOf l) (x .held + 1) (x .wanted) (x .announced - 1) (x .unanswered)) is in
+        let sl : slots l′ ≡ set (slots l) (headOf l .held) slot = sq ∙ sm ∙ ap (λ (x : Head). set (slots l) (x .held) slot) is in
         record {
-          live = ap (λ (h : Head). h .live) hq;
-          port = ap (λ (h : Head). openPort h (slots l′) with-both) hq ∙ rw (sq, held) refl;
+          live = ap (λ (x : Head). x .live) hl;
+          port = ap (λ (x : Head). openPort x (slots l′) with-both) hl ∙ rw (sl, held) refl;
         }

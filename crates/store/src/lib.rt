@@ -127,6 +127,5 @@ pub fn enter(s: &mut [u64], store: &mut [u8], f: Fresh, out: &[u8], inn: &[u8])
         (inn.len() / SEGMENT) as u8,
     );
     words::save(&mut *s, held, c);
-    let g = words::counted(h, held + 1, h.wanted, h.announced - 1, h.unanswered);
-    words::set_head(s, g);
+    words::set_counts(s, held + 1, h.wanted, h.announced - 1, h.unanswered);
 }

@@ -101,7 +101,7 @@ fn end_task(s: &mut [u64], buf: &mut [u8], t: TaskRequest) -> Answer
     let lun = t.lun;
     let code = task_code(t.function);
     let solnt = answer::solicited(t.ucsolnt, t.scsolnt, code);
-    state::drop_commands(s, Ending::Aborted(t));
+    state::drop_commands(s, 0, Ending::Aborted(t));
     let due = state::settle(s, 1);
     message::put_answer(buf, solnt, tag, code, due);
     Answer {

@@ -17,12 +17,12 @@ use Rattle.srp.specs.declared.Cut.{Cut}
 use Rattle.srp.specs.declared.Cut.the-variants.{CutPiece, CutDone}
 use Rattle.srp.specs.declared.Reply.the-variants.{Operation, Done}
 use Rattle.cut.specs.Walk.{nextWrapped}
-use Rattle.words.specs.View.{headOf, slots, noSlot, openOf, view, SlotIs}
+use Rattle.words.specs.View.{headOf, slots, noSlot, openOf, view, SlotIs, SlotChanged, handedSlot}
 use Rattle.words.specs.declared.Slot.{Slot}
 use Rattle.words.proofs.Ports.{while-open}
-use Rattle.state.specs.Changes.{FoundAt, Replaced}
+use Rattle.state.specs.Changes.{FoundAt}
 use Rattle.state.specs.Promises.{Replies}
-use Rattle.state.proofs.Promises.{replies-by, performed, replaced-view, found-slot}
+use Rattle.state.proofs.Promises.{replies-by, performed, changed-view, found-slot}
 use Rattle.transfer.specs.Parts.{handDef}
 use Rattle.transfer.proofs.Pieces.{no-piece, a-piece}
 
@@ -44,11 +44,14 @@ module _ {l : List ℕ} {tag i : ℕ} {c : Slot} (F : FoundAt l tag i) (S : Slot
     none-left e = replies-by (hand-by (no-piece (nextOf M d (some (openOf st c))) is e)) (performed refl refl refl refl)
 
     -- a piece is handed out
-    pub one-handed : {l′ : List ℕ} {k : Kind} (m : Piece) {g : Slot} → r ≡ CutPiece m → k ≡ kindOf d → Replaced l l′ i tag g
-        → openOf st g ≡ advanced d (m .len) (openOf st c) → Replies l st l′ st (Operation k m) (handDef (view l st) tag d)
-    one-handed {l′} m {g} e q R a =
+    pub one-handed : {l′ : List ℕ} {k : Kind} (m : Piece) (n : ℕ) → r ≡ CutPiece m → k ≡ kindOf d → SlotChanged l l′ i (handedSlot d n)
+        → openOf st (handedSlot d n c) ≡ advanced d (m .len) (openOf st c) → Replies l st l′ st (Operation k m) (handDef (view l st) tag d)
+    one-handed {l′} m n e q C a =
         let o = a-piece (nextOf M d (some (openOf st c))) is e in
-        let moved : openOf st g ≡ advanced d (o .0 .len) (openOf st (getD (slots l) i noSlot)) =
-        a ∙ ap (λ (x : Piece). advanced d (x .len) (openOf st c)) (o .2) ∙ ap (λ (x : Slot). advanced d (o .0 .len) (openOf st x)) (S .whole) in
+        let moved : openOf st (handedSlot d n (getD (slots l) i noSlot)) ≡ advanced d (o .0 .len) (openOf st (getD (slots l) i noSlot)) =
+        ap (λ (x : Slot). openOf st (handedSlot d n x)) (sym (S .whole))
+        ∙ a
+        ∙ ap (λ (x : Piece). advanced d (x .len) (openOf st c)) (o .2)
+        ∙ ap (λ (x : Slot). advanced d (o .0 .len) (openOf st x)) (S .whole) in
         replies-by (hand-by (o .1))
-        (performed (ap (λ (x : Kind). Operation x m) q ∙ ap (Operation (kindOf d)) (o .2)) (replaced-view l l′ st live R (advanced d (o .0 .len)) moved) refl refl)
+        (performed (ap (λ (x : Kind). Operation x m) q ∙ ap (Operation (kindOf d)) (o .2)) (changed-view l l′ st live F C (advanced d (o .0 .len)) moved) refl refl)

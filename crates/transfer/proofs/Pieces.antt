@@ -1,6 +1,6 @@
--- A command's slot under plan and step, and the piece that step hands out.
+-- A command's slot under step, and the piece that step hands out.
 -- Assumes nothing.
-use mathlib.Core.Path.{_≡_, refl, sym, _∙_, ap}
+use mathlib.Core.Path.{_≡_, refl, sym, _∙_}
 use mathlib.Core.List.{List}
 use mathlib.Core.Option.{Option, none, some}
 use Prim.Native.Nat.{ℕ, _+_, _-_, _*_, _≤_, _<_, min}
@@ -9,7 +9,7 @@ use lib.ListN.{take, drop}
 use Rattle.srp.specs.Descriptors.{segmentsOf}
 use Rattle.srp.specs.Cutting.{next}
 use Rattle.srp.specs.Credit.{Side}
-use Rattle.srp.specs.Calls.{nextOf, wrapped, planned, advanced}
+use Rattle.srp.specs.Calls.{nextOf, wrapped, advanced}
 use Rattle.srp.specs.declared.Direction.{Direction}
 use Rattle.srp.specs.declared.Direction.the-variants.{Out, In}
 use Rattle.srp.specs.declared.Piece.{Piece}
@@ -18,39 +18,21 @@ use Rattle.srp.specs.declared.Cut.{Cut}
 use Rattle.srp.specs.declared.Cut.the-variants.{CutRefused, CutPiece, CutDone}
 use Rattle.srp.proofs.Pieces.{piece-fits}
 use Rattle.cut.specs.Walk.{nextWrapped}
-use Rattle.words.specs.View.{slotOf, SlotFits, SlotIs, region, openOf}
+use Rattle.words.specs.View.{slotOf, SlotFits, SlotIs, region, openOf, handedSlot}
 use Rattle.words.specs.declared.Part.{Part}
 use Rattle.words.specs.declared.Slot.{Slot}
 use Rattle.words.proofs.Slots.{slot-at}
-use Rattle.transfer.specs.Parts.{plannedSlot, partFor, placeFor, handedOn, withPart, advancedSlot}
+use Rattle.transfer.specs.Parts.{partFor, placeFor}
 
 -- ── the slot
 
-advanced-open : (st : List ℕ) (d : Direction) (n : ℕ) (c : Slot) → openOf st (advancedSlot d n c) ≡ advanced d n (openOf st c)
-advanced-open st Out n c = refl
-advanced-open st In n c = refl
-
-advanced-fits : (d : Direction) (n : ℕ) (c : Slot) → SlotFits c → SlotFits (advancedSlot d n c)
-advanced-fits Out n c F = record { place = F .place; out = F .out; inn = F .inn }
-advanced-fits In n c F = record { place = F .place; out = F .out; inn = F .inn }
-
-module _ (c : Slot) (d : Direction) (n : ℕ) {p q : Part} {g : Slot} (e : p ≡ partFor d c) (f : q ≡ handedOn n p) (h : g ≡ withPart d q c) where
-  -- the command with n bytes more handed out
-  pub moved-open : (st : List ℕ) → openOf st g ≡ advanced d n (openOf st c)
-  moved-open st = rw (h, f, e) (advanced-open st d n c)
-
-  -- it is in its ranges
-  pub moved-fits : SlotFits c → SlotFits g
-  moved-fits F = rw (h, f, e) (advanced-fits d n c F)
-
-module _ (c : Slot) (out inn : ℕ) {g : Slot} (e : g ≡ plannedSlot out inn c) where
-  -- the command with its plan
-  pub planned-open : (st : List ℕ) → openOf st g ≡ planned out inn (openOf st c)
-  planned-open st = ap (openOf st) e
-
-  -- it is in its ranges too
-  pub planned-fits : SlotFits c → SlotFits g
-  planned-fits F = rw e (record { place = F .place; out = F .out; inn = F .inn })
+-- with n bytes more handed out it is the command with them
+pub moved-open : (st : List ℕ) (c : Slot) (d : Direction) (n : ℕ) {p : Part} → p ≡ partFor d c → openOf st (handedSlot d (p .handed + n) c) ≡ advanced d n (openOf st c)
+moved-open st c d n e = rw e (by d)
+  where
+    by : (d : Direction) → openOf st (handedSlot d (partFor d c .handed + n) c) ≡ advanced d n (openOf st c)
+    by Out = refl
+    by In = refl
 
 -- a direction has at most 32 memory descriptors
 pub few-segments : {c : Slot} → SlotFits c → (d : Direction) → partFor d c .segments ≤ 32

@@ -21,38 +21,7 @@ ghost use Rattle.cut.specs.Walk.{nextWrapped};
 ghost use Rattle.words.specs.View.{portWords, storeSize, headOf, openOf, view, SlotFits, SlotIs};
 ghost use Rattle.state.specs.Changes.{FoundAt};
 ghost use Rattle.state.specs.Promises.{Replies};
-ghost use Rattle.transfer.specs.Parts.{requiringOf, plannedSlot, partFor, placeFor, handedOn, withPart, handDef};
-
-fn requiring(p: Part, required: u32) -> Part
-    ensures { λ r. ⌜ r ≡ requiringOf required p ⌝ }
-{
-    Part {
-        segments: p.segments,
-        total: p.total,
-        required: required,
-        handed: p.handed,
-    }
-}
-
-// The command with its plan.
-fn planned(c: Slot, out: u32, inn: u32) -> Slot
-    ensures { λ r. ⌜ r ≡ plannedSlot out inn c ⌝ }
-{
-    let o = c.out;
-    let i = c.inn;
-    let required_out = requiring(o, out);
-    let required_in = requiring(i, inn);
-    Slot {
-        tag: c.tag,
-        lun: c.lun,
-        ucsolnt: c.ucsolnt,
-        scsolnt: c.scsolnt,
-        planned: true,
-        place: c.place,
-        out: required_out,
-        inn: required_in,
-    }
-}
+ghost use Rattle.transfer.specs.Parts.{partFor, placeFor, handDef};
 
 // States what a command requires each way. Refused 21, 24, 30.
 pub fn plan(s: &mut [u64; 400], tag: u64, out: u32, inn: u32) -> Reply
@@ -71,8 +40,7 @@ pub fn plan(s: &mut [u64; 400], tag: u64, out: u32, inn: u32) -> Reply
     if already {
         return Reply::Refused(Refusal::Planned);
     }
-    let d = planned(c, out, inn);
-    state::replace(s, i, tag, d);
+    words::set_plan(s, i, out, inn);
     Reply::Performed
 }
 
@@ -107,55 +75,6 @@ fn kind_for(d: Direction) -> Kind
     }
 }
 
-fn least(a: u32, b: u32) -> u32
-    ensures { λ r. ⌜ r ≡ min a b ⌝ }
-{
-    if a < b { a } else { b }
-}
-
-// The direction with more handed out.
-fn handed_on(p: Part, n: u32) -> Part
-    requires { ⌜ p .handed + n < 4294967296 ⌝ }
-    ensures { λ r. ⌜ r ≡ handedOn n p ⌝ }
-{
-    Part {
-        segments: p.segments,
-        total: p.total,
-        required: p.required,
-        handed: p.handed + n,
-    }
-}
-
-// The command with another state of one direction.
-fn with_part(c: Slot, d: Direction, p: Part) -> Slot
-    ensures { λ r. ⌜ r ≡ withPart d p c ⌝ }
-{
-    let o = c.out;
-    let i = c.inn;
-    match d {
-        Direction::Out => Slot {
-            tag: c.tag,
-            lun: c.lun,
-            ucsolnt: c.ucsolnt,
-            scsolnt: c.scsolnt,
-            planned: c.planned,
-            place: c.place,
-            out: p,
-            inn: i,
-        },
-        Direction::In => Slot {
-            tag: c.tag,
-            lun: c.lun,
-            ucsolnt: c.ucsolnt,
-            scsolnt: c.scsolnt,
-            planned: c.planned,
-            place: c.place,
-            out: o,
-            inn: p,
-        },
-    }
-}
-
 // The next piece of a direction, or done.
 fn next_for(store: &[u8], c: Slot, d: Direction, maximum: u32) -> Cut
     requires { ⌜ length (now store) ≡ storeSize ⌝ }
@@ -165,7 +84,7 @@ fn next_for(store: &[u8], c: Slot, d: Direction, maximum: u32) -> Cut
     let p = part_for(c, d);
     let at = place_for(c, d);
     let end = at + (p.segments as usize) * SEGMENT;
-    let to = least(p.required, p.total);
+    let to = cut::least(p.required, p.total);
     cut::next_piece(&store[at..end], maximum, p.handed, to)
 }
 
@@ -193,9 +112,7 @@ fn hand_out(
         Cut::CutDone => Reply::Done,
         Cut::CutPiece(piece) => {
             let p = part_for(c, d);
-            let q = handed_on(p, piece.len);
-            let g = with_part(c, d, q);
-            state::replace(s, i, tag, g);
+            words::set_handed(s, i, d, p.handed + piece.len);
             Reply::Operation(kind_for(d), piece)
         }
     }

@@ -131,17 +131,18 @@ pub fn clear(s: &mut [u8], n: usize)
     }
 }
 
-// Whether the bytes of `a` begin `b`.
+// Whether the bytes of `a` begin `b`. All are compared, also behind two that differ: the loop then takes many bytes at once.
 pub fn begins(a: &[u8], b: &[u8]) -> bool
     requires { ⌜ length (now a) ≤ length (now b) ⌝ }
     ensures { λ r. ⌜ r ≡ sameBytes (now (a .entry)) (take (length (now (a .entry))) (now (b .entry))) ⌝ }
 {
+    let mut same = true;
     let mut i: usize = 0;
     while i < a.len() {
         if a[i] != b[i] {
-            return false;
+            same = false;
         }
         i += 1;
     }
-    true
+    same
 }

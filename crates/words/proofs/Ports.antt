@@ -6,13 +6,12 @@ use mathlib.Core.List.{List}
 use mathlib.Core.Logic.{_⊎_, inl, inr}
 use Prim.Native.Nat.{ℕ, zero, suc, _+_, _*_, _<_}
 use native.Mathlib.Omega.{arith}
-use native.Mathlib.Nat.{add-zero}
-use lib.ListN.{length, getD, drop, replicate, length-map}
-use lib.Seq.{length-take-le, getD-take, getD-drop}
+use lib.ListN.{length, getD, replicate, length-map}
+use lib.Seq.{length-take-le, getD-take}
 use Rattle.srp.specs.Credit.{closedPort}
 use Rattle.words.specs.declared.Slot.{Slot}
 use Rattle.words.specs.View.{slotOf, SlotFits, region, slots, noSlot, headOf, HeadFits, opens, openOf, shown, view, closedWords, InRanges}
-use Rattle.words.proofs.Slots.{slots-long, slot-at}
+use Rattle.words.proofs.Slots.{slots-long, slot-at, slot-tag}
 
 -- ── ranges
 
@@ -47,11 +46,7 @@ opens-long l = length-take-le (headOf l .held) (slots l) (omega (arith, slots-lo
 
 -- the tag of an open command is its slot's first word
 pub tag-at : (l : List ℕ) (i : ℕ) → i < headOf l .held → getD (opens l) i noSlot .tag ≡ getD l (24 * i + 16) 0
-tag-at l i h =
-    ap (λ (c : Slot). c .tag) (getD-take (headOf l .held) (slots l) i noSlot h ∙ slot-at l i (omega arith))
-    ∙ getD-take 24 (drop (24 * i + 16) l) 0 0 (omega arith)
-    ∙ getD-drop (24 * i + 16) l 0 0
-    ∙ ap (λ (k : ℕ). getD l k 0) (add-zero (24 * i + 16))
+tag-at l i h = ap (λ (c : Slot). c .tag) (getD-take (headOf l .held) (slots l) i noSlot h) ∙ slot-tag l i (omega arith)
 
 -- ── open and closed
 

@@ -2,13 +2,13 @@
 -- Assumes nothing.
 use mathlib.Core.Path.{_≡_, refl, sym, _∙_, ap}
 use mathlib.Core.Bool.{Bool, true, false}
-use mathlib.Core.List.{List, [], _++_, append-assoc, append-nil}
+use mathlib.Core.List.{List, [], _∷_, _++_, append-assoc, append-nil}
 use mathlib.Core.Logic.{_⊎_, inl, inr, ⊎-elim}
 use Prim.Native.Nat.{ℕ, zero, suc, min, _+_, _-_, _*_, _/_, _%_, _^_, _≤_, _<_}
 use native.Mathlib.Omega.{arith}
 use native.Mathlib.Nat.{add-zero, zero-add, mod-eq-of-lt}
 use lib.ListN.{length, getD, take, drop, set, replicate, take-append-drop, drop-of-length-le}
-use lib.Seq.{paste, drop-paste, drop-drop, drop-at, take-at, length-take-le, take-length, getD-take}
+use lib.Seq.{paste, drop-paste, drop-cons, drop-drop, drop-at, take-at, length-take-le, take-length, getD-take, getD-drop}
 use mir.Val.{Val}
 use denote.Laws.{Is}
 use Rattle.srp.specs.Bytes.{bit}
@@ -36,10 +36,15 @@ module _ {A : Type 0} where
         let e : pos + n + (at - (pos + n)) ≡ at = omega arith in
         ap (take k) (rw e at (sym (drop-drop (at - (pos + n)) (pos + n) (paste d pos s n)) ∙ ap (drop (at - (pos + n))) (drop-paste d pos s n (omega arith) fits) ∙ drop-drop (at - (pos + n)) (pos + n) d)))
 
-  -- what is written is there
-  pub written : (d : List A) (pos : ℕ) (s : List A) → pos + length s ≤ length d → take (length s) (drop pos (paste d pos s (length s))) ≡ s
-  written d pos s h =
-      rw (append-assoc, drop-at (take pos d) (take (length s) s ++ drop (pos + length s) d) pos (length-take-le pos d (omega arith)), take-length s, take-at s (drop (pos + length s) d) (length s) refl) refl
+  module _ (d : List A) (pos : ℕ) (s : List A) (h : pos + length s ≤ length d) where
+    -- from where it is written on, a list is what is written and what was behind it
+    pub from-written : drop pos (paste d pos s (length s)) ≡ s ++ drop (pos + length s) d
+    from-written =
+        rw (append-assoc, drop-at (take pos d) (take (length s) s ++ drop (pos + length s) d) pos (length-take-le pos d (omega arith)), take-length s) refl
+
+    -- what is written is there
+    pub written : take (length s) (drop pos (paste d pos s (length s))) ≡ s
+    written = rw from-written (take-at s (drop (pos + length s) d) (length s) refl)
 
 -- ── the slots as a list
 
@@ -53,6 +58,18 @@ slots-at (suc n) i l (suc j) h = let e : i + 1 + j ≡ i + suc j = omega arith i
 -- each of the 16 slots is what its words say
 pub slot-at : (l : List ℕ) (i : ℕ) → i < 16 → getD (slots l) i noSlot ≡ slotOf (region l i)
 slot-at l i h = rw zero-add at (slots-at 16 0 l i h)
+
+-- a slot's words stand from its start on
+pub word-at : (l : List ℕ) (i k : ℕ) → k < 24 → getD (region l i) k 0 ≡ getD l (24 * i + 16 + k) 0
+word-at l i k h = getD-take 24 (drop (24 * i + 16) l) k 0 h ∙ getD-drop (24 * i + 16) l k 0
+
+-- the first two are the command's tag and LUN
+pub slot-tag : (l : List ℕ) (i : ℕ) → i < 16 → getD (slots l) i noSlot .tag ≡ getD l (24 * i + 16) 0
+slot-tag l i h =
+    ap (λ (c : Slot). c .tag) (slot-at l i h) ∙ word-at l i 0 (omega arith) ∙ ap (λ (k : ℕ). getD l k 0) (add-zero (24 * i + 16))
+
+pub slot-lun : (l : List ℕ) (i : ℕ) → i < 16 → getD (slots l) i noSlot .lun ≡ getD l (24 * i + 16 + 1) 0
+slot-lun l i h = ap (λ (c : Slot). c .lun) (slot-at l i h) ∙ word-at l i 1 (omega arith)
 
 -- there are as many slots as are asked for
 pub slots-long : (n i : ℕ) (l : List ℕ) → length (slotsFrom n i l) ≡ n
@@ -76,15 +93,42 @@ slots-set (suc n) i l l′ (suc k) c h e r =
     let x : i + suc k ≡ i + 1 + k = omega arith in
     rw (r i (λ q. omega arith), slots-set n (i + 1) l l′ k c (omega arith) (rw x at e) (λ j ne. r j (λ q. ne (q ∙ x)))) refl
 
+-- ── the first words of a list
+
+-- n words from word k on
+unfoldable pub wordsAt : ℕ → ℕ → List ℕ → List ℕ
+wordsAt zero k l = []
+wordsAt (suc n) k l = getD l k 0 ∷ wordsAt n (suc k) l
+
+-- a list from word k on is n words and those behind them
+pub spread : (n k : ℕ) (l : List ℕ) → k + n ≤ length l → drop k l ≡ wordsAt n k l ++ drop (k + n) l
+unfolding wordsAt
+spread zero k l h = rw add-zero refl
+spread (suc n) k l h =
+    let e : suc k + n ≡ k + suc n = omega arith in
+    drop-cons l k 0 (omega arith) ∙ ap (λ (r : List ℕ). getD l k 0 ∷ r) (rw e at (spread n (suc k) l (omega arith)))
+
+-- the first m words of a list have the same
+pub words-front : (n k m : ℕ) (l : List ℕ) → k + n ≤ m → wordsAt n k (take m l) ≡ wordsAt n k l
+unfolding wordsAt
+words-front zero k m l h = refl
+words-front (suc n) k m l h = rw (getD-take m l k 0 (omega arith), words-front n (suc k) m l (omega arith)) refl
+
+-- lists that agree in their first 16 words say the same head
+pub head-same : (l l′ : List ℕ) → take 16 l′ ≡ take 16 l → headOf l′ ≡ headOf l
+unfolding wordsAt
+head-same l l′ e = ap headOf (sym (words-front 10 0 16 l′ (omega arith)) ∙ ap (wordsAt 10 0) e ∙ words-front 10 0 16 l (omega arith))
+
 -- ── what is written says what was meant
 
-on-bit : (b : Bool) → on (bit b) ≡ b
+-- a bit that is written is read
+pub on-bit : (b : Bool) → on (bit b) ≡ b
 on-bit true = refl
 on-bit false = refl
 
--- a slot's words say the slot
-pub decoded : (c : Slot) (vs : List Val) → Is the-row c vs → SlotFits c → slotOf (wordsOf c) ≡ c
-decoded c vs g F =
+-- a slot's words say the slot, whatever stands behind them
+decoded : (c : Slot) (vs : List Val) → Is the-row c vs → SlotFits c → (rest : List ℕ) → slotOf (take 24 (wordsOf c ++ rest)) ≡ c
+decoded c vs g F rest =
     let o = g .1 .1 .1 .1 .1 .1 .1 .1 .0 in
     let n = g .1 .1 .1 .1 .1 .1 .1 .1 .1 .0 in
     let o0 : min (c .out .segments) 32 ≡ c .out .segments = omega (arith, F .out) in
@@ -122,32 +166,32 @@ either zero (suc k) ne = inl (omega arith)
 either (suc j) zero ne = inr (omega arith)
 either (suc j) (suc k) ne = ⊎-elim (λ h. inl (omega arith)) (λ h. inr (omega arith)) (either j k (λ e. ne (ap suc e)))
 
-module _ (l : List ℕ) (long : length l ≡ 400) (i : ℕ) (h : i < 16) (ws : List ℕ) (wl : length ws ≡ 24) where
-  abbrev after : List ℕ
-  after = paste l (24 * i + 16) ws (length ws)
+-- the words l′ are l but for slot i, whose words are r
+pub record OnlySlot (l l′ : List ℕ) (i : ℕ) (r : List ℕ) : Type 0 where
+  pub this : region l′ i ≡ r
+  pub others : (j : ℕ) → (j ≡ i → ⊥) → region l′ j ≡ region l j
+  pub head : headOf l′ ≡ headOf l
 
-  other : (j : ℕ) → (j ≡ i → ⊥) → region after j ≡ region l j
-  other j ne =
-      apart l (24 * i + 16) ws (length ws) (omega arith) (omega arith) (24 * j + 16) 24 (⊎-elim (λ q. inl (omega arith)) (λ q. inr (omega arith)) (either j i ne))
+-- that slot is another, the other slots and the head stay
+pub put-slot : {l l′ : List ℕ} {i : ℕ} {r : List ℕ} → OnlySlot l l′ i r → i < 16 → {c : Slot} → slotOf r ≡ c → (slots l′ ≡ set (slots l) i c) × (headOf l′ ≡ headOf l)
+put-slot {l} {l′} {i} O h {c} e =
+    (slots-set 16 0 l l′ i c h (rw zero-add (ap slotOf (O .this) ∙ e)) (λ j ne. O .others j (λ q. ne (q ∙ sym (zero-add i)))), O .head)
 
-  this : region after i ≡ ws
-  this = ap (λ (k : ℕ). take k (drop (24 * i + 16) after)) (sym wl) ∙ written l (24 * i + 16) ws (omega arith)
+-- up to 24 words written from a slot's start on
+slot-put : (l : List ℕ) → length l ≡ 400 → (i : ℕ) → i < 16 → (ws : List ℕ) → length ws ≤ 24
+    → OnlySlot l (paste l (24 * i + 16) ws (length ws)) i (take 24 (ws ++ drop (24 * i + 16 + length ws) l))
+slot-put l long i h ws wl =
+    let stays = apart l (24 * i + 16) ws (length ws) (omega arith) (omega arith) in
+    record {
+      this = ap (take 24) (from-written l (24 * i + 16) ws (omega arith));
+      others = λ j ne. stays (24 * j + 16) 24 (⊎-elim (λ q. inl (omega arith)) (λ q. inr (omega arith)) (either j i ne));
+      head = head-same l (paste l (24 * i + 16) ws (length ws)) (stays 0 16 (inl (omega arith)));
+    }
 
-  -- the slot is another, the others stay
-  pub saved-slots : (c : Slot) → slotOf ws ≡ c → slots after ≡ set (slots l) i c
-  saved-slots c e = slots-set 16 0 l after i c h (rw zero-add (ap slotOf this ∙ e)) (λ j ne. other j (λ q. ne (q ∙ sym (zero-add i))))
-
-  saved-head : (k : ℕ) → k < 16 → getD after k 0 ≡ getD l k 0
-  saved-head k q =
-      let e : take 16 (drop 0 after) ≡ take 16 (drop 0 l) = apart l (24 * i + 16) ws (length ws) (omega arith) (omega arith) 0 16 (inl (omega arith)) in
-      sym (getD-take 16 after k 0 q) ∙ ap (λ (x : List ℕ). getD x k 0) e ∙ getD-take 16 l k 0 q
-
-  -- the head stays
-  pub same-head : headOf after ≡ headOf l
-  same-head =
-      rw
-      (saved-head 0 (omega arith), saved-head 1 (omega arith), saved-head 2 (omega arith), saved-head 3 (omega arith), saved-head 4 (omega arith), saved-head 5 (omega arith), saved-head 6 (omega arith), saved-head 7 (omega arith), saved-head 8 (omega arith), saved-head 9 (omega arith))
-      refl
+-- the words of a command written there: the slot has the command
+pub saved : (l : List ℕ) → length l ≡ 400 → (i : ℕ) → i < 16 → (c : Slot) (vs : List Val) → Is the-row c vs → SlotFits c
+    → (slots (paste l (24 * i + 16) (wordsOf c) 14) ≡ set (slots l) i c) × (headOf (paste l (24 * i + 16) (wordsOf c) 14) ≡ headOf l)
+saved l long i h c vs g F = put-slot (slot-put l long i h (wordsOf c) (omega arith)) h (decoded c vs g F (drop (24 * i + 16 + 14) l))
 
 -- ── words written 0
 

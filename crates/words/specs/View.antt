@@ -5,10 +5,12 @@ use mathlib.Core.Bool.{Bool, true, false, cond}
 use mathlib.Core.List.{List, [], _∷_, map}
 use Prim.Native.Nat.{ℕ, zero, suc, min, _+_, _-_, _*_, _/_, _≤_, _<_, _%_, _^_}
 use lib.Dec.{eqb}
-use lib.ListN.{length, take, drop, getD, replicate}
+use lib.ListN.{length, take, drop, getD, set, replicate}
 use Rattle.srp.specs.Limits.{mostBuffers, largestPiece, shortestAgreed, longestAgreed, mostCopies}
 use Rattle.srp.specs.Bytes.{bit}
 use Rattle.srp.specs.Descriptors.{segmentsOf}
+use Rattle.srp.specs.declared.Direction.{Direction}
+use Rattle.srp.specs.declared.Direction.the-variants.{Out, In}
 use Rattle.srp.specs.Credit.{Side, Open, Port, closedPort}
 use Rattle.words.specs.declared.Part.{Part}
 use Rattle.words.specs.declared.Slot.{Slot}
@@ -63,13 +65,12 @@ slotOf r =
       inn = partOf r 10;
     }
 
--- the words of a slot
+-- the words of a slot that are used
 abbrev pub wordsOf : Slot → List ℕ
 wordsOf c =
     c .tag ∷ c .lun ∷ bit (c .ucsolnt) ∷ bit (c .scsolnt) ∷ bit (c .planned) ∷ c .place
     ∷ c .out .segments ∷ c .out .total ∷ c .out .required ∷ c .out .handed
-    ∷ c .inn .segments ∷ c .inn .total ∷ c .inn .required ∷ c .inn .handed
-    ∷ replicate 10 0
+    ∷ c .inn .segments ∷ c .inn .total ∷ c .inn .required ∷ c .inn .handed ∷ []
 
 -- a slot that its words can hold
 pub record SlotFits (c : Slot) : Type 0 where
@@ -97,6 +98,40 @@ noSlot = record { tag = 0; lun = 0; ucsolnt = false; scsolnt = false; planned = 
 pub record SlotIs (l : List ℕ) (i : ℕ) (c : Slot) : Type 0 where
   pub whole : c ≡ getD (slots l) i noSlot
   pub fits : SlotFits c
+
+-- ── a plan stated, bytes handed out
+
+-- a slot with another state of its plan and its directions
+abbrev pub withParts : Slot → Bool → Part → Part → Slot
+withParts c planned out inn =
+    record {
+      tag = c .tag;
+      lun = c .lun;
+      ucsolnt = c .ucsolnt;
+      scsolnt = c .scsolnt;
+      planned = planned;
+      place = c .place;
+      out = out;
+      inn = inn;
+    }
+
+abbrev pub requiringOf : ℕ → Part → Part
+requiringOf r p = record { segments = p .segments; total = p .total; required = r; handed = p .handed }
+
+abbrev pub plannedSlot : ℕ → ℕ → Slot → Slot
+plannedSlot out inn c = withParts c true (requiringOf out (c .out)) (requiringOf inn (c .inn))
+
+-- the word of a slot that says how many bytes of a direction are handed out
+abbrev pub handedAt : Direction → ℕ
+handedAt Out = 9
+handedAt In = 13
+
+abbrev pub handingOf : ℕ → Part → Part
+handingOf n p = record { segments = p .segments; total = p .total; required = p .required; handed = n }
+
+abbrev pub handedSlot : Direction → ℕ → Slot → Slot
+handedSlot Out n c = withParts c (c .planned) (handingOf n (c .out)) (c .inn)
+handedSlot In n c = withParts c (c .planned) (c .out) (handingOf n (c .inn))
 
 -- ── the head
 
@@ -145,6 +180,18 @@ pub record HeadIs (l : List ℕ) (h : Head) : Type 0 where
   pub wanted : h .wanted ≡ headOf l .wanted
   pub announced : h .announced ≡ headOf l .announced
 
+-- ── changes of the words
+
+-- slot i is changed by f, the other slots and the head stay
+pub record SlotChanged (l l′ : List ℕ) (i : ℕ) (f : Slot → Slot) : Type 0 where
+  pub slots : slots l′ ≡ set (slots l) i (f (getD (slots l) i noSlot))
+  pub head : headOf l′ ≡ headOf l
+
+-- slot i has what slot k has, the other slots and the head stay
+pub record SlotMoved (l l′ : List ℕ) (k i : ℕ) : Type 0 where
+  pub slots : slots l′ ≡ set (slots l) i (getD (slots l) k noSlot)
+  pub head : headOf l′ ≡ headOf l
+
 -- the head h with other counts
 abbrev pub countedOf : Head → ℕ → ℕ → ℕ → Bool → Head
 countedOf h n w a u =
@@ -161,15 +208,11 @@ countedOf h n w a u =
       losolnt = h .losolnt;
     }
 
--- r is it, with what a caller's arithmetic wants of it
-pub record CountedIs (h : Head) (n w a : ℕ) (u : Bool) (r : Head) : Type 0 where
-  pub whole : r ≡ countedOf h n w a u
-  pub held : r .held ≡ n
-  pub wanted : r .wanted ≡ w
-  pub announced : r .announced ≡ a
-  pub maximum : r .maximum ≡ h .maximum
-  pub agreed : r .agreed ≡ h .agreed
-  pub formats : r .formats ≡ h .formats
+-- counts that the head's words can hold
+pub record CountsFit (n w a : ℕ) : Type 0 where
+  pub least : 1 ≤ w
+  pub most : w ≤ mostBuffers
+  pub room : a + n ≤ mostBuffers
 
 -- ── the port
 

@@ -1,19 +1,45 @@
-// A port in lent words: a head of 16 words, then 16 slots of 24 words. The open commands are the first slots, oldest first.
-// Any words are a port: each number is read into its range, so that no caller owes anything but 400 words. The words left over in the
-// head and in a slot are written 0.
+// A port in lent words: a head of 16 words, of which 10 are used, then 16 slots of 24 words, of which 14 are used. The open commands are the
+// first slots, oldest first.
+// Any words are a port: each number is read into its range, so that no caller owes anything but 400 words. The words left over are cleared
+// by a login and not read.
+use srp::Direction;
 use srp::limits;
 ghost use mathlib.Core.Path.{_≡_};
 ghost use mathlib.Core.Bool.{Bool};
 ghost use Prim.Native.Nat.{ℕ, min, _+_, _≤_, _<_};
-ghost use lib.ListN.{length, getD, set};
+ghost use lib.ListN.{length, set};
 ghost use lib.Seq.{paste};
-ghost use Rattle.words.specs.View.{portWords, slotWords, slotOf, wordsOf, headOf, headWords, slots, noSlot, HeadIs, HeadFits, SlotIs, SlotFits, closedWords, CountedIs};
+ghost use Rattle.words.specs.View.{portWords, slotWords, slotOf, wordsOf, headOf, headWords, slots, HeadIs, HeadFits, SlotIs, SlotFits, closedWords, CountsFit, countedOf, SlotChanged, SlotMoved, plannedSlot, handedAt, handedSlot};
 
-// Words of a port's head and of a slot; bytes of a place in the store and of one direction there.
+// Words of a port's head and of a slot.
 pub const HEAD: usize = 16;
 
 pub const SLOT: usize = 24;
 
+// Words of a slot that are used.
+const USED: usize = 14;
+
+// Words of the head: H, W, A, and whether a credit request is unanswered.
+const HELD: usize = 1;
+
+const WANTED: usize = 2;
+
+const ANNOUNCED: usize = 3;
+
+const UNANSWERED: usize = 4;
+
+// Words of a slot: whether a plan was stated, and the four of each direction, of which the third is R and the fourth the bytes handed out.
+const PLANNED: usize = 4;
+
+const OUT: usize = 6;
+
+const IN: usize = 10;
+
+const REQUIRED: usize = 2;
+
+const HANDED: usize = 3;
+
+// Bytes of a place in the store and of one direction there.
 pub const PLACE: usize = 1024;
 
 pub const LIST: usize = 512;
@@ -82,8 +108,8 @@ fn part_of(r: &[u64], at: usize) -> Part
     Part {
         segments: segments as u8,
         total: (r[at + 1] % NUMBERS) as u32,
-        required: (r[at + 2] % NUMBERS) as u32,
-        handed: (r[at + 3] % NUMBERS) as u32,
+        required: (r[at + REQUIRED] % NUMBERS) as u32,
+        handed: (r[at + HANDED] % NUMBERS) as u32,
     }
 }
 
@@ -92,21 +118,21 @@ fn slot_of(r: &[u64]) -> Slot
     requires { ⌜ length (now r) ≡ 24 ⌝ }
     ensures { λ c. ⌜ c ≡ slotOf (now (r .entry)) ⌝ }
 {
-    let out = part_of(r, 6);
-    let inn = part_of(r, 10);
+    let out = part_of(r, OUT);
+    let inn = part_of(r, IN);
     Slot {
         tag: r[0],
         lun: r[1],
         ucsolnt: r[2] % 2 == 1,
         scsolnt: r[3] % 2 == 1,
-        planned: r[4] % 2 == 1,
+        planned: r[PLANNED] % 2 == 1,
         place: (r[5] % PLACES) as u8,
         out: out,
         inn: inn,
     }
 }
 
-fn words_of(c: Slot) -> [u64; 24]
+fn words_of(c: Slot) -> [u64; 14]
     ensures { λ r. ⌜ r ≡ wordsOf c ⌝ }
 {
     let out = c.out;
@@ -126,21 +152,11 @@ fn words_of(c: Slot) -> [u64; 24]
         inn.total as u64,
         inn.required as u64,
         inn.handed as u64,
-        0,
-        0,
-        0,
-        0,
-        0,
-        0,
-        0,
-        0,
-        0,
-        0,
     ]
 }
 
 // Words written into a slice from a place on.
-fn put_words(to: &mut [u64], at: usize, from: &[u64])
+pub fn put_words(to: &mut [u64], at: usize, from: &[u64])
     requires { ⌜ at + length (now from) ≤ length (now to) ⌝ }
     ensures { λ _. ⌜ now (to .exit) ≡ paste (now (to .entry)) at (now (from .entry)) (length (now (from .entry))) ⌝ }
 {
@@ -171,18 +187,66 @@ pub fn save(s: &mut [u64], i: usize, c: Slot)
     put_words(s, SLOT * i + HEAD, &w);
 }
 
+// The command in slot `from` put into slot `to` before it.
+pub fn move_slot(s: &mut [u64], from: usize, to: usize)
+    requires { ⌜ length (now s) ≡ portWords ⌝ }
+    requires { ⌜ from < 16 ⌝ }
+    requires { ⌜ to < from ⌝ }
+    ensures { λ _. ⌜ SlotMoved (now (s .entry)) (now (s .exit)) from to ⌝ }
+{
+    let source = SLOT * from + HEAD;
+    let target = SLOT * to + HEAD;
+    let mut j: usize = 0;
+    while j < USED {
+        s[target + j] = s[source + j];
+        j += 1;
+    }
+}
+
+// The command in slot i states what it requires each way.
+pub fn set_plan(s: &mut [u64], i: usize, out: u32, inn: u32)
+    requires { ⌜ length (now s) ≡ portWords ⌝ }
+    requires { ⌜ i < 16 ⌝ }
+    ensures { λ _. ⌜ SlotChanged (now (s .entry)) (now (s .exit)) i (plannedSlot out inn) ⌝ }
+{
+    let at = SLOT * i + HEAD;
+    s[at + PLANNED] = 1;
+    s[at + (OUT + REQUIRED)] = out as u64;
+    s[at + (IN + REQUIRED)] = inn as u64;
+}
+
+// The word of a slot that says how many bytes of a direction are handed out.
+fn handed_at(d: Direction) -> usize
+    ensures { λ r. ⌜ (r ≡ handedAt d) × (r < slotWords) ⌝ }
+{
+    match d {
+        Direction::Out => OUT + HANDED,
+        Direction::In => IN + HANDED,
+    }
+}
+
+// So many bytes of a direction of the command in slot i are handed out.
+pub fn set_handed(s: &mut [u64], i: usize, d: Direction, handed: u32)
+    requires { ⌜ length (now s) ≡ portWords ⌝ }
+    requires { ⌜ i < 16 ⌝ }
+    ensures { λ _. ⌜ SlotChanged (now (s .entry)) (now (s .exit)) i (handedSlot d handed) ⌝ }
+{
+    let k = handed_at(d);
+    s[SLOT * i + HEAD + k] = handed as u64;
+}
+
 pub fn get_head(s: &[u64]) -> Head
     requires { ⌜ length (now s) ≡ portWords ⌝ }
     ensures { λ h. ⌜ HeadIs (now (s .entry)) h ⌝ }
 {
-    let held = cap(s[1], MOST_BUFFERS);
-    let announced = cap(s[3], MOST_BUFFERS - held);
+    let held = cap(s[HELD], MOST_BUFFERS);
+    let announced = cap(s[ANNOUNCED], MOST_BUFFERS - held);
     Head {
         live: s[0] % 2 == 1,
         held: held as usize,
-        wanted: (s[2] % MOST_BUFFERS + 1) as u8,
+        wanted: (s[WANTED] % MOST_BUFFERS + 1) as u8,
         announced: announced as u8,
-        unanswered: s[4] % 2 == 1,
+        unanswered: s[UNANSWERED] % 2 == 1,
         maximum: (s[5] % LARGEST_PIECE + 1) as u32,
         agreed: (s[6] % AGREED_LENGTHS + SHORTEST_AGREED) as u32,
         formats: (s[7] % 4 * 2) as u32,
@@ -224,22 +288,16 @@ pub fn set_head(s: &mut [u64], h: Head)
     put_words(s, 0, &w);
 }
 
-// The head with other counts.
-pub fn counted(h: Head, held: usize, wanted: u8, announced: u8, unanswered: bool) -> Head
-    ensures { λ r. ⌜ CountedIs h held wanted announced unanswered r ⌝ }
+// Other counts in the head: H, W, A, and whether a credit request is unanswered.
+pub fn set_counts(s: &mut [u64], held: usize, wanted: u8, announced: u8, unanswered: bool)
+    requires { ⌜ length (now s) ≡ portWords ⌝ }
+    requires { ⌜ CountsFit held wanted announced ⌝ }
+    ensures { λ _. ⌜ (slots (now (s .exit)) ≡ slots (now (s .entry))) × (headOf (now (s .exit)) ≡ countedOf (headOf (now (s .entry))) held wanted announced unanswered) ⌝ }
 {
-    Head {
-        live: h.live,
-        held: held,
-        wanted: wanted,
-        announced: announced,
-        unanswered: unanswered,
-        maximum: h.maximum,
-        agreed: h.agreed,
-        formats: h.formats,
-        crsolnt: h.crsolnt,
-        losolnt: h.losolnt,
-    }
+    s[HELD] = held as u64;
+    s[WANTED] = (wanted - 1) as u64;
+    s[ANNOUNCED] = announced as u64;
+    s[UNANSWERED] = unanswered as u64;
 }
 
 // The closed port: every word 0.

@@ -1,64 +1,46 @@
--- `command::look_command` meets its contract. Each return is the law of the check that hits there; the last leaves the checks of a command.
+-- `command::look_command` meets its contract. By what the shape was read as.
 -- Assumes nothing.
-use mathlib.Core.Path.{_∙_}
-use Rattle.command.proofs.Refusing.{low-length, high-length, bit-zero, high-bits, message-short, message-long, other-type, is-command}
 use borrow.Author.Needs.{needs}
+use mathlib.Core.Path.{sym, ap, _∙_}
+use Rattle.srp.specs.Refusals.{firstOf}
+use Rattle.srp.specs.Requests.{commandOf, lookChecks}
+use Rattle.command.specs.Reading.{decodedBy}
+use Rattle.command.specs.declared.Decoded.the-variants.{Read}
+use Rattle.command.proofs.Refusing.{when-unfit, when-fit, fits-shape}
 use Rattle.command.proofs.look_command.Statement.{statement}
 use Rattle.command.proofs.look_command.Tie as tie
 
+look-shape-requires : tie.Need-look-shape-requires
+look-shape-requires c κs = search needs
+
+enum-known-refusal : tie.Need-enum-known-refusal
+enum-known-refusal c = search needs
+
+enum-known-shape : tie.Need-enum-known-shape
+enum-known-shape c = search needs
+
+command-of-requires : tie.Need-command-of-requires
+command-of-requires c κs =
+    let s = c .before .before .before .before .before .args .msg .now in
+    (when-fit (firstOf (lookChecks (c .before .before .before .before .before .args .agreed) (c .before .before .before .before .before .args .formats) s)) (commandOf s) (sym (c .before .before .before .look-shape .ensures .0) ∙ c .before .shape .given .1) .0, fits-shape (c .before .shape .given .1) (c .before .before .before .look-shape .ensures .1))
+
 returns : tie.Need-returns
 returns c =
-    (low-length (c .before .before .args .agreed) (c .before .before .args .formats) (c .before .before .args .msg .now) (c .if1 .taken), tt)
+    let s = c .before .before .before .before .before .args .msg .now in
+    (when-unfit (decodedBy (firstOf (lookChecks (c .before .before .before .before .before .args .agreed) (c .before .before .before .before .before .args .formats) s)) (commandOf s)) (sym (c .before .before .before .look-shape .ensures .0) ∙ c .before .refusal .given .1), tt)
 
 returns-2 : tie.Need-returns-2
 returns-2 c =
-    (high-length (c .before .before .before .args .agreed) (c .before .before .before .args .formats) (c .before .before .before .args .msg .now) (c .before .if1 .left) (c .if2 .taken), tt)
-
-returns-3 : tie.Need-returns-3
-returns-3 c =
-    (bit-zero (c .before .before .before .before .args .agreed) (c .before .before .before .before .args .formats) (c .before .before .before .before .args .msg .now) (c .before .before .if1 .left) (c .before .if2 .left) (c .if3 .taken), tt)
-
-add-if4 : tie.Need-add-if4
-add-if4 c = search needs
-
-returns-4 : tie.Need-returns-4
-returns-4 c =
-    (high-bits (c .before .before .before .before .before .args .agreed) (c .before .before .before .before .before .args .formats) (c .before .before .before .before .before .args .msg .now) (c .before .before .before .if1 .left) (c .before .before .if2 .left) (c .before .if3 .left) (c .if4 .taken), tt)
-
-returns-5 : tie.Need-returns-5
-returns-5 c =
-    (message-short (c .before .before .before .before .before .before .args .agreed) (c .before .before .before .before .before .before .args .formats) (c .before .before .before .before .before .before .args .msg .now) (c .before .before .before .before .if1 .left) (c .before .before .before .if2 .left) (c .before .before .if3 .left) (c .before .if4 .left) (c .if5 .taken), tt)
-
-returns-6 : tie.Need-returns-6
-returns-6 c =
-    (message-long (c .before .before .before .before .before .before .before .args .agreed) (c .before .before .before .before .before .before .before .args .formats) (c .before .before .before .before .before .before .before .args .msg .now) (c .before .before .before .before .before .if1 .left) (c .before .before .before .before .if2 .left) (c .before .before .before .if3 .left) (c .before .before .if4 .left) (c .before .if5 .left) (c .if6 .taken), tt)
-
-read8-requires : tie.Need-read8-requires
-read8-requires c κs = search needs
-
-returns-7 : tie.Need-returns-7
-returns-7 c =
-    (other-type (c .before .before .before .before .before .before .before .before .before .args .agreed) (c .before .before .before .before .before .before .before .before .before .args .formats) (c .before .before .before .before .before .before .before .before .before .args .msg .now) (c .before .before .before .before .before .before .before .if1 .left) (c .before .before .before .before .before .before .if2 .left) (c .before .before .before .before .before .if3 .left) (c .before .before .before .before .if4 .left) (c .before .before .before .if5 .left) (c .before .before .if6 .left) (c .before .read8 .ensures) (c .if7 .taken), tt)
-
-read-command-requires : tie.Need-read-command-requires
-read-command-requires c κs = search needs
-
-returns-8 : tie.Need-returns-8
-returns-8 c =
-    (c .read-command .ensures .0 ∙ is-command (c .before .before .before .before .before .before .before .before .before .before .args .agreed) (c .before .before .before .before .before .before .before .before .before .before .args .formats) (c .before .before .before .before .before .before .before .before .before .before .args .msg .now) (c .before .before .before .before .before .before .before .before .if1 .left) (c .before .before .before .before .before .before .before .if2 .left) (c .before .before .before .before .before .before .if3 .left) (c .before .before .before .before .before .if4 .left) (c .before .before .before .before .if5 .left) (c .before .before .before .if6 .left) (c .before .before .read8 .ensures) (c .before .if7 .left), c .read-command .ensures .1)
+    let s = c .before .before .before .before .before .before .args .msg .now in
+    (ap Read (c .command-of .ensures .0) ∙ when-fit (firstOf (lookChecks (c .before .before .before .before .before .before .args .agreed) (c .before .before .before .before .before .before .args .formats) s)) (commandOf s) (sym (c .before .before .before .before .look-shape .ensures .0) ∙ c .before .before .shape .given .1) .1, c .command-of .ensures .1)
 
 pub look-command-spec : {M : Type 1} → statement M
 look-command-spec =
     tie.close
     (tie.spec
+    look-shape-requires
+    enum-known-refusal
+    enum-known-shape
+    command-of-requires
     returns
-    returns-2
-    returns-3
-    add-if4
-    returns-4
-    returns-5
-    returns-6
-    read8-requires
-    returns-7
-    read-command-requires
-    returns-8)
+    returns-2)

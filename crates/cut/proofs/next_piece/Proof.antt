@@ -1,21 +1,25 @@
 -- `cut::next_piece` meets its contract. Assumes nothing.
 use borrow.Author.Needs.{needs}
-use Rattle.cut.proofs.Pieces.{Walking, start, here, on, end}
+use Rattle.cut.proofs.Pieces.{Walking, empty, start, here, on, end}
 use native.Mathlib.Omega.{arith}
 use Rattle.cut.proofs.next_piece.Statement.{statement}
 use Rattle.cut.proofs.next_piece.Tie as tie
 
 abbrev Inv-loop : tie.InvT-loop
-Inv-loop list most from to at₀ rest₀ offset₀ skip₀ left₀ at rest offset skip left =
-    Walking list most from to at rest offset skip left
+Inv-loop list most from to at₀ rest₀ skip₀ at rest skip =
+    Walking list most from to at rest skip
 
 abbrev μ-loop : tie.MeasureT-loop
-μ-loop list most from to at₀ rest₀ offset₀ skip₀ left₀ at rest offset skip left =
+μ-loop list most from to at₀ rest₀ skip₀ at rest skip =
     rest
+
+returns : tie.Need-returns Inv-loop μ-loop
+returns c =
+    let a = c .before .before .args in empty (a .list .now) (a .most) (a .from) (a .to) (c .if1 .taken)
 
 loop-holds : tie.Need-loop-holds Inv-loop μ-loop
 loop-holds c =
-    start (c .before .args .list .now) (c .before .args .most) (c .before .args .from) (c .before .args .to)
+    let a = c .before .before .args in start (a .list .now) (a .most) (a .from) (a .to) (omega arith)
 
 add-read32 : tie.Need-add-read32 Inv-loop μ-loop
 add-read32 c =
@@ -23,10 +27,6 @@ add-read32 c =
 
 read32-requires : tie.Need-read32-requires Inv-loop μ-loop
 read32-requires c κs =
-    search needs
-
-least-requires : tie.Need-least-requires Inv-loop μ-loop
-least-requires c κs =
     search needs
 
 add-read64 : tie.Need-add-read64 Inv-loop μ-loop
@@ -57,25 +57,21 @@ sub-least : tie.Need-sub-least Inv-loop μ-loop
 sub-least c =
     search needs
 
+sub-least-2 : tie.Need-sub-least-2 Inv-loop μ-loop
+sub-least-2 c =
+    search needs
+
+least-requires : tie.Need-least-requires Inv-loop μ-loop
+least-requires c κs =
+    search needs
+
 least-requires-2 : tie.Need-least-requires-2 Inv-loop μ-loop
 least-requires-2 c κs =
     search needs
 
-add-t22 : tie.Need-add-t22 Inv-loop μ-loop
-add-t22 c =
-    search needs
-
-returns : tie.Need-returns Inv-loop μ-loop
-returns c =
-    rw (c .before .before .wrapping-add-u64 .ensures) (here (c .before .before .before .before .before .before .before .before .loop .inv) (c .before .before .before .before .before .before .before .loop-test .taken) (c .before .before .before .before .before .before .read32 .ensures) (c .before .before .before .before .before .least .ensures) (c .before .before .before .before .if1 .taken) (c .before .before .before .read64 .ensures) (c .before .read322 .ensures) (c .least2 .ensures))
-
-add-offset : tie.Need-add-offset Inv-loop μ-loop
-add-offset c =
-    search needs
-
-sub-left : tie.Need-sub-left Inv-loop μ-loop
-sub-left c =
-    search needs
+returns-2 : tie.Need-returns-2 Inv-loop μ-loop
+returns-2 c =
+    rw (c .before .before .before .wrapping-add-u64 .ensures) (here (c .before .before .before .before .before .before .before .before .loop .inv) (c .before .before .before .before .before .before .before .loop-test .taken) (c .before .before .before .before .before .before .read32 .ensures) (c .before .before .before .before .before .if2 .taken) (c .before .before .before .before .read64 .ensures) (c .before .before .read322 .ensures) (c .before .least .ensures) (c .least2 .ensures))
 
 add-at : tie.Need-add-at Inv-loop μ-loop
 add-at c =
@@ -91,10 +87,10 @@ loop-less c =
 
 loop-again : tie.Need-loop-again Inv-loop μ-loop
 loop-again c =
-    on (c .before .before .before .before .loop .inv) (c .before .before .before .loop-test .taken) (c .before .before .read32 .ensures) (c .before .least .ensures) (omega arith)
+    on (c .before .before .before .loop .inv) (c .before .before .loop-test .taken) (c .before .read32 .ensures) (omega arith)
 
-returns-2 : tie.Need-returns-2 Inv-loop μ-loop
-returns-2 c =
+returns-3 : tie.Need-returns-3 Inv-loop μ-loop
+returns-3 c =
     end (c .before .loop .inv) (omega arith)
 
 pub next-piece-spec : {M : Type 1} → statement M
@@ -103,10 +99,10 @@ next-piece-spec =
     (tie.spec
     Inv-loop
     μ-loop
+    returns
     loop-holds
     add-read32
     read32-requires
-    least-requires
     add-read64
     read64-requires
     cast-wrapping-add-u64
@@ -114,13 +110,12 @@ next-piece-spec =
     add-read32-2
     read32-requires-2
     sub-least
+    sub-least-2
+    least-requires
     least-requires-2
-    add-t22
-    returns
-    add-offset
-    sub-left
+    returns-2
     add-at
     sub-rest
     loop-less
     loop-again
-    returns-2)
+    returns-3)

@@ -25,7 +25,10 @@ load-requires : tie.Need-load-requires
 load-requires c κs = search needs
 
 drop-commands-requires : tie.Need-drop-commands-requires
-drop-commands-requires c κs = search needs
+drop-commands-requires c κs =
+    let p = c .before .before .before .before .before .before .pre in
+    let F = p .1 .1 .0 in
+    (p .0, (omega (arith, F .inside), F .others))
 
 settle-requires : tie.Need-settle-requires
 settle-requires c κs = search needs

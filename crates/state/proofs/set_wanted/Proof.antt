@@ -1,7 +1,4 @@
 -- `state::set_wanted` meets its contract. Assumes nothing.
-use mathlib.Core.Path.{_∙_, ap}
-use Rattle.words.specs.declared.Head.{Head}
-use Rattle.words.specs.View.{countedOf}
 use Rattle.state.proofs.Altered.{wanted-altered}
 use borrow.Author.Needs.{needs}
 use Rattle.state.proofs.set_wanted.Statement.{statement}
@@ -10,20 +7,15 @@ use Rattle.state.proofs.set_wanted.Tie as tie
 get-head-requires : tie.Need-get-head-requires
 get-head-requires c κs = search needs
 
-counted-requires : tie.Need-counted-requires
-counted-requires c κs = search needs
-
-set-head-requires : tie.Need-set-head-requires
-set-head-requires c κs = search needs
+set-counts-requires : tie.Need-set-counts-requires
+set-counts-requires c κs = search needs
 
 same-length : tie.Need-same-length
 same-length c = search needs
 
 returns : tie.Need-returns
 returns c =
-    wanted-altered (c .before .before .before .before .before .before .before .before .args .s .now) (c .before .before .set-head .last .0) (c .before .before .set-head .ensures .0) (c .before .before .before .before .before .before .before .before .args .wanted)
-    (c .before .before .set-head .ensures .1 ∙ c .before .before .before .before .counted .ensures .whole ∙ ap (λ (h : Head). countedOf h (h .held) (c .before .before .before .before .before .before .before .before .args .wanted) (h .announced) (h .unanswered)) (c .before .before .before .before .before .get-head .ensures .whole))
+    wanted-altered (c .before .before .before .before .before .before .before .args .s .now) (c .before .before .set-counts .last .0) (c .before .before .set-counts .ensures .0) _ (c .before .before .before .before .get-head .ensures .whole) (c .before .before .before .before .before .before .before .args .wanted) (c .before .before .set-counts .ensures .1)
 
 pub set-wanted-spec : {M : Type 1} → statement M
-set-wanted-spec =
-    tie.close (tie.spec get-head-requires counted-requires set-head-requires same-length returns)
+set-wanted-spec = tie.close (tie.spec get-head-requires set-counts-requires same-length returns)

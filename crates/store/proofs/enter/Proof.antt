@@ -1,10 +1,7 @@
 -- `store::enter` meets its contract. Assumes nothing.
-use mathlib.Core.Path.{_∙_, ap}
-use Prim.Native.Nat.{_+_, _-_}
+use mathlib.Core.Path.{_∙_}
 use native.Mathlib.Omega.{arith}
-use Rattle.words.specs.declared.Head.{Head}
-use Rattle.words.specs.View.{countedOf}
-use Rattle.store.proofs.Lists.{slot-left, fresh-fits, counted-fits, entered}
+use Rattle.store.proofs.Lists.{slot-left, fresh-fits, counts-fit, entered}
 use borrow.Author.Needs.{needs}
 use Rattle.store.proofs.enter.Statement.{statement}
 use Rattle.store.proofs.enter.Tie as tie
@@ -48,38 +45,33 @@ save-requires c κs =
     let p = c .before .before .before .before .before .before .before .before .before .before .before .before .before .before .before .before .before .before .pre in
     (p .0, (slot-left (a .s .now) _ (c .before .before .before .before .before .before .before .before .before .before .before .before .get-head .ensures) (p .1 .1 .0), rw (c .before .fresh-slot .ensures) (fresh-fits (a .f) (c .before .before .before .before .before .before .before .before .before .before .free-place .result) (a .out .now) (a .inn .now) (c .before .before .before .before .before .before .before .before .before .before .free-place .ensures .small) (p .1 .1 .1 .0) (p .1 .1 .1 .1))))
 
-add-counted : tie.Need-add-counted
-add-counted c = search needs
+add-set-counts : tie.Need-add-set-counts
+add-set-counts c = search needs
 
-sub-counted : tie.Need-sub-counted
-sub-counted c =
-    omega (arith, (c .before .before .before .before .before .before .before .before .before .before .before .before .before .before .before .before .before .before .before .before .before .before .pre) .1 .1 .0, c .before .before .before .before .before .before .before .before .before .before .before .before .before .before .before .before .get-head .ensures .announced)
+sub-set-counts : tie.Need-sub-set-counts
+sub-set-counts c =
+    omega (arith, (c .before .before .before .before .before .before .before .before .before .before .before .before .before .before .before .before .before .before .before .before .before .before .before .pre) .1 .1 .0, c .before .before .before .before .before .before .before .before .before .before .before .before .before .before .before .before .before .get-head .ensures .announced)
 
-counted-requires : tie.Need-counted-requires
-counted-requires c κs = search needs
-
-set-head-requires : tie.Need-set-head-requires
-set-head-requires c κs =
-    (c .before .before .before .before .before .save .kept .0 ∙ (c .before .before .before .before .before .before .before .before .before .before .before .before .before .before .before .before .before .before .before .before .before .before .before .before .pre) .0, counted-fits (c .before .before .before .before .before .before .before .before .before .before .before .before .before .before .before .before .before .before .before .before .before .before .before .before .args .s .now) _ _ _ (c .before .before .before .before .before .before .before .before .before .before .before .before .before .before .before .before .before .before .get-head .ensures) ((c .before .before .before .before .before .before .before .before .before .before .before .before .before .before .before .before .before .before .before .before .before .before .before .before .pre) .1 .1 .0) (c .before .counted .ensures))
+set-counts-requires : tie.Need-set-counts-requires
+set-counts-requires c κs =
+    (c .before .before .before .before .save .kept .0 ∙ (c .before .before .before .before .before .before .before .before .before .before .before .before .before .before .before .before .before .before .before .before .before .before .before .pre) .0, counts-fit (c .before .before .before .before .before .before .before .before .before .before .before .before .before .before .before .before .before .before .before .before .before .before .before .args .s .now) _ (c .before .before .before .before .before .before .before .before .before .before .before .before .before .before .before .before .before .get-head .ensures) ((c .before .before .before .before .before .before .before .before .before .before .before .before .before .before .before .before .before .before .before .before .before .before .before .pre) .1 .1 .0))
 
 same-length : tie.Need-same-length
 same-length c = search needs
 
 same-length-2 : tie.Need-same-length-2
 same-length-2 c =
-    c .before .before .before .before .before .before .before .before .before .before .before .before .before .put-bytes2 .kept .0 ∙ c .before .before .before .before .before .before .before .before .before .before .before .before .before .before .before .before .before .put-bytes .kept .0
+    c .before .before .before .before .before .before .before .before .before .before .before .before .put-bytes2 .kept .0 ∙ c .before .before .before .before .before .before .before .before .before .before .before .before .before .before .before .before .put-bytes .kept .0
 
 returns : tie.Need-returns
 returns c =
-    let a = c .before .before .before .before .before .before .before .before .before .before .before .before .before .before .before .before .before .before .before .before .before .before .before .before .before .before .before .args in
-    let p = c .before .before .before .before .before .before .before .before .before .before .before .before .before .before .before .before .before .before .before .before .before .before .before .before .before .before .before .pre in
-    let g = c .before .before .before .before .before .before .before .before .before .before .before .before .before .before .before .before .before .before .before .before .before .get-head .ensures in
-    let k = c .before .before .before .before .before .before .before .before .before .before .before .before .before .before .before .before .before .before .before .free-place in
-    rw (c .before .before .before .before .before .before .before .before .before .before .before .before .before .put-bytes2 .ensures, c .before .before .before .before .before .before .before .before .before .before .before .before .before .before .before .before .before .put-bytes .ensures)
-    (entered (a .store .now) (a .out .now) (a .inn .now) (p .1 .0) (p .1 .1 .1 .0) (p .1 .1 .1 .1) (k .result) (k .ensures .small) (a .s .now) (k .ensures)
-    (omega (arith, g .held, slot-left (a .s .now) _ g (p .1 .1 .0))) (a .f) (c .before .before .set-head .last .0)
-    (c .before .before .set-head .ensures .0 ∙ rw (c .before .before .before .before .before .before .before .before .before .before .fresh-slot .ensures, g .held) at (c .before .before .before .before .before .before .before .before .save .ensures .0))
-    (c .before .before .set-head .ensures .1 ∙ c .before .before .before .before .counted .ensures .whole ∙ ap (λ (h : Head). countedOf h (h .held + 1) (h .wanted) (h .announced - 1) (h .unanswered)) (g .whole)))
+    let a = c .before .before .before .before .before .before .before .before .before .before .before .before .before .before .before .before .before .before .before .before .before .before .before .before .before .before .args in
+    let p = c .before .before .before .before .before .before .before .before .before .before .before .before .before .before .before .before .before .before .before .before .before .before .before .before .before .before .pre in
+    let g = c .before .before .before .before .before .before .before .before .before .before .before .before .before .before .before .before .before .before .before .before .get-head .ensures in
+    let k = c .before .before .before .before .before .before .before .before .before .before .before .before .before .before .before .before .before .before .free-place in
+    rw (c .before .before .before .before .before .before .before .before .before .before .before .before .put-bytes2 .ensures, c .before .before .before .before .before .before .before .before .before .before .before .before .before .before .before .before .put-bytes .ensures)
+    (entered (a .store .now) (a .out .now) (a .inn .now) (p .1 .0) (p .1 .1 .1 .0) (p .1 .1 .1 .1) (k .result) (k .ensures .small) (a .s .now) (k .ensures) (omega (arith, g .held, slot-left (a .s .now) _ g (p .1 .1 .0))) (a .f) _ (g .whole)
+    (c .before .before .before .before .before .before .before .save .last .0) (rw (c .before .before .before .before .before .before .before .before .before .fresh-slot .ensures) at (c .before .before .before .before .before .before .before .save .ensures .0)) (c .before .before .before .before .before .before .before .save .ensures .1) (c .before .before .set-counts .last .0) (c .before .before .set-counts .ensures .0) (c .before .before .set-counts .ensures .1))
 
 pub enter-spec : {M : Type 1} → statement M
 enter-spec =
@@ -97,10 +89,9 @@ enter-spec =
     cast-fresh-slot-3
     fresh-slot-requires
     save-requires
-    add-counted
-    sub-counted
-    counted-requires
-    set-head-requires
+    add-set-counts
+    sub-set-counts
+    set-counts-requires
     same-length
     same-length-2
     returns)

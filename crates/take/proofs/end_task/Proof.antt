@@ -9,6 +9,7 @@ use Rattle.words.specs.View.{view}
 use Rattle.state.specs.declared.Ending.the-variants.{Aborted}
 use Rattle.state.proofs.Promises.{answers-by, altered-view, announced-same}
 use Rattle.take.proofs.Endings.{answered, task-ends, answer-by}
+use borrow.Author.Count.{below-none}
 use borrow.Author.Needs.{needs}
 use Rattle.take.proofs.end_task.Statement.{statement}
 use Rattle.take.proofs.end_task.Tie as tie
@@ -20,7 +21,8 @@ solicited-requires : tie.Need-solicited-requires
 solicited-requires c κs = search needs
 
 drop-commands-requires : tie.Need-drop-commands-requires
-drop-commands-requires c κs = search needs
+drop-commands-requires c κs =
+    (c .before .before .before .before .before .pre .0, (omega arith, below-none _))
 
 settle-requires : tie.Need-settle-requires
 settle-requires c κs =

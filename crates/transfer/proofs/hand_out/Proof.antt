@@ -1,9 +1,10 @@
 -- `transfer::hand_out` meets its contract. Assumes nothing.
+use Prim.Native.Nat.{_+_}
 use mathlib.Core.Option.{some}
 use native.Mathlib.Omega.{arith}
 use Rattle.srp.specs.Calls.{nextOf}
 use Rattle.words.specs.View.{openOf}
-use Rattle.transfer.proofs.Pieces.{no-refusal, handed-fits, moved-open, moved-fits}
+use Rattle.transfer.proofs.Pieces.{no-refusal, handed-fits, moved-open}
 use Rattle.transfer.proofs.Handing.{none-left, one-handed}
 use borrow.Author.Needs.{needs}
 use Rattle.transfer.proofs.hand_out.Statement.{statement}
@@ -24,20 +25,14 @@ enum-known-piece c = search needs
 part-for-requires : tie.Need-part-for-requires
 part-for-requires c κs = search needs
 
-handed-on-requires : tie.Need-handed-on-requires
-handed-on-requires c κs =
-    let a = c .before .before .before .before .before .before .before .args in
-    let p = c .before .before .before .before .before .before .before .pre in
-    handed-fits (p .1 .1 .1 .1 .0) (p .1 .1 .1 .0 .small) (a .maximum) (a .store .now) (a .d) (c .before .before .piece .given .0 .0) (omega (arith, p .1 .1 .1 .1 .1)) (c .part-for .ensures) (c .before .before .before .before .next-for .ensures) (c .before .before .piece .given .1)
-
-with-part-requires : tie.Need-with-part-requires
-with-part-requires c κs = search needs
-
-replace-requires : tie.Need-replace-requires
-replace-requires c κs =
+add-set-handed : tie.Need-add-set-handed
+add-set-handed c =
     let a = c .before .before .before .before .before .before .before .before .before .before .args in
     let p = c .before .before .before .before .before .before .before .before .before .before .pre in
-    (p .0, (p .1 .1 .1 .0, moved-fits (a .c) (a .d) (c .before .before .before .before .before .piece .given .0 .0 .len) (c .before .before .before .part-for .ensures) (c .before .before .handed-on .ensures) (c .before .with-part .ensures) (p .1 .1 .1 .1 .0 .fits)))
+    record { fits = handed-fits (p .1 .1 .1 .1 .0) (p .1 .1 .1 .0 .small) (a .maximum) (a .store .now) (a .d) (c .before .before .before .before .before .piece .given .0 .0) (omega (arith, p .1 .1 .1 .1 .1)) (c .before .before .before .part-for .ensures) (c .before .before .before .before .before .before .before .next-for .ensures) (c .before .before .before .before .before .piece .given .1) }
+
+set-handed-requires : tie.Need-set-handed-requires
+set-handed-requires c κs = search needs
 
 kind-for-requires : tie.Need-kind-for-requires
 kind-for-requires c κs = search needs
@@ -61,8 +56,8 @@ returns-3 c =
     let a = c .before .before .before .before .before .before .before .before .before .before .before .before .before .before .args in
     let p = c .before .before .before .before .before .before .before .before .before .before .before .before .before .before .pre in
     let m = c .before .before .before .before .before .before .before .before .before .piece .given .0 .0 in
-    one-handed (p .1 .1 .1 .0) (p .1 .1 .1 .1 .0) (p .1 .1 .0) (a .store .now) (a .maximum) (a .d) (p .1 .1 .1 .1 .1) (c .before .before .before .before .before .before .before .before .before .before .before .next-for .ensures) m (c .before .before .before .before .before .before .before .before .before .piece .given .1) (c .kind-for .ensures) (c .before .before .before .replace .ensures)
-    (moved-open (a .c) (a .d) (m .len) (c .before .before .before .before .before .before .before .part-for .ensures) (c .before .before .before .before .before .before .handed-on .ensures) (c .before .before .before .before .before .with-part .ensures) (a .store .now))
+    one-handed (p .1 .1 .1 .0) (p .1 .1 .1 .1 .0) (p .1 .1 .0) (a .store .now) (a .maximum) (a .d) (p .1 .1 .1 .1 .1) (c .before .before .before .before .before .before .before .before .before .before .before .next-for .ensures) m (c .before .before .before .before .before .before .before .part-for .result .handed + m .len) (c .before .before .before .before .before .before .before .before .before .piece .given .1) (c .kind-for .ensures) (c .before .before .before .set-handed .ensures)
+    (moved-open (a .store .now) (a .c) (a .d) (m .len) (c .before .before .before .before .before .before .before .part-for .ensures))
 
 pub hand-out-spec : {M : Type 1} → statement M
 hand-out-spec =
@@ -73,9 +68,8 @@ hand-out-spec =
     enum-told
     enum-known-piece
     part-for-requires
-    handed-on-requires
-    with-part-requires
-    replace-requires
+    add-set-handed
+    set-handed-requires
     kind-for-requires
     returns
     returns-2

@@ -1,16 +1,14 @@
 -- `transfer::plan` meets its contract. Assumes nothing.
-use mathlib.Core.Path.{_≡_, refl, _∙_, ap}
+use mathlib.Core.Path.{_≡_, refl, _∙_}
 use mathlib.Core.Bool.{true}
 use Rattle.srp.specs.Calls.{planned}
 use Rattle.srp.specs.declared.Refusal.the-variants.{Closed, TagNotOpen, Planned}
 use Rattle.words.specs.View.{openOf, view, headOf}
-use Rattle.words.specs.declared.Slot.{Slot}
 use Rattle.words.proofs.Ports.{view-live}
 use Rattle.state.specs.Changes.{FoundAt}
-use Rattle.state.proofs.Promises.{refused, replies-by, performed, replaced-view, found-none, found-slot}
+use Rattle.state.proofs.Promises.{refused, replies-by, performed, changed-view, found-none, found-slot}
 use Rattle.state.proofs.Opened.{head-open, port-closed}
 use Rattle.transfer.proofs.Checks.{plan-closed, plan-unknown, plan-again, plan-passed}
-use Rattle.transfer.proofs.Pieces.{planned-open, planned-fits}
 use borrow.Author.Needs.{needs}
 use Rattle.transfer.proofs.plan.Statement.{statement}
 use Rattle.transfer.proofs.plan.Tie as tie
@@ -53,22 +51,19 @@ returns-3 c =
     let F : FoundAt l (a .tag) (c .before .before .before .before .before .i .given .0 .0) = rw (c .before .before .before .before .before .i .given .1) at (c .before .before .before .before .before .before .before .find .ensures) in
     λ st. replies-by (plan-again (view l st) (a .tag) (a .out) (a .inn) (view-live l st ∙ live) (openOf st (c .before .load .result)) (found-slot F live st (c .before .load .ensures)) (c .if2 .taken)) (refused l st Planned)
 
-planned-requires : tie.Need-planned-requires
-planned-requires c κs = search needs
-
-replace-requires : tie.Need-replace-requires
-replace-requires c κs =
-    let F : FoundAt (c .before .before .before .before .before .before .before .before .before .before .before .before .before .before .before .before .args .s .now) (c .before .before .before .before .before .before .before .before .before .before .before .before .before .before .before .before .args .tag) (c .before .before .before .before .before .before .before .i .given .0 .0) = rw (c .before .before .before .before .before .before .before .i .given .1) at (c .before .before .before .before .before .before .before .before .before .find .ensures) in
-    (search needs, (F, planned-fits (c .before .before .before .load .result) (c .before .before .before .before .before .before .before .before .before .before .before .before .before .before .before .before .args .out) (c .before .before .before .before .before .before .before .before .before .before .before .before .before .before .before .before .args .inn) (c .before .planned .ensures) (c .before .before .before .load .ensures .fits)))
+set-plan-requires : tie.Need-set-plan-requires
+set-plan-requires c κs =
+    let F : FoundAt (c .before .before .before .before .before .before .before .before .before .before .before .before .before .before .before .args .s .now) (c .before .before .before .before .before .before .before .before .before .before .before .before .before .before .before .args .tag) (c .before .before .before .before .before .before .i .given .0 .0) = rw (c .before .before .before .before .before .before .i .given .1) at (c .before .before .before .before .before .before .before .before .find .ensures) in
+    (search needs, F .small)
 
 returns-4 : tie.Need-returns-4
 returns-4 c =
-    let a = c .before .before .before .before .before .before .before .before .before .before .before .before .before .before .before .before .before .args in
+    let a = c .before .before .before .before .before .before .before .before .before .before .before .before .before .before .before .before .args in
     let l = a .s .now in
-    let live : headOf l .live ≡ true = head-open (c .before .before .before .before .before .before .before .before .before .before .before .before .before .before .get-head .ensures) (c .before .before .before .before .before .before .before .before .before .before .before .before .before .if1 .left) in
-    let F : FoundAt l (a .tag) (c .before .before .before .before .before .before .before .before .i .given .0 .0) = rw (c .before .before .before .before .before .before .before .before .i .given .1) at (c .before .before .before .before .before .before .before .before .before .before .find .ensures) in
-    λ st. replies-by (plan-passed (view l st) (a .tag) (a .out) (a .inn) (view-live l st ∙ live) (openOf st (c .before .before .before .before .load .result)) (found-slot F live st (c .before .before .before .before .load .ensures)) (c .before .before .before .if2 .left))
-    (performed refl (replaced-view l (c .replace .last .0) st live (c .replace .ensures) (planned (a .out) (a .inn)) (planned-open (c .before .before .before .before .load .result) (a .out) (a .inn) (c .before .before .planned .ensures) st ∙ ap (λ (x : Slot). planned (a .out) (a .inn) (openOf st x)) (c .before .before .before .before .load .ensures .whole))) refl refl)
+    let live : headOf l .live ≡ true = head-open (c .before .before .before .before .before .before .before .before .before .before .before .before .before .get-head .ensures) (c .before .before .before .before .before .before .before .before .before .before .before .before .if1 .left) in
+    let F : FoundAt l (a .tag) (c .before .before .before .before .before .before .before .i .given .0 .0) = rw (c .before .before .before .before .before .before .before .i .given .1) at (c .before .before .before .before .before .before .before .before .before .find .ensures) in
+    λ st. replies-by (plan-passed (view l st) (a .tag) (a .out) (a .inn) (view-live l st ∙ live) (openOf st (c .before .before .before .load .result)) (found-slot F live st (c .before .before .before .load .ensures)) (c .before .before .if2 .left))
+    (performed refl (changed-view l (c .set-plan .last .0) st live F (c .set-plan .ensures) (planned (a .out) (a .inn)) refl) refl refl)
 
 pub plan-spec : {M : Type 1} → statement M
 plan-spec =
@@ -82,6 +77,5 @@ plan-spec =
     returns-2
     load-requires
     returns-3
-    planned-requires
-    replace-requires
+    set-plan-requires
     returns-4)

@@ -1,24 +1,23 @@
 -- `wire::begins` meets its contract. Assumes nothing.
-use Prim.Native.Nat.{_-_, _≤_}
-use mathlib.Core.Path.{_≡_, sym, _∙_}
+use Prim.Native.Nat.{_-_}
+use mathlib.Core.Logic.{⊎-elim}
 use native.Mathlib.Omega.{arith}
-use lib.ListN.{length, take, drop}
-use Rattle.srp.specs.Descriptors.{sameBytes}
-use Rattle.wire.proofs.Same.{rest, same-start, same-end, same-not, same-on}
+use lib.ListN.{length}
+use Rattle.wire.proofs.Same.{Comparing, start, unlike, alike, end}
 use Rattle.wire.proofs.begins.Statement.{statement}
 use Rattle.wire.proofs.begins.Tie as tie
 
 abbrev Inv-loop : tie.InvT-loop
-Inv-loop a b i₀ i =
-    (i ≤ length a) × (length a ≤ length b) × (sameBytes (drop i a) (rest a b i) ≡ sameBytes a (take (length a) b))
+Inv-loop a b same₀ i₀ same i =
+    Comparing a b same i
 
 abbrev μ-loop : tie.MeasureT-loop
-μ-loop a b i₀ i =
+μ-loop a b same₀ i₀ same i =
     length a - i
 
 loop-holds : tie.Need-loop-holds Inv-loop μ-loop
 loop-holds c =
-    (omega arith, c .pre, same-start (c .args .a .now) (c .args .b .now))
+    start (c .args .a .now) (c .args .b .now) (c .pre)
 
 shared-slice-read-if1 : tie.Need-shared-slice-read-if1 Inv-loop μ-loop
 shared-slice-read-if1 c =
@@ -27,10 +26,6 @@ shared-slice-read-if1 c =
 shared-slice-read-if1-2 : tie.Need-shared-slice-read-if1-2 Inv-loop μ-loop
 shared-slice-read-if1-2 c =
     omega arith
-
-returns : tie.Need-returns Inv-loop μ-loop
-returns c =
-    sym (same-not (c .before .before .before .before .before .args .a .now) (c .before .before .before .before .before .args .b .now) (c .before .before .before .before .loop .inv .1) (c .before .before .before .before .loop .i) (c .before .before .before .loop-test .taken) (c .if1 .taken)) ∙ c .before .before .before .before .loop .inv .2
 
 add-i : tie.Need-add-i Inv-loop μ-loop
 add-i c =
@@ -42,11 +37,13 @@ loop-less c =
 
 loop-again : tie.Need-loop-again Inv-loop μ-loop
 loop-again c =
-    (omega arith, c .before .before .before .before .loop .inv .1, same-on (c .before .before .before .before .before .args .a .now) (c .before .before .before .before .before .args .b .now) (c .before .before .before .before .loop .inv .1) (c .before .before .before .before .loop .i) (c .before .before .before .loop-test .taken) (c .if1 .left) ∙ c .before .before .before .before .loop .inv .2)
+    let w = c .before .before .before .before .loop .inv in
+    let more = c .before .before .before .loop-test .taken in
+    ⊎-elim (λ t. rw (t .1) (unlike w more (t .0 .taken))) (λ t. rw (t .1) (alike w more (t .0 .left))) (c .if1 .came)
 
-returns-2 : tie.Need-returns-2 Inv-loop μ-loop
-returns-2 c =
-    sym (same-end (c .before .before .args .a .now) (c .before .before .args .b .now) (c .before .loop .i) (c .loop-test .left)) ∙ c .before .loop .inv .2
+returns : tie.Need-returns Inv-loop μ-loop
+returns c =
+    end (c .before .loop .inv) (c .loop-test .left)
 
 pub begins-spec : {M : Type 1} → statement M
 begins-spec =
@@ -57,8 +54,7 @@ begins-spec =
     loop-holds
     shared-slice-read-if1
     shared-slice-read-if1-2
-    returns
     add-i
     loop-less
     loop-again
-    returns-2)
+    returns)

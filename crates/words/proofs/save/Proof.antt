@@ -1,7 +1,5 @@
 -- `words::save` meets its contract. Assumes nothing.
-use mathlib.Core.Path.{refl}
-use Rattle.words.specs.View.{wordsOf}
-use Rattle.words.proofs.Slots.{saved-slots, same-head, decoded}
+use Rattle.words.proofs.Slots.{saved}
 use borrow.Author.Needs.{needs}
 use Rattle.words.proofs.save.Statement.{statement}
 use Rattle.words.proofs.save.Tie as tie
@@ -27,12 +25,9 @@ same-length c = search needs
 returns : tie.Need-returns
 returns c =
     let a = c .before .before .before .before .before .before .before .args in
-    let l = c .before .before .before .before .before .before .before .pre .0 in
-    let i = c .before .before .before .before .before .before .before .pre .1 .0 in
-    rw (c .before .before .put-words .ensures, c .before .before .before .before .before .words-of .ensures) (
-      saved-slots (a .s .now) l (a .i) i (wordsOf (a .c)) refl (a .c) (decoded (a .c) _ (c .before .before .before .before .before .before .before .good .1 .1 .0) (c .before .before .before .before .before .before .before .pre .1 .1)),
-      same-head (a .s .now) l (a .i) i (wordsOf (a .c)) refl,
-    )
+    let p = c .before .before .before .before .before .before .before .pre in
+    rw (c .before .before .put-words .ensures, c .before .before .before .before .before .words-of .ensures)
+    (saved (a .s .now) (p .0) (a .i) (p .1 .0) (a .c) _ (c .before .before .before .before .before .before .before .good .1 .1 .0) (p .1 .1))
 
 pub save-spec : {M : Type 1} → statement M
 save-spec =
