@@ -1,11 +1,31 @@
 // What an answer is in numbers, for callers that have no enums; and the answer of a refusal without a message.
 use srp::Answer;
+use srp::Counters;
+use srp::Kind;
+use srp::Piece;
 use srp::Refusal;
 use srp::Reply;
 ghost use mathlib.Core.Path.{_≡_};
+ghost use Prim.Native.Nat.{ℕ};
 ghost use Rattle.srp.specs.Refusals.{numberOf, reasonOf};
 ghost use Rattle.srp.specs.Writing;
-ghost use Rattle.srp.specs.Answers.{refusing};
+ghost use Rattle.srp.specs.Answers.{refusing, kindNumber};
+ghost use Rattle.srp.specs.declared.Reply.the-variants.{Operation, Counts};
+ghost use Rattle.answer.specs.Words.{answerWords};
+
+// The kind of message taken, in take's answer.
+const COMMAND: u64 = 1;
+
+const TASK: u64 = 2;
+
+const CREDIT_RESPONSE: u64 = 3;
+
+const LOGOUT: u64 = 4;
+
+// the CDB's place in a command
+const CDB: u64 = 32;
+
+const ALL_BITS: u64 = 18446744073709551615;
 
 // Document 01's number of a refusal.
 pub fn number_of(refusal: Refusal) -> u32
@@ -64,5 +84,88 @@ pub fn refused(f: Refusal) -> Answer
     Answer {
         reply: Reply::Refused(f),
         wrote: 0,
+    }
+}
+
+// The number that a call from C returns.
+pub fn returned(reply: Reply) -> u32
+    ensures { λ n. ⌜ n ≡ Rattle.srp.specs.Answers.returned reply ⌝ }
+{
+    match reply {
+        Reply::Refused(f) => number_of(f),
+        _ => 0,
+    }
+}
+
+// A number as 64 bits, a negative one in two's complement.
+fn word(d: i64) -> u64
+    ensures { λ r. ⌜ r ≡ Rattle.answer.specs.Words.word d ⌝ }
+{
+    if d < 0 {
+        let n = (-1 - d) as u64;
+        return ALL_BITS - n;
+    }
+    d as u64
+}
+
+fn kind_number(k: Kind) -> u64
+    ensures { λ r. ⌜ r ≡ kindNumber k ⌝ }
+{
+    match k {
+        Kind::Read => 1,
+        Kind::Write => 2,
+    }
+}
+
+// Those of an operation.
+pub fn operation_words(k: Kind, p: Piece) -> [u64; 8]
+    ensures { λ r. ⌜ ((wrote : ℕ) → r ≡ answerWords (record { reply = Operation k p; wrote = wrote })) ⌝ }
+{
+    [
+        1,
+        kind_number(k),
+        p.handle as u64,
+        p.address,
+        p.len as u64,
+        p.offset as u64,
+        0,
+        0,
+    ]
+}
+
+fn counter_words(c: Counters) -> [u64; 8]
+    ensures { λ r. ⌜ ((wrote : ℕ) → r ≡ answerWords (record { reply = Counts c; wrote = wrote })) ⌝ }
+{
+    [
+        c.wanted as u64,
+        c.announced as u64,
+        c.held as u64,
+        word(c.owed),
+        0,
+        0,
+        0,
+        0,
+    ]
+}
+
+// The eight words that a call from C answers.
+pub fn words_of(a: Answer) -> [u64; 8]
+    ensures { λ r. ⌜ r ≡ answerWords a ⌝ }
+{
+    let wrote = a.wrote as u64;
+    let reply = a.reply;
+    match reply {
+        Reply::Refused(_) => [wrote, 0, 0, 0, 0, 0, 0, 0],
+        Reply::Performed => [wrote, 0, 0, 0, 0, 0, 0, 0],
+        Reply::NewCommand { tag, lun, cdb } => [wrote, COMMAND, tag, lun, CDB, cdb as u64, 0, 0],
+        Reply::TaskAnswered { tag, lun } => [wrote, TASK, tag, lun, 0, 0, 0, 0],
+        Reply::CreditSettled => [wrote, CREDIT_RESPONSE, 0, 0, 0, 0, 0, 0],
+        Reply::LoggedOut => [wrote, LOGOUT, 0, 0, 0, 0, 0, 0],
+        Reply::Operation(k, p) => operation_words(k, p),
+        Reply::Done => [0, 0, 0, 0, 0, 0, 0, 0],
+        Reply::Accepted => [wrote, 0, 0, 0, 0, 0, 0, 0],
+        Reply::Rejected(reason) => [wrote, reason as u64, 0, 0, 0, 0, 0, 0],
+        Reply::Counts(c) => counter_words(c),
+        Reply::Listed(n) => [n as u64, 0, 0, 0, 0, 0, 0, 0],
     }
 }

@@ -1,2 +1,5 @@
 pub mod Answers
 pub mod Fetches
+pub mod InC
+pub mod Listing
+pub mod Plain

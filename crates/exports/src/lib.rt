@@ -1,5 +1,7 @@
-// Look and the cut for callers in C: each returns 0 or the refusal's number, and writes its answer's 32 bytes into the lent buffer.
-// include/srp_target.h declares them. A refusal leaves the buffer as it was; every byte past the 32 is kept.
+// The calls for callers in C, as include/srp_target.h declares them; those on a port are in port.rt. Look and the cut return 0 or the refusal's
+// number, and write their answer's 32 bytes into the lent buffer. A refusal leaves the buffer as it was; every byte past the 32 is kept.
+pub mod port;
+
 use srp::Cut;
 use srp::Fetch;
 use srp::Look;
