@@ -1,17 +1,56 @@
 /*
- * SRP target port: its calls from C. Static library libexports.a, x86-64.
+ * SRP target port, one channel: its calls from C. Static library libexports.a, x86-64. Of the C library it needs
+ * memcpy, memmove, memset and memcmp at most.
+ *
+ * The owner calls. It has the adapter, the device server and the memory. A port is SRP_PORT_WORDS words and a store of
+ * SRP_STORE_BYTES bytes, both lent by the owner. srp_look and srp_cut need no port.
  *
  * True of every function below:
- *   - It returns 0, or the number of its refusal: the first that hits, in the order given beside it.
- *   - It keeps no pointer past the call, reads nothing but its arguments and the bytes they point to, and writes
- *     nothing but buf. It has no state: calls may run at the same time on different buffers.
- *   - After a refusal every byte of buf is as it was.
- *   - The caller owes memory: each pointer leads to as many bytes as the length behind it says, and buf overlaps no
- *     other argument. A pointer may be NULL only where its length is 0. Nothing here can check this.
- *   - It has no other precondition: every value of every argument, and every content, has its outcome.
+ *   - It returns 0, or the number of its refusal: the first that hits, in the order given beside it. (srp_target_words
+ *     returns a number of words.)
+ *   - It keeps no pointer past the call, has no state of its own, reads nothing but its arguments and what they point
+ *     to, and writes nothing but what its data sheet names.
+ *   - The caller owes memory, aligned for its type. A pointer with a length behind it leads to as many elements as the
+ *     length says; port to SRP_PORT_WORDS words, store to SRP_STORE_BYTES bytes, settings, own and answer to as many
+ *     elements as they are declared with. What is pointed to without const overlaps no other argument. A pointer may
+ *     be NULL only where its length is 0. Nothing here can check this.
+ *   - It has no other precondition: every value of every argument, and every content, has its outcome. Any words are a
+ *     port, any bytes a store. Words that are all 0 are a closed port, and a call that closes a port leaves them so.
+ *   - Calls on different ports, and on none, may run at the same time. Calls on one port are made one after the other,
+ *     srp_target_counters and srp_target_list too, and nobody else writes its words or its store between them: the
+ *     owner sees to that. A port holds no address: words and store may be copied elsewhere together.
+ *   - A refusal alters nothing: port, store, buf and records are as they were. There are two exceptions, as said
+ *     beside the calls: srp_target_login always writes the port, and some refusals of srp_target_take come with a
+ *     message.
+ *   - answer is written whole by every call that has one. Words that its data sheet does not name are 0. After a
+ *     refusal that alters nothing all eight are 0.
+ *   - A message is written from byte 0 of buf on. Every other byte of buf is as it was. Calls that can write a message
+ *     want a buf_len of at least 132 each time, also when they write none.
  *
- * Numbers in messages and answers are big-endian; bit 0 is the lowest. A memory descriptor has 16 bytes: address in
- * 0-7, handle in 8-11, length in 12-15.
+ * What the owner does:
+ *   - It takes messages from the initiator in the order in which they came, and sends messages in the order of the
+ *     calls that wrote them, with a solicited event where the adapter has them and SOLNT (byte 1 bit 0) is 1. A buf
+ *     may be lent again when its message has been sent.
+ *   - For an SRP_CMD, srp_look first. It names the tables to fetch. They are fetched by RDMA Read in both directions.
+ *     When these Reads are complete: srp_target_take, with both tables; later messages wait. All other messages, and
+ *     commands that srp_look refuses, are taken without tables.
+ *   - For a command taken: srp_target_plan, then srp_target_step in either direction until done, each piece posted as
+ *     the RDMA operation that the answer names, then srp_target_finish.
+ *   - Data-out: RDMA Reads complete in any order. Wait for each Read's completion before its data are used. The port
+ *     counts pieces handed out, not completions.
+ *   - Data-in: post the RDMA Writes before the response is sent, on the same channel. The initiator then has the data
+ *     when it has the response.
+ *   - Once the channel is closed, its open commands are dropped and get no response. Operations already posted for
+ *     them are the owner's to stop. For the device server it is the loss of the I_T nexus.
+ *
+ * Credit, in receive buffers: W wanted, A announced and unused, H held (commands open), D owed; A + H + D = W. D is
+ * negative after a withdrawal of buffers that are announced already. Each SRP_RSP and SRP_CRED_REQ carries a delta,
+ * the larger of D and 0, which moves from D to A. A request is an SRP_CMD or an SRP_TSK_MGMT.
+ *
+ * B of a direction is the sum of its segments' lengths, R the length that the SCSI command requires. Numbers in
+ * messages, in tables and in the answers of srp_look and srp_cut are big-endian, those in words the processor's own.
+ * Bit 0 is the lowest. An h marks hexadecimal. A memory descriptor has 16 bytes: address in 0-7, handle in 8-11,
+ * length in 12-15.
  */
 #ifndef SRP_TARGET_H
 #define SRP_TARGET_H
@@ -23,7 +62,7 @@
 extern "C" {
 #endif
 
-/* Refusals. TABLE_LENGTH is drawn by neither function below. */
+/* Refusals: from the message or the caller. */
 #define SRP_REFUSED_SHORT_BUFFER 1  /* lent buffer too short */
 #define SRP_REFUSED_SETTING      2  /* setting out of range */
 #define SRP_REFUSED_LENGTH       3  /* message under 16 bytes, over the agreed length, or not of its type's length */
@@ -36,8 +75,325 @@ extern "C" {
 #define SRP_REFUSED_FIELDS       10 /* bad fields */
 #define SRP_REFUSED_ARGUMENT     11 /* argument bad */
 
-/* Bytes of an answer, and the least buf_len. */
-#define SRP_ANSWER_BYTES 32
+/* Refusals: from what went before. */
+#define SRP_REFUSED_CLOSED          21 /* channel closed */
+#define SRP_REFUSED_NO_CREDIT       22 /* request with A = 0 */
+#define SRP_REFUSED_TAG_OPEN        23 /* request with the tag of an open command */
+#define SRP_REFUSED_TAG_NOT_OPEN    24 /* no open command has the tag */
+#define SRP_REFUSED_CREDIT_RESPONSE 25 /* SRP_CRED_RSP unexpected, or with another tag */
+#define SRP_REFUSED_UNANSWERED      26 /* the last SRP_CRED_REQ is unanswered */
+#define SRP_REFUSED_NOT_OWED        27 /* D not above 0 */
+#define SRP_REFUSED_WANTED          28 /* W would leave 1 to 16 */
+#define SRP_REFUSED_UNPLANNED       29 /* step before plan */
+#define SRP_REFUSED_PLANNED         30 /* planned already */
+
+/* Sizes: of a port, of the answers, of lent buffers and lists. */
+#define SRP_PORT_WORDS    400   /* words of a port */
+#define SRP_STORE_BYTES   16384 /* bytes of a port's store */
+#define SRP_ANSWER_WORDS  8     /* words of an answer of the calls on a port */
+#define SRP_ANSWER_BYTES  32    /* bytes of an answer of srp_look and srp_cut, and their least buf_len */
+#define SRP_MESSAGE_BYTES 132   /* the longest message that a port writes, and the least buf_len for one */
+#define SRP_SENSE_BYTES   96    /* the longest sense */
+#define SRP_TABLE_BYTES   512   /* the longest table of memory descriptors */
+#define SRP_RECORD_WORDS  4     /* words of a record of a listing */
+#define SRP_LIST_WORDS    64    /* the least words of a listing: 16 records */
+
+/* The settings of a login, and their ranges. */
+#define SRP_SETTING_BUFFERS   0 /* N */
+#define SRP_SETTING_PIECE     1 /* M */
+#define SRP_SETTING_LENGTH    2 /* X */
+#define SRP_SETTING_INDIRECT  3
+#define SRP_SETTING_SOLICITED 4
+#define SRP_SETTINGS          5
+#define SRP_MOST_BUFFERS      16      /* N and W are 1 to this */
+#define SRP_LONGEST_PIECE     1048576 /* M is 1 to this */
+#define SRP_SHORTEST_AGREED   64      /* X and an agreed length are from this */
+#define SRP_LONGEST_AGREED    1364    /* to this */
+
+/* Formats of data buffer descriptors, as bits of a login's required formats. */
+#define SRP_FORMAT_BIT_DIRECT   0x0002
+#define SRP_FORMAT_BIT_INDIRECT 0x0004
+
+/* Reasons of SRP_LOGIN_REJ. */
+#define SRP_REJECTED_NO_REASON 0x00010000 /* length under 64, or channel action 2 or 3 */
+#define SRP_REJECTED_LENGTH    0x00010002 /* length above X */
+#define SRP_REJECTED_TARGET    0x00010003 /* another target identifier */
+#define SRP_REJECTED_FORMATS   0x00010004 /* a format that is not supported */
+#define SRP_REJECTED_CHANNELS  0x00010005 /* channel action 1: several channels */
+
+/* Reasons of SRP_T_LOGOUT when srp_target_take closes the channel. */
+#define SRP_LOGOUT_NO_REASON  0 /* after 3, 4, 22, 23 and 25 */
+#define SRP_LOGOUT_OUT_FORMAT 6 /* after 5 */
+#define SRP_LOGOUT_IN_FORMAT  7 /* after 6 */
+#define SRP_LOGOUT_OUT_COUNT  8 /* after 7 */
+#define SRP_LOGOUT_IN_COUNT   9 /* after 8 */
+
+/* What srp_target_take took: answer[1]. */
+#define SRP_KIND_REFUSED         0
+#define SRP_KIND_COMMAND         1
+#define SRP_KIND_TASK            2
+#define SRP_KIND_CREDIT_RESPONSE 3
+#define SRP_KIND_LOGOUT          4
+
+/* Directions, and the operations of their pieces. */
+#define SRP_DIRECTION_OUT 0
+#define SRP_DIRECTION_IN  1
+#define SRP_RDMA_READ     1 /* data-out */
+#define SRP_RDMA_WRITE    2 /* data-in */
+
+/*
+ * The number of words of a port in the library that is linked: SRP_PORT_WORDS. It has no refusal.
+ */
+uint64_t srp_target_words(void);
+
+/*
+ * Login: makes a port from the first message of a channel, and writes the message that answers it.
+ *
+ *   port           the port to be made; what it held is not used. The store is not touched and needs no clearing
+ *   settings       N          receive buffers for requests, 1 to 16, each of X bytes. SRP_CRED_RSP and SRP_I_LOGOUT
+ *                             use no credit: the adapter has a receive buffer for each of the two beside these.
+ *                             Linux's initiator keeps one credit for task management: with N = 1 it sends no command
+ *                  M          the longest RDMA operation, 1 to 1,048,576 bytes, for the whole channel: what the
+ *                             adapter moves in one, or the MAXIMUM BURST SIZE if that is less (mode page 02h, in
+ *                             units of 512 bytes, 0 for no limit)
+ *                  X          the longest message, 64 to 1,364 bytes; no command that can be taken is longer. Linux's
+ *                             initiator requests 8,260 and is rejected, unless ib_srp has use_imm_data=N
+ *                             or max_it_iu_size=1364
+ *                  indirect   0 where format 2 is not supported, else it is
+ *                  solicited  0 where the adapter has no solicited events; else SRP_LOGIN_RSP has SOLNTSUP (byte 26
+ *                             bit 4). Nothing else depends on it: SOLNT bits are written either way
+ *   own            the target port identifier
+ *   msg, msg_len   the message, an SRP_LOGIN_REQ of 64 bytes. Over RDMA/CM Linux sends 56 of them, in another order:
+ *                  the adapter restores the 64
+ *   buf, buf_len   where the message goes
+ *
+ * Refusals, in the order of checking:
+ *    1  buf_len under 132
+ *    2  N outside 1 to 16, M outside 1 to 1,048,576, or X outside 64 to 1,364
+ *    3  msg_len not 64
+ *    4  byte 0, the type, other than 00h
+ * Then the login is rejected, with the reason of the first that fits:
+ *   0001 0000h  requested length (bytes 16-19) under 64
+ *   0001 0002h  requested length above X
+ *   0001 0004h  a bit of the required formats (bytes 24-25) set other than 1, and 2 if indirect
+ *   0001 0005h  channel action (byte 26 bits 1-0) 1
+ *   0001 0000h  channel action 2 or 3
+ *   0001 0003h  target port identifier (bytes 48-63) other than own
+ *
+ *              returned   answer       port after                   buf after
+ *   accepted   0          52, 0        open, W = A = N, H = D = 0   SRP_LOGIN_RSP
+ *   rejected   0          32, reason   closed                       SRP_LOGIN_REJ
+ *   refused    1 to 4     0, 0         closed                       as it was
+ *
+ * The owner keeps, for srp_look, the agreed length, which is the requested length, and the agreed formats, which are
+ * the required formats. After a rejection it sends the message and makes no connection; after a refusal it makes none.
+ */
+uint32_t srp_target_login(uint64_t *port, const uint32_t settings[5], const uint8_t own[16], const uint8_t *msg,
+                          size_t msg_len, uint8_t *buf, size_t buf_len, uint64_t answer[8]);
+
+/*
+ * Take: a message from the initiator, after the login.
+ *
+ *   port, store    the port
+ *   msg, msg_len   the message
+ *   out, out_len   the table fetched for data-out, F bytes as srp_look names it; 0 bytes where it names none
+ *   in, in_len     the table fetched for data-in, likewise. Both tables are unread but for an SRP_CMD
+ *   buf, buf_len   where a message goes
+ *
+ * Refusals, in the order of checking:
+ *    1  buf_len under 132
+ *   21  channel closed
+ *    3  msg_len under 16 or above the agreed length
+ *    4  byte 0, the type, other than 01h (SRP_TSK_MGMT), 02h (SRP_CMD), 03h (SRP_I_LOGOUT) and 41h (SRP_CRED_RSP)
+ *    3  msg_len not 48 for an SRP_TSK_MGMT, not 16 for an SRP_I_LOGOUT or SRP_CRED_RSP, under 48 for an SRP_CMD
+ *    5, 6, 3, 7, 8   SRP_CMD: as srp_look has them
+ *   22  SRP_CMD, SRP_TSK_MGMT: A = 0
+ *   23  SRP_CMD, SRP_TSK_MGMT: its own tag (bytes 8-15) is that of an open command
+ *   25  SRP_CRED_RSP: no SRP_CRED_REQ is unanswered, or a tag other than 1
+ *    9  SRP_CMD: out_len or in_len other than F of its direction
+ *   10  SRP_CMD, in either direction: a table's length not a multiple of 16 from 16 to 512; a copy in the message
+ *       unlike its entry in the table; a total length unlike the sum of the segments' lengths; a segment with
+ *       address + length above 2^64 (equal is fine)
+ *
+ *   returned            answer                             after the call
+ *   0, a command        0, 1, tag, LUN, 32, CDB's length   the command is open: A - 1, H + 1
+ *   0, a task request   40, 2, tag, LUN                    it is carried out and answered: buf has its SRP_RSP
+ *   0, SRP_CRED_RSP     0, 3                               the SRP_CRED_REQ is answered; W, A, H and D as they were
+ *   0, SRP_I_LOGOUT     0, 4                               the port is closed
+ *   3 to 8, 22, 23, 25  16                                 the port is closed: buf has an SRP_T_LOGOUT with tag 0
+ *   10                  40                                 the command is answered: buf has its SRP_RSP
+ *   1, 9, 21            0                                  all is as it was
+ * Where no message is named, buf is as it was. The store is written for a command taken, and for nothing else; what
+ * other open commands have there stays.
+ *
+ * Command: the whole CDB is part of msg, from byte 32 on, 16 + 4n long; n is byte 31 bits 7-2. The port keeps nothing
+ * of msg, out and in: they may be lent again when the owner is done with the CDB.
+ *
+ * Task request, by its function (byte 30): 01h aborts the open command with the task tag (bytes 32-39) and the LUN;
+ * 02h, 04h and 08h abort all open commands of the LUN. They answer RSP_CODE 00h, also where nothing was open; 40h
+ * answers 04h, any other value 02h. An aborted command gets no response, and its tag is not open any more; which ones
+ * are left, srp_target_list shows. A - 1; D + 1 for the task request and for each command aborted; then the delta.
+ *
+ * Refusal 10: the answer has RSP_CODE 02h. A - 1, D + 1, then the delta. The command was never open.
+ *
+ * What the owner does next:
+ *   a command           carries it out, as said at the top
+ *   a task request      sends the message; operations posted for aborted commands are its own to stop
+ *   SRP_I_LOGOUT        disconnects
+ *   3 to 8, 22, 23, 25  sends the message, waits until it is sent, disconnects: Linux's initiator heeds the disconnect
+ *                       alone. The reason is 0, but 6, 7, 8, 9 after 5, 6, 7, 8
+ *   10                  sends the message. Linux's initiator does not heed RSP_CODE in a command's response: it sees
+ *                       status GOOD
+ *   1, 9                takes the message again, with a longer buffer or with the tables that srp_look names: it is
+ *                       still to be taken
+ *   21                  drops the message
+ */
+uint32_t srp_target_take(uint64_t *port, uint8_t *store, const uint8_t *msg, size_t msg_len, const uint8_t *out,
+                         size_t out_len, const uint8_t *in, size_t in_len, uint8_t *buf, size_t buf_len,
+                         uint64_t answer[8]);
+
+/*
+ * Plan: states what an open command requires, once.
+ *
+ *   port    the port
+ *   tag     the command's tag
+ *   r_out   R of data-out, from the CDB
+ *   r_in    R of data-in
+ *
+ * Refusals, in the order of checking:
+ *   21  channel closed
+ *   24  tag not open
+ *   30  planned already
+ *
+ * After 0 the first min(R, B) bytes of each direction can be had by srp_target_step. R above B is lawful, also where a
+ * direction has no descriptor.
+ */
+uint32_t srp_target_plan(uint64_t *port, uint64_t tag, uint32_t r_out, uint32_t r_in);
+
+/*
+ * Step: the next RDMA operation of an open command in a direction, or done. Pieces are cut as srp_cut has it, with the
+ * login's M. Steps of other commands, and of the other direction, may stand between.
+ *
+ *   port, store   the port; the store is only read
+ *   tag           the command's tag
+ *   direction     0 out, else in
+ *
+ * Refusals, in the order of checking:
+ *   21  channel closed
+ *   24  tag not open
+ *   29  not planned
+ *
+ * answer after 0, with a piece:   1, operation (1 RDMA Read, 2 RDMA Write), handle, address, length, offset
+ * answer after 0, done:           0
+ * A piece is handed out by the call: the next one starts behind it. It is 1 to M long, lies in one segment, and its
+ * data stand at the offset in the command's data. Done comes when min(R, B) bytes have been handed out, and then each
+ * time again; it alters nothing.
+ */
+uint32_t srp_target_step(uint64_t *port, const uint8_t *store, uint64_t tag, uint32_t direction, uint64_t answer[8]);
+
+/*
+ * Finish: ends an open command, planned or not, and writes its SRP_RSP.
+ *
+ *   port               the port
+ *   tag                the command's tag
+ *   status             the SCSI status, any
+ *   sense, sense_len   sense data, up to 96 bytes, only with status 02h (CHECK CONDITION). The owner truncates longer
+ *                      sense. Status 02h without sense is lawful
+ *   buf, buf_len       where the message goes
+ *
+ * Refusals, in the order of checking:
+ *    1  buf_len under 132
+ *   21  channel closed
+ *   11  sense_len above 96, or above 0 with a status other than 02h
+ *   24  tag not open
+ *
+ * answer after 0: 36 + sense_len, the bytes of the message. The tag is not open any more: H - 1, D + 1, then the
+ * delta. Its residual in a direction: R above B gives over, R - B; else, fewer than B bytes handed out give under, B
+ * less the bytes handed out; else there is none, and 0. Without a plan R is 0. SOLNT is the command's UCSOLNT (byte 1
+ * bit 2 of the SRP_CMD) if status is not 0, else its SCSOLNT (bit 1).
+ */
+uint32_t srp_target_finish(uint64_t *port, uint64_t tag, uint8_t status, const uint8_t *sense, size_t sense_len,
+                           uint8_t *buf, size_t buf_len, uint64_t answer[8]);
+
+/*
+ * Add: k more receive buffers. They are there before the call.
+ *
+ * Refusals, in the order of checking:
+ *   21  channel closed
+ *   11  k = 0
+ *   28  W + k above 16
+ *
+ * After 0: W + k, D + k. The initiator learns of them by the next SRP_RSP, or by srp_target_grant.
+ */
+uint32_t srp_target_add(uint64_t *port, uint32_t k);
+
+/*
+ * Withdraw: k fewer receive buffers.
+ *
+ * Refusals, in the order of checking:
+ *   21  channel closed
+ *   11  k = 0
+ *   28  W - k below 1
+ *
+ * After 0: W - k, D - k. The initiator may still use what was announced: nothing takes it back, but while D is below 0
+ * ended requests give no new credit. The buffers are free when D, as srp_target_counters has it, is 0 or more. With
+ * W = 1, as with N = 1, Linux's initiator sends no command.
+ */
+uint32_t srp_target_withdraw(uint64_t *port, uint32_t k);
+
+/*
+ * Grant: writes an SRP_CRED_REQ with tag 1, which gives the initiator what it is owed without waiting for a response.
+ *
+ * Refusals, in the order of checking:
+ *    1  buf_len under 132
+ *   21  channel closed
+ *   26  the last SRP_CRED_REQ is unanswered
+ *   27  D not above 0
+ *
+ * answer after 0: 16, the bytes of the message. Its delta is D: A + D, and D is 0. The SRP_CRED_RSP that answers it is
+ * taken by srp_target_take; until then srp_target_grant draws 26, and responses carry what is owed. SOLNT is the
+ * login's CRSOLNT (its byte 26 bit 5).
+ */
+uint32_t srp_target_grant(uint64_t *port, uint8_t *buf, size_t buf_len, uint64_t answer[8]);
+
+/*
+ * Close: ends the channel and writes an SRP_T_LOGOUT with tag 0.
+ *
+ *   reason   any, written as it is. SRP-2 has 0 for none, 1 for an inactive channel whose resources are reclaimed, 4
+ *            for a new login that ends older channels
+ *
+ * Refusals, in the order of checking:
+ *    1  buf_len under 132
+ *   21  channel closed
+ *
+ * answer after 0: 16, the bytes of the message. The port is closed. The owner sends the message, waits until it is
+ * sent, and disconnects. SOLNT of every SRP_T_LOGOUT is the login's LOSOLNT (its byte 26 bit 4).
+ */
+uint32_t srp_target_close(uint64_t *port, uint32_t reason, uint8_t *buf, size_t buf_len, uint64_t answer[8]);
+
+/*
+ * Counters: W, A, H and D of an open channel.
+ *
+ * Refusals:
+ *   21  channel closed
+ *
+ * answer after 0: W, A, H, D. D may be negative: (int64_t)answer[3].
+ */
+uint32_t srp_target_counters(const uint64_t *port, uint64_t answer[8]);
+
+/*
+ * List: the open commands, each once, in any order.
+ *
+ *   records, words   where the records go, four words each; 64 words have room for all
+ *
+ * Refusals, in the order of checking:
+ *   21  channel closed
+ *   11  words under 64
+ *
+ * answer after 0: how many, which is H. Their records stand from records[0] on: tag, LUN, bytes handed out of
+ * data-out, bytes handed out of data-in. Words behind them are as they were.
+ */
+uint32_t srp_target_list(const uint64_t *port, uint64_t *records, size_t words, uint64_t answer[8]);
 
 /*
  * Look: reads one SRP_CMD, and names for each direction the table of memory descriptors that is to be fetched.

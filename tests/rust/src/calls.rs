@@ -68,25 +68,40 @@ pub trait Call: Debug {
     fn outcome(&self, memory: &mut Memory, placement: Placement) -> Outcome {
         let input = memory.input.place(self.input(), placement.input);
         let mut lent = memory.lent.place(&filled(self.lent(), placement.fill), placement.lent);
-        let returned = self.on_library(input.bytes(), lent.bytes_mut());
-        assert!(input.bytes() == self.input(), "the input was written: {self:02x?}");
+        let returned = self.on_library(input.values(), lent.values_mut());
+        assert!(input.values() == self.input(), "the input was written: {self:02x?}");
         assert!(input.guard_is_whole(), "a byte around the input was written: {self:02x?}");
         assert!(lent.guard_is_whole(), "a byte around the lent buffer was written: {self:02x?}");
-        Outcome { returned, buf: lent.bytes().to_vec() }
+        Outcome { returned, buf: lent.values().to_vec() }
     }
 
     /// The library's outcome. Panics where it is not the model's.
     fn compared(&self, memory: &mut Memory, placement: Placement) -> Outcome {
         let outcome = self.outcome(memory, placement);
-        let mut buf = filled(self.lent(), placement.fill);
+        self.assert_model(&outcome, placement.fill);
+        outcome
+    }
+
+    /// As `compared`, with the input and the lent buffer in heap memory of just their length, so that valgrind sees a
+    /// byte read or written outside them.
+    fn compared_on_heap(&self, fill: u8) -> Outcome {
+        let (input, mut buf) = (Box::<[u8]>::from(self.input()), filled(self.lent(), fill).into_boxed_slice());
+        let returned = self.on_library(&input, &mut buf);
+        assert!(*input == *self.input(), "the input was written: {self:02x?}");
+        let outcome = Outcome { returned, buf: buf.into_vec() };
+        self.assert_model(&outcome, fill);
+        outcome
+    }
+
+    fn assert_model(&self, outcome: &Outcome, fill: u8) {
+        let mut buf = filled(self.lent(), fill);
         let returned = self.on_model(&mut buf);
         assert!(
             outcome.returned == returned && outcome.buf == buf,
-            "{self:02x?}, {placement:?}\nlibrary: {} {:02x?}\n  model: {returned} {buf:02x?}",
+            "{self:02x?}, {fill:02x}\nlibrary: {} {:02x?}\n  model: {returned} {buf:02x?}",
             outcome.returned,
             outcome.buf
         );
-        outcome
     }
 }
 

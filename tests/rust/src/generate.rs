@@ -225,7 +225,7 @@ pub fn list_of(segments: &[MemoryDescriptor]) -> Vec<u8> {
 }
 
 /// A segment of that length; its end may be the last byte of memory or just miss it.
-fn segment(random: &mut Random, length: u32, may_pass: bool) -> MemoryDescriptor {
+pub fn segment(random: &mut Random, length: u32, may_pass: bool) -> MemoryDescriptor {
     let last = 0u64.wrapping_sub(u64::from(length)); // address + length = 2^64; 0 for length 0
     let address = match random.below(8) {
         0 => last,
@@ -237,11 +237,19 @@ fn segment(random: &mut Random, length: u32, may_pass: bool) -> MemoryDescriptor
         _ => random.u64() >> 1,
     };
     let passes = u128::from(address) + u128::from(length) > 1 << 64;
-    MemoryDescriptor { address: if passes && !may_pass { last } else { address }, handle: random.u32(), length }
+    MemoryDescriptor { address: if passes && !may_pass { last } else { address }, handle: handle(random), length }
+}
+
+fn handle(random: &mut Random) -> u32 {
+    if random.one_in(6) {
+        random.of(&[0, 1, 1 << 31, u32::MAX])
+    } else {
+        random.u32()
+    }
 }
 
 /// Lengths of segments, of one manner throughout: some of them 0.
-fn lengths(random: &mut Random, count: usize, m: u32) -> Vec<u32> {
+pub fn lengths(random: &mut Random, count: usize, m: u32) -> Vec<u32> {
     let manner = random.below(6);
     let length = |random: &mut Random| match manner {
         0 => random.of(&[0, 1, 2, 3]),

@@ -1,7 +1,9 @@
-//! The rows of tests/rows; their format is in FORMAT.md there.
+//! The rows of tests/rows/base.rows; their format is in FORMAT.md there.
 
 use std::fs;
 use std::path::Path;
+
+use crate::tally::Tally;
 
 /// What a row says the call gives: the 32 bytes, or the refusal.
 pub enum Answer {
@@ -29,10 +31,9 @@ pub struct CutRow {
 }
 
 impl LookRow {
-    pub fn read(line: &str) -> Self {
-        let words: Vec<&str> = line.split(' ').collect();
-        let ["look", agreed, formats, msg, lent, fill, "=", answer @ ..] = words.as_slice() else {
-            panic!("not a look row: {line}");
+    pub fn read(words: &[&str]) -> Self {
+        let ["look", agreed, formats, msg, lent, fill, "=", answer @ ..] = words else {
+            panic!("not a look row: {words:?}");
         };
         LookRow {
             agreed: number(agreed),
@@ -46,10 +47,9 @@ impl LookRow {
 }
 
 impl CutRow {
-    pub fn read(line: &str) -> Self {
-        let words: Vec<&str> = line.split(' ').collect();
-        let ["cut", list, m, r, handed, lent, fill, "=", answer @ ..] = words.as_slice() else {
-            panic!("not a cut row: {line}");
+    pub fn read(words: &[&str]) -> Self {
+        let ["cut", list, m, r, handed, lent, fill, "=", answer @ ..] = words else {
+            panic!("not a cut row: {words:?}");
         };
         CutRow {
             list: bytes(list),
@@ -90,28 +90,38 @@ impl Answer {
     }
 }
 
-/// Runs every row of a file of tests/rows, and panics with all that failed, or unless there are `count` rows.
-pub fn run(file: &str, count: usize, through: &str, row: impl Fn(&str) -> Result<(), String>) {
-    let path = Path::new(env!("CARGO_MANIFEST_DIR")).join("../rows").join(file);
+/// Runs the rows of these kinds, in the file's order, and panics with the first that failed, or unless there are so
+/// many of each.
+pub fn run(kinds: &[(&str, usize)], through: &str, mut row: impl FnMut(&[&str]) -> Result<(), String>) {
+    let path = Path::new(env!("CARGO_MANIFEST_DIR")).join("../rows/base.rows");
     let text = fs::read_to_string(&path).unwrap_or_else(|error| panic!("{}: {error}", path.display()));
-    let lines = text.lines().enumerate().filter(|(_, line)| !line.is_empty() && !line.starts_with('#'));
-    let (mut rows, mut failures) = (0, Vec::new());
-    for (at, line) in lines {
-        rows += 1;
-        if let Err(failure) = row(line) {
-            failures.push(format!("{file}, line {}: {failure}", at + 1));
+    let (mut rows, mut failures) = (Tally::default(), Vec::new());
+    for (at, line) in text.lines().enumerate() {
+        let words: Vec<&str> = line.split(' ').collect();
+        if kinds.iter().any(|(kind, _)| *kind == words[0]) {
+            rows.add(words[0]);
+            failures.extend(row(&words).err().map(|failure| format!("line {}: {failure}", at + 1)));
         }
     }
-    assert!(failures.is_empty(), "{} of {rows} rows failed through {through}\n{}", failures.len(), failures.join("\n"));
-    assert_eq!(rows, count, "rows in {file}");
-    println!("{file} through {through}: {rows} rows");
+    let some = failures.iter().take(5).map(String::as_str).collect::<Vec<&str>>().join("\n");
+    assert!(failures.is_empty(), "{} of {} rows failed through {through}\n{some}", failures.len(), rows.total());
+    for (kind, count) in kinds {
+        assert_eq!(rows.count(kind), *count as u64, "{kind} rows");
+    }
+    let names: Vec<&str> = kinds.iter().map(|(kind, _)| *kind).collect();
+    rows.print_as(&format!("{}, through {through}", names.join(", ")), "rows");
 }
 
-fn number(word: &str) -> u32 {
+/// A hexadecimal number of up to 64 bits.
+pub fn long(word: &str) -> u64 {
+    u64::from_str_radix(word, 16).expect("a hexadecimal number of 64 bits")
+}
+
+pub fn number(word: &str) -> u32 {
     u32::from_str_radix(word, 16).expect("a hexadecimal number of 32 bits")
 }
 
-fn bytes(word: &str) -> Vec<u8> {
+pub fn bytes(word: &str) -> Vec<u8> {
     if word == "-" {
         return Vec::new();
     }

@@ -10,6 +10,12 @@ impl Tally {
         *self.0.entry(outcome.into()).or_default() += 1;
     }
 
+    pub fn join(&mut self, other: &Tally) {
+        for (outcome, n) in &other.0 {
+            *self.0.entry(outcome.clone()).or_default() += n;
+        }
+    }
+
     pub fn count(&self, outcome: &str) -> u64 {
         self.0.get(outcome).copied().unwrap_or(0)
     }
@@ -19,18 +25,28 @@ impl Tally {
     }
 
     pub fn print(&self, title: &str) {
+        self.print_as(title, "calls");
+    }
+
+    /// With the unit of what was counted.
+    pub fn print_as(&self, title: &str, unit: &str) {
         let lines: Vec<String> = self.0.iter().map(|(outcome, n)| format!("{n:>10}  {outcome}\n")).collect();
-        println!("{title}: {} calls\n{}", self.total(), lines.concat());
+        println!("{title}: {} {unit}\n{}", self.total(), lines.concat());
     }
 
     /// Panics unless just these outcomes came up, each at least so often.
     pub fn assert_each(&self, least: u64, outcomes: &[&str]) {
+        self.assert_at_least(least, outcomes);
+        for outcome in self.0.keys() {
+            assert!(outcomes.contains(&outcome.as_str()), "'{outcome}' is not to come up");
+        }
+    }
+
+    /// Panics unless these outcomes came up, each at least so often.
+    pub fn assert_at_least(&self, least: u64, outcomes: &[&str]) {
         for outcome in outcomes {
             let n = self.count(outcome);
             assert!(n >= least, "'{outcome}' came up {n} times, under {least}");
-        }
-        for outcome in self.0.keys() {
-            assert!(outcomes.contains(&outcome.as_str()), "'{outcome}' is not to come up");
         }
     }
 }

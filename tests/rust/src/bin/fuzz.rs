@@ -1,10 +1,12 @@
-//! fuzz SECONDS [SEED]: compares the library with the model on random calls for that long. The seed is the clock's unless
-//! it is given; it is printed first, so that a failure can be had again.
+//! fuzz SECONDS [SEED]: compares the library with the model on random calls for that long, of look, the cut and the
+//! calls on a port, and runs the two-ended machine. The seed is the clock's unless it is given; it is printed first, so
+//! that a failure can be had again.
 
 use std::env;
 use std::time::{Duration, Instant, SystemTime, UNIX_EPOCH};
 
 use srp_tests::calls::{Call, Cut, Look, Memory, Placement};
+use srp_tests::port::{library::Library, machine::Machine, side_by_side::SideBySide};
 use srp_tests::random::Random;
 use srp_tests::tally::Tally;
 
@@ -16,35 +18,31 @@ fn main() {
 
     let (mut random, mut memory) = (Random::new(seed), Memory::default());
     let (mut looks, mut cuts) = (Tally::default(), Tally::default());
+    let mut ports = SideBySide::new(seed);
+    let mut machine = Machine::new(Library::new(seed), seed);
     let end = Instant::now() + Duration::from_secs(seconds);
     while Instant::now() < end {
         for _ in 0..1000 {
             let placement = Placement::random(&mut random);
             looks.add(returned(Look::random(&mut random).compared(&mut memory, placement).returned));
             cuts.add(returned(Cut::random(&mut random).compared(&mut memory, placement).returned));
+            ports.call();
         }
+        machine.list(true, 500);
+        machine.list(false, 500);
     }
     looks.print("look");
     cuts.print("cut");
+    ports.outcomes.print("port");
+    machine.events.print_as("machine", "events");
     println!("no difference");
 }
 
-fn returned(number: u32) -> &'static str {
-    const WORDS: [&str; 12] = [
-        "not refused",
-        "refused 1",
-        "refused 2",
-        "refused 3",
-        "refused 4",
-        "refused 5",
-        "refused 6",
-        "refused 7",
-        "refused 8",
-        "refused 9",
-        "refused 10",
-        "refused 11",
-    ];
-    WORDS[number as usize]
+fn returned(number: u32) -> String {
+    match number {
+        0 => "not refused".into(),
+        refusal => format!("refused {refusal}"),
+    }
 }
 
 fn clock() -> u64 {

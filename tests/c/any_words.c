@@ -1,0 +1,236 @@
+/*
+ * Any words are a port, and any bytes its store: every call returns 0 or a refusal of its own, and writes nothing but
+ * what it is lent to write.
+ */
+#include <string.h>
+
+#include "calls.h"
+#include "cases.h"
+
+enum { M = 512 };
+
+static uint64_t state;
+
+/* Numbers by a fixed rule (xorshift). */
+static uint64_t next(void)
+{
+    state ^= state << 13;
+    state ^= state >> 7;
+    state ^= state << 17;
+    return state;
+}
+
+/* Arbitrary words, large numbers and small ones; an odd first word is an open port's, and most are. */
+static void arbitrary_port(void)
+{
+    static const uint64_t masks[4] = {3, 15, 31, UINT64_MAX};
+    uint64_t words[SRP_PORT_WORDS];
+    unsigned i;
+    for (i = 0; i < SRP_PORT_WORDS; i++)
+        words[i] = next() & masks[next() >> 62];
+    words[0] |= next() >> 62 != 0;
+    lay(PORT, words, sizeof words);
+    lay(STORE, NULL, 0);
+}
+
+enum call { PLAN, STEP_OUT, STEP_IN, FINISH, ADD, GRANT, WITHDRAW, LIST, COUNTERS, TAKE, CLOSE, LOGIN, CALLS };
+
+#define BIT(n)        ((uint64_t)1 << (n))
+#define WITH_A_LOGOUT (BIT(3) | BIT(4) | BIT(5) | BIT(6) | BIT(7) | BIT(8) | BIT(22) | BIT(23) | BIT(25))
+
+/* Of each call what it is lent to write, and its refusals in document 01; no argument here draws 1, 9 or 11. */
+static const struct {
+    const char *name;
+    uint64_t writes, refusals;
+} rules[CALLS] = {
+    [TAKE] = {"any words, take", BIT(PORT) | BIT(STORE) | BIT(BUF) | BIT(ANSWER), WITH_A_LOGOUT | BIT(10) | BIT(21)},
+    [PLAN] = {"any words, plan", BIT(PORT), BIT(21) | BIT(24) | BIT(30)},
+    [STEP_OUT] = {"any words, step out", BIT(PORT) | BIT(ANSWER), BIT(21) | BIT(24) | BIT(29)},
+    [STEP_IN] = {"any words, step in", BIT(PORT) | BIT(ANSWER), BIT(21) | BIT(24) | BIT(29)},
+    [FINISH] = {"any words, finish", BIT(PORT) | BIT(BUF) | BIT(ANSWER), BIT(21) | BIT(24)},
+    [ADD] = {"any words, add", BIT(PORT), BIT(21) | BIT(28)},
+    [GRANT] = {"any words, grant", BIT(PORT) | BIT(BUF) | BIT(ANSWER), BIT(21) | BIT(26) | BIT(27)},
+    [WITHDRAW] = {"any words, withdraw", BIT(PORT), BIT(21) | BIT(28)},
+    [LIST] = {"any words, list", BIT(RECORDS) | BIT(ANSWER), BIT(21)},
+    [COUNTERS] = {"any words, counters", BIT(ANSWER), BIT(21)},
+    [CLOSE] = {"any words, close", BIT(PORT) | BIT(BUF) | BIT(ANSWER), BIT(21)},
+    [LOGIN] = {"any words, login", BIT(PORT) | BIT(BUF) | BIT(ANSWER), BIT(2)},
+};
+
+/* Whether a number is among those of a set of bits. */
+static int among(uint64_t numbers, uint32_t number)
+{
+    return number < 64 && (numbers & BIT(number)) != 0;
+}
+
+/* Of what a call is lent to write, the part that it writes with its answer. */
+static void let_write(enum call call, uint32_t returned)
+{
+    const uint64_t *answer = lent_words(ANSWER), writes = rules[call].writes;
+    if (writes & BIT(PORT))
+        let_change(PORT, 8 * SRP_PORT_WORDS);
+    if (writes & BIT(STORE) && returned == 0 && answer[1] == SRP_KIND_COMMAND)
+        let_change(STORE, SRP_STORE_BYTES);
+    if (writes & BIT(BUF) && answer[0] <= SRP_MESSAGE_BYTES)
+        let_change(BUF, answer[0]);
+    if (writes & BIT(RECORDS) && answer[0] <= SRP_MOST_BUFFERS)
+        let_change(RECORDS, 8 * SRP_RECORD_WORDS * answer[0]);
+    if (writes & BIT(ANSWER))
+        let_change(ANSWER, 8 * SRP_ANSWER_WORDS);
+}
+
+/* A refusal without a message leaves all as it was, but that a login closes the port, and the answer is 0. */
+static void judge(enum call call, uint32_t returned)
+{
+    static const uint64_t zeros[SRP_PORT_WORDS];
+    int logout = call == TAKE && among(WITH_A_LOGOUT, returned);
+    if (returned == 0 || logout || (call == TAKE && returned == SRP_REFUSED_FIELDS))
+        let_write(call, returned);
+    else if (rules[call].writes & BIT(ANSWER))
+        expect(ANSWER, 0, zeros, 8 * SRP_ANSWER_WORDS);
+    if (logout || (call == CLOSE && returned == 0) || (call == LOGIN && returned))
+        expect(PORT, 0, zeros, sizeof zeros);
+    compare(rules[call].name, returned, among(rules[call].refusals, returned) ? returned : 0);
+}
+
+/* A message to be taken: a command without data, one with a descriptor that may be bad, or an abort. */
+static struct bytes some_message(uint64_t tag)
+{
+    uint8_t descriptor[16];
+    put(descriptor, 0, 8, next() & 1 ? UINT64_MAX : 0x1000);
+    put(descriptor, 8, 8, 1300);
+    switch (next() >> 62) {
+    case 0:
+        return command_with(next(), 0, 0x01, 0, 0, BYTES(descriptor));
+    case 1:
+        return task(next(), 1, 0, 0x01, tag);
+    default:
+        return command(next(), 1, 0);
+    }
+}
+
+static uint32_t made(enum call call, uint64_t tag, size_t msg_len)
+{
+    uint64_t *port = lent_words(PORT), *answer = lent_words(ANSWER);
+    uint8_t *buf = lent(BUF);
+    switch (call) {
+    case TAKE:
+        return srp_target_take(port, lent(STORE), lent(MSG), msg_len, lent(OUT), 0, lent(IN), 0, buf, 132, answer);
+    case PLAN:
+        return srp_target_plan(port, tag, (uint32_t)next(), (uint32_t)next());
+    case STEP_OUT:
+    case STEP_IN:
+        return srp_target_step(port, lent(STORE), tag, call == STEP_IN, answer);
+    case FINISH:
+        return srp_target_finish(port, tag, 0x02, lent(SENSE), 96, buf, 132, answer);
+    case ADD:
+        return srp_target_add(port, 1);
+    case GRANT:
+        return srp_target_grant(port, buf, 132, answer);
+    case WITHDRAW:
+        return srp_target_withdraw(port, 1);
+    case LIST:
+        return srp_target_list(port, lent_words(RECORDS), SRP_LIST_WORDS, answer);
+    case COUNTERS:
+        return srp_target_counters(port, answer);
+    case CLOSE:
+        return srp_target_close(port, (uint32_t)next(), buf, 132, answer);
+    default:
+        return srp_target_login(port, (const uint32_t *)(const void *)lent(SETTINGS), lent(OWN), lent(MSG), msg_len,
+                                buf, 132, answer);
+    }
+}
+
+static void one_call(enum call call, uint64_t tag, struct bytes msg)
+{
+    lay(MSG, msg.at, msg.len);
+    lay(BUF, NULL, 0);
+    lay(ANSWER, NULL, 0);
+    lay(RECORDS, NULL, 0);
+    begin();
+    judge(call, made(call, tag, msg.len));
+}
+
+/* W in 1 to 16, A + H at most 16, D = W - A - H; and H commands are listed. */
+static int in_ranges(void)
+{
+    uint64_t c[SRP_ANSWER_WORDS], l[SRP_ANSWER_WORDS], *records = lent_words(RECORDS);
+    uint32_t counted = srp_target_counters(lent_words(PORT), c);
+    uint32_t listed = srp_target_list(lent_words(PORT), records, SRP_LIST_WORDS, l);
+    if (counted)
+        return counted == SRP_REFUSED_CLOSED && listed == SRP_REFUSED_CLOSED;
+    return listed == 0 && c[0] >= 1 && c[0] <= 16 && c[1] + c[2] <= 16 && c[3] == c[0] - c[1] - c[2] && l[0] == c[2];
+}
+
+/* Some calls on one arbitrary port, then a close; the tags are those that it lists, as far as it does. */
+static void some_calls(void)
+{
+    unsigned i;
+    for (i = 0; i < 31; i++) {
+        uint64_t tag;
+        lay(RECORDS, NULL, 0);
+        if (!in_ranges())
+            fail("any words", "counters or listing out of their ranges");
+        tag = lent_words(RECORDS)[SRP_RECORD_WORDS * (i % 4)];
+        one_call(i < 30 ? (enum call)(i % CLOSE) : CLOSE, tag, some_message(tag));
+    }
+}
+
+/* A login on arbitrary words; N is 0 to 17. */
+static void some_login(void)
+{
+    const uint32_t settings[SRP_SETTINGS] = {(uint32_t)(next() % 18), M, SRP_LONGEST_AGREED, 1, 1};
+    lay(SETTINGS, settings, sizeof settings);
+    lay(OWN, own_identifier, sizeof own_identifier);
+    one_call(LOGIN, 0, login_request(next(), SRP_LONGEST_AGREED, 0x0006, 0, own_identifier));
+    if (!in_ranges())
+        fail("any words, login", "counters or listing out of their ranges");
+}
+
+/* Words that are all 0 are a closed port. */
+static void all_zero(void)
+{
+    static const uint64_t zeros[SRP_PORT_WORDS];
+    lay(PORT, zeros, sizeof zeros);
+    take("words of 0", SRP_REFUSED_CLOSED, NOTHING, command(1, 0, 0), NO_BYTES, NO_BYTES, 132);
+    plan("words of 0", SRP_REFUSED_CLOSED, 0, 0, 0);
+    step("words of 0", SRP_REFUSED_CLOSED, NOTHING, 0, 0);
+    finish("words of 0", SRP_REFUSED_CLOSED, NOTHING, 0, 0, NO_BYTES, 132);
+    add("words of 0", SRP_REFUSED_CLOSED, 1);
+    withdraw("words of 0", SRP_REFUSED_CLOSED, 1);
+    grant("words of 0", SRP_REFUSED_CLOSED, NOTHING, 132);
+    close_channel("words of 0", SRP_REFUSED_CLOSED, NOTHING, 0, 132);
+    counters("words of 0", SRP_REFUSED_CLOSED, 0, 0, 0, 0);
+    list("words of 0", SRP_REFUSED_CLOSED, SRP_LIST_WORDS, 0, NULL);
+}
+
+/* A port's words and its store may be copied together between calls. */
+static void copied(void)
+{
+    static uint64_t port[SRP_PORT_WORDS];
+    static uint8_t store[SRP_STORE_BYTES];
+    static const uint8_t direct[16] = {0, 0, 0, 0, 0, 0, 0x10, 0, 0, 0, 0, 7, 0, 0, 0x05, 0x14};
+    opened(2, M);
+    taken("before the copy", command_with(5, 0, 0x01, 0, 0, BYTES(direct)));
+    memcpy(port, lent(PORT), sizeof port);
+    memcpy(store, lent(STORE), sizeof store);
+    opened(1, 1);
+    lay(PORT, port, sizeof port);
+    lay(STORE, store, sizeof store);
+    plan("after the copy", 0, 5, 0, 1300);
+    piece("after the copy", 5, 1, 7, 0x1000, 512, 0);
+}
+
+void any_words_cases(void)
+{
+    unsigned i;
+    state = 0x9e3779b97f4a7c15;
+    for (i = 0; i < 200; i++) {
+        arbitrary_port();
+        some_calls();
+        arbitrary_port();
+        some_login();
+    }
+    all_zero();
+    copied();
+}

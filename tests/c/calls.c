@@ -1,0 +1,246 @@
+#include <string.h>
+
+#include "calls.h"
+
+/* The header's declarations have these types and no other. */
+static uint64_t (*const words_of_header)(void) = srp_target_words;
+static uint32_t (*const login_of_header)(uint64_t *, const uint32_t *, const uint8_t *, const uint8_t *, size_t,
+                                         uint8_t *, size_t, uint64_t *) = srp_target_login;
+static uint32_t (*const take_of_header)(uint64_t *, uint8_t *, const uint8_t *, size_t, const uint8_t *, size_t,
+                                        const uint8_t *, size_t, uint8_t *, size_t, uint64_t *) = srp_target_take;
+static uint32_t (*const plan_of_header)(uint64_t *, uint64_t, uint32_t, uint32_t) = srp_target_plan;
+static uint32_t (*const step_of_header)(uint64_t *, const uint8_t *, uint64_t, uint32_t, uint64_t *) = srp_target_step;
+static uint32_t (*const finish_of_header)(uint64_t *, uint64_t, uint8_t, const uint8_t *, size_t, uint8_t *, size_t,
+                                          uint64_t *) = srp_target_finish;
+static uint32_t (*const add_of_header)(uint64_t *, uint32_t) = srp_target_add;
+static uint32_t (*const withdraw_of_header)(uint64_t *, uint32_t) = srp_target_withdraw;
+static uint32_t (*const grant_of_header)(uint64_t *, uint8_t *, size_t, uint64_t *) = srp_target_grant;
+static uint32_t (*const close_of_header)(uint64_t *, uint32_t, uint8_t *, size_t, uint64_t *) = srp_target_close;
+static uint32_t (*const counters_of_header)(const uint64_t *, uint64_t *) = srp_target_counters;
+static uint32_t (*const list_of_header)(const uint64_t *, uint64_t *, size_t, uint64_t *) = srp_target_list;
+static uint32_t (*const look_of_header)(const uint8_t *, size_t, uint32_t, uint32_t, uint8_t *, size_t) = srp_look;
+static uint32_t (*const cut_of_header)(const uint8_t *, size_t, uint32_t, uint32_t, uint32_t, uint8_t *,
+                                       size_t) = srp_cut;
+
+const uint8_t own_identifier[16] = {0x21, 0x22, 0x23, 0x24, 0x25, 0x26, 0x27, 0x28,
+                                    0x29, 0x2a, 0x2b, 0x2c, 0x2d, 0x2e, 0x2f, 0x30};
+
+enum { PORT_BYTES = 8 * SRP_PORT_WORDS, ANSWER_BYTES = 8 * SRP_ANSWER_WORDS };
+
+/* What the port's words must be. */
+static void judge_port(const char *name, enum words_after port)
+{
+    static const uint8_t closed[PORT_BYTES];
+    if (port == CLOSED)
+        expect(PORT, 0, closed, PORT_BYTES);
+    if (port == OTHER && !changed(PORT, PORT_BYTES))
+        fail(name, "the port is as it was");
+    if (port == OTHER || port == ANY)
+        let_change(PORT, PORT_BYTES);
+}
+
+static void judge(const char *name, uint32_t returned, uint32_t number, const struct after *after)
+{
+    judge_port(name, after->port);
+    expect(ANSWER, 0, after->answer, ANSWER_BYTES);
+    if (after->message)
+        expect(BUF, 0, after->message, after->answer[0]);
+    compare(name, returned, number);
+}
+
+static void lend_answers(void)
+{
+    lay(BUF, NULL, 0);
+    lay(ANSWER, NULL, 0);
+    begin();
+}
+
+void look(const char *name, uint32_t number, const uint8_t *answer, struct bytes msg, uint32_t agreed,
+          uint32_t formats, size_t buf_len)
+{
+    uint32_t returned;
+    lay(MSG, msg.at, msg.len);
+    lend_answers();
+    returned = look_of_header(lent(MSG), msg.len, agreed, formats, lent(BUF), buf_len);
+    if (answer)
+        expect(BUF, 0, answer, SRP_ANSWER_BYTES);
+    compare(name, returned, number);
+}
+
+void cut(const char *name, uint32_t number, const uint8_t *answer, struct bytes list, uint32_t m, uint32_t r,
+         uint32_t handed, size_t buf_len)
+{
+    uint32_t returned;
+    lay(SEGMENTS, list.at, list.len);
+    lend_answers();
+    returned = cut_of_header(lent(SEGMENTS), list.len, m, r, handed, lent(BUF), buf_len);
+    if (answer)
+        expect(BUF, 0, answer, SRP_ANSWER_BYTES);
+    compare(name, returned, number);
+}
+
+void login(const char *name, uint32_t number, struct after after, const uint32_t *settings, struct bytes msg,
+           size_t buf_len)
+{
+    uint32_t returned;
+    if (words_of_header() != SRP_PORT_WORDS)
+        fail(name, "another number of words");
+    lay(PORT, NULL, 0);
+    lay(SETTINGS, settings, SRP_SETTINGS * sizeof *settings);
+    lay(OWN, own_identifier, sizeof own_identifier);
+    lay(MSG, msg.at, msg.len);
+    lend_answers();
+    returned = login_of_header(lent_words(PORT), (const uint32_t *)(const void *)lent(SETTINGS), lent(OWN), lent(MSG),
+                               msg.len, lent(BUF), buf_len, lent_words(ANSWER));
+    judge(name, returned, number, &after);
+}
+
+void take(const char *name, uint32_t number, struct after after, struct bytes msg, struct bytes out, struct bytes in,
+          size_t buf_len)
+{
+    uint32_t returned;
+    lay(MSG, msg.at, msg.len);
+    lay(OUT, out.at, out.len);
+    lay(IN, in.at, in.len);
+    lend_answers();
+    returned = take_of_header(lent_words(PORT), lent(STORE), lent(MSG), msg.len, lent(OUT), out.len, lent(IN), in.len,
+                              lent(BUF), buf_len, lent_words(ANSWER));
+    if (after.answer[1] == SRP_KIND_COMMAND)
+        let_change(STORE, SRP_STORE_BYTES);
+    judge(name, returned, number, &after);
+}
+
+/* A call without an answer: nothing is altered but, where it is not refused, the port. */
+static void judge_plain(const char *name, uint32_t returned, uint32_t number)
+{
+    judge_port(name, number ? SAME : OTHER);
+    compare(name, returned, number);
+}
+
+void plan(const char *name, uint32_t number, uint64_t tag, uint32_t r_out, uint32_t r_in)
+{
+    begin();
+    judge_plain(name, plan_of_header(lent_words(PORT), tag, r_out, r_in), number);
+}
+
+void step(const char *name, uint32_t number, struct after after, uint64_t tag, uint32_t direction)
+{
+    lend_answers();
+    judge(name, step_of_header(lent_words(PORT), lent(STORE), tag, direction, lent_words(ANSWER)), number, &after);
+}
+
+void finish(const char *name, uint32_t number, struct after after, uint64_t tag, uint8_t status, struct bytes sense,
+            size_t buf_len)
+{
+    uint32_t returned;
+    lay(SENSE, sense.at, sense.len);
+    lend_answers();
+    returned = finish_of_header(lent_words(PORT), tag, status, lent(SENSE), sense.len, lent(BUF), buf_len,
+                                lent_words(ANSWER));
+    judge(name, returned, number, &after);
+}
+
+void add(const char *name, uint32_t number, uint32_t k)
+{
+    begin();
+    judge_plain(name, add_of_header(lent_words(PORT), k), number);
+}
+
+void withdraw(const char *name, uint32_t number, uint32_t k)
+{
+    begin();
+    judge_plain(name, withdraw_of_header(lent_words(PORT), k), number);
+}
+
+void grant(const char *name, uint32_t number, struct after after, size_t buf_len)
+{
+    lend_answers();
+    judge(name, grant_of_header(lent_words(PORT), lent(BUF), buf_len, lent_words(ANSWER)), number, &after);
+}
+
+void close_channel(const char *name, uint32_t number, struct after after, uint32_t reason, size_t buf_len)
+{
+    lend_answers();
+    judge(name, close_of_header(lent_words(PORT), reason, lent(BUF), buf_len, lent_words(ANSWER)), number, &after);
+}
+
+void counters(const char *name, uint32_t number, uint64_t w, uint64_t a, uint64_t h, int64_t d)
+{
+    struct after after = {SAME, {w, a, h, (uint64_t)d}, NULL};
+    lend_answers();
+    judge(name, counters_of_header(lent_words(PORT), lent_words(ANSWER)), number, &after);
+}
+
+/* Whether the records listed are the expected ones in some order. */
+static int is_arrangement(const uint64_t *listed, const uint64_t (*records)[SRP_RECORD_WORDS], size_t count)
+{
+    size_t i, j;
+    unsigned seen = 0;
+    for (i = 0; i < count; i++) {
+        for (j = 0; j < count; j++) {
+            int same = memcmp(listed + SRP_RECORD_WORDS * i, records[j], sizeof records[j]) == 0;
+            if (same && !(seen & 1u << j)) {
+                seen |= 1u << j;
+                break;
+            }
+        }
+        if (j == count)
+            return 0;
+    }
+    return 1;
+}
+
+void list(const char *name, uint32_t number, size_t words, size_t count, const uint64_t (*records)[SRP_RECORD_WORDS])
+{
+    struct after after = {SAME, {count}, NULL};
+    uint32_t returned;
+    lay(RECORDS, NULL, 0);
+    lend_answers();
+    returned = list_of_header(lent_words(PORT), lent_words(RECORDS), words, lent_words(ANSWER));
+    if (!is_arrangement(lent_words(RECORDS), records, count))
+        fail(name, "other records");
+    let_change(RECORDS, 8 * SRP_RECORD_WORDS * count);
+    judge(name, returned, number, &after);
+}
+
+void opened(uint32_t n, uint32_t m)
+{
+    struct bytes request = login_request(9, SRP_LONGEST_AGREED, 0x0006, CRSOLNT | LOSOLNT, own_identifier);
+    struct after after = {OTHER, {52, 0}, login_response(n, 9, SRP_LONGEST_AGREED, 0x0006, 0x10)};
+    lay(STORE, NULL, 0);
+    login("login", 0, after, SETTINGS_OF(n, m, SRP_LONGEST_AGREED, 1, 1), request, SRP_MESSAGE_BYTES);
+}
+
+static uint64_t number_at(const uint8_t *bytes, size_t at)
+{
+    uint64_t value = 0;
+    size_t i;
+    for (i = 0; i < 8; i++)
+        value = value << 8 | bytes[at + i];
+    return value;
+}
+
+void taken(const char *name, struct bytes msg)
+{
+    uint64_t cdb = 16 + 4 * (uint64_t)(msg.at[31] >> 2);
+    struct after after = {OTHER, {0, SRP_KIND_COMMAND, number_at(msg.at, 8), number_at(msg.at, 20), 32, cdb}, NULL};
+    take(name, 0, after, msg, NO_BYTES, NO_BYTES, SRP_MESSAGE_BYTES);
+}
+
+void piece(const char *name, uint64_t tag, uint32_t direction, uint64_t handle, uint64_t address, uint64_t length,
+           uint64_t offset)
+{
+    uint64_t operation = direction ? SRP_RDMA_WRITE : SRP_RDMA_READ;
+    step(name, 0, (struct after){OTHER, {1, operation, handle, address, length, offset}, NULL}, tag, direction);
+}
+
+void done(const char *name, uint64_t tag, uint32_t direction)
+{
+    step(name, 0, NOTHING, tag, direction);
+}
+
+void finished(const char *name, uint64_t tag, uint32_t delta, struct residuals residuals)
+{
+    struct after after = {OTHER, {36}, response(0, delta, tag, 0, residuals, NO_BYTES)};
+    finish(name, 0, after, tag, 0, NO_BYTES, SRP_MESSAGE_BYTES);
+}

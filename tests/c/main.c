@@ -1,0 +1,23 @@
+/* Drives every call of the header and compares every byte of all that was lent. */
+#include "cases.h"
+#include "lent.h"
+
+int main(void)
+{
+    look_cases();
+    cut_cases();
+    login_cases();
+    take_cases();
+    table_cases();
+    task_cases();
+    transfer_cases();
+    finish_cases();
+    credit_cases();
+    list_cases();
+    any_words_cases();
+    no_memory_cases();
+    readme_lines();
+    points();
+    exchange();
+    return tell();
+}

@@ -1,0 +1,79 @@
+/* srp_target_plan and srp_target_step. */
+#include "calls.h"
+#include "cases.h"
+
+enum { N = 3, M = 512, TAG = 0x1234 };
+
+/* Both ways direct: out 1000h/1,300 with handle 7, in 5000h/700 with handle 9. */
+static const uint8_t both[32] = {
+    0, 0, 0, 0, 0, 0, 0x10, 0, 0, 0, 0, 7, 0, 0, 0x05, 0x14,
+    0, 0, 0, 0, 0, 0, 0x50, 0, 0, 0, 0, 9, 0, 0, 0x02, 0xbc,
+};
+
+static void both_open(void)
+{
+    opened(N, M);
+    taken("both ways", command_with(TAG, 0, 0x11, 0, 0, BYTES(both)));
+}
+
+/* R 650 out, 90 in; M 512. Exchanged, it would give
+ *   r_out and r_in               a first piece of 90 bytes out, 512 in
+ *   tag and a length             24
+ *   direction and tag of a step  24 */
+static void arguments(void)
+{
+    both_open();
+    plan("plan", 0, TAG, 650, 90);
+    piece("first out", TAG, SRP_DIRECTION_OUT, 7, 0x1000, 512, 0);
+    piece("all in", TAG, SRP_DIRECTION_IN, 9, 0x5000, 90, 0);
+    piece("last out", TAG, SRP_DIRECTION_OUT, 7, 0x1200, 138, 512);
+    done("done out", TAG, SRP_DIRECTION_OUT);
+    done("done in", TAG, SRP_DIRECTION_IN);
+    done("done again", TAG, SRP_DIRECTION_OUT);
+}
+
+/* Every direction but 0 is in. */
+static void directions(void)
+{
+    both_open();
+    plan("plan", 0, TAG, 650, 700);
+    piece("direction 2", TAG, 2, 9, 0x5000, 512, 0);
+    piece("direction 2^31", TAG, 0x80000000, 9, 0x5200, 188, 512);
+    done("direction 256", TAG, 0x100);
+}
+
+/* R of 0, and R above B. */
+static void lengths(void)
+{
+    both_open();
+    plan("plan", 0, TAG, 0, 0xffffffff);
+    done("R = 0", TAG, SRP_DIRECTION_OUT);
+    piece("R above B", TAG, SRP_DIRECTION_IN, 9, 0x5000, 512, 0);
+    piece("R above B", TAG, SRP_DIRECTION_IN, 9, 0x5200, 188, 512);
+    done("R above B", TAG, SRP_DIRECTION_IN);
+}
+
+/* 21 before 24; 24 before 30 and 29. */
+static void refusals(void)
+{
+    both_open();
+    step("step 29", SRP_REFUSED_UNPLANNED, NOTHING, TAG, 0);
+    step("step 29, in", SRP_REFUSED_UNPLANNED, NOTHING, TAG, 1);
+    step("step 24", SRP_REFUSED_TAG_NOT_OPEN, NOTHING, TAG + 1, 0);
+    plan("plan 24", SRP_REFUSED_TAG_NOT_OPEN, TAG + 1, 1, 1);
+    plan("plan 24, high half of the tag", SRP_REFUSED_TAG_NOT_OPEN, TAG | 1ull << 32, 1, 1);
+    plan("plan", 0, TAG, 0, 0);
+    plan("plan 30", SRP_REFUSED_PLANNED, TAG, 1, 1);
+    done("the first plan stands", TAG, 0);
+    close_channel("close", 0, (struct after){CLOSED, {16}, target_logout(1, 0)}, 0, 132);
+    plan("plan 21", SRP_REFUSED_CLOSED, TAG, 1, 1);
+    step("step 21", SRP_REFUSED_CLOSED, NOTHING, TAG, 0);
+}
+
+void transfer_cases(void)
+{
+    arguments();
+    directions();
+    lengths();
+    refusals();
+}

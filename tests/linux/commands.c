@@ -1,0 +1,175 @@
+/* Commands: taken, planned, stepped, finished. */
+#include <string.h>
+
+#include "decode.h"
+#include "events.h"
+#include "outside.h"
+#include "port.h"
+#include "random.h"
+#include "tally.h"
+
+static void is_fetch(const uint8_t *bytes, const struct side *s)
+{
+    uint32_t length = fetched_length(s);
+    struct srp_direct_buf d;
+    memcpy(&d, bytes, sizeof d);
+    same("look", "va", GET(d.va), length ? s->table_address : 0);
+    same("look", "key", GET(d.key), length ? s->table_handle : 0);
+    same("look", "len", GET(d.len), length);
+}
+
+static void look_first(const struct channel *c, const struct request *r)
+{
+    uint8_t fetches[SRP_ANSWER_BYTES];
+    uint32_t returned = srp_look(port.msg, port.msg_len, c->agreed, c->formats, fetches, sizeof fetches);
+    same("look", "returned", returned, 0);
+    is_fetch(fetches, &r->out);
+    is_fetch(fetches + sizeof(struct srp_direct_buf), &r->in);
+}
+
+static void count_side(const struct side *s)
+{
+    if (s->format == SRP_DATA_DESC_DIRECT)
+        count(DIRECT);
+    if (s->format == SRP_DATA_DESC_INDIRECT)
+        count(s->copies == s->entries ? INDIRECT_WHOLE : INDIRECT_FETCHED);
+}
+
+static void count_command(const struct request *r)
+{
+    count_side(&r->out);
+    count_side(&r->in);
+    if (r->out.format && r->in.format)
+        count(BOTH_WAYS);
+    if (r->more_cdb)
+        count(LONG_CDBS);
+}
+
+void new_command(struct channel *c)
+{
+    struct request r;
+    if (c->announced <= 0)
+        return;
+    any_command(&r, c);
+    port.msg_len = build_command(port.msg, &r);
+    look_first(c, &r);
+    build_table(port.tables[0], &r.out);
+    build_table(port.tables[1], &r.in);
+    same("SRP_CMD", "returned", take_message(fetched_length(&r.out), fetched_length(&r.in)), 0);
+    answered("SRP_CMD", (const uint64_t[SRP_ANSWER_WORDS]){0, SRP_KIND_COMMAND, r.tag, r.lun,
+                                                           offsetof(struct srp_cmd, cdb), 16 + 4 * r.more_cdb});
+    kept_from("SRP_CMD", 0);
+    begin_request(c);
+    c->commands[c->held++] = r;
+    count_command(&r);
+}
+
+/* Taken, answered and ended in one call. */
+void bad_command(struct channel *c)
+{
+    struct response a = {.flags = SRP_RSP_FLAG_RSPVALID, .has_code = 1, .code = FIELDS_INVALID};
+    struct request r;
+    int spoilt;
+    if (c->announced <= 0)
+        return;
+    any_command(&r, c);
+    build_table(port.tables[0], &r.out);
+    build_table(port.tables[1], &r.in);
+    spoilt = spoil(&r.out, port.tables[0]);
+    spoilt |= one_in(3) || !spoilt ? spoil(&r.in, port.tables[1]) : 0;
+    if (!spoilt)
+        return;
+    port.msg_len = build_command(port.msg, &r);
+    look_first(c, &r);
+    same("bad fields", "returned", take_message(fetched_length(&r.out), fetched_length(&r.in)), SRP_REFUSED_FIELDS);
+    answered("bad fields", (const uint64_t[SRP_ANSWER_WORDS]){40});
+    kept_from("bad fields", 40);
+    begin_request(c);
+    a.tag = r.tag;
+    a.delta = delta_after(c);
+    a.solnt = r.notification & UCSOLNT;
+    is_rsp("SRP_RSP to bad fields", port.buf, port.answer[0], &a);
+    count(BAD_FIELDS);
+}
+
+static struct request *any_open(struct channel *c)
+{
+    return c->held ? &c->commands[from_to(0, c->held - 1)] : NULL;
+}
+
+void plan_one(struct channel *c)
+{
+    struct request *r = any_open(c);
+    if (!r || r->planned)
+        return;
+    r->out.required = any_required(&r->out);
+    r->in.required = any_required(&r->in);
+    r->planned = 1;
+    same("plan", "returned", srp_target_plan(port.words, r->tag, r->out.required, r->in.required), 0);
+}
+
+static void step_once(const struct channel *c, uint64_t tag, struct side *s, uint32_t in)
+{
+    struct piece p;
+    lend();
+    same("step", "returned", srp_target_step(port.words, port.store, tag, in, port.answer), 0);
+    if (!next_piece(s, c->longest_piece, &p)) {
+        answered("done", (const uint64_t[SRP_ANSWER_WORDS]){0});
+        return;
+    }
+    answered("piece", (const uint64_t[SRP_ANSWER_WORDS]){1, in ? SRP_RDMA_WRITE : SRP_RDMA_READ, p.handle, p.address,
+                                                         p.length, p.offset});
+    s->moved += p.length;
+    count(PIECES);
+}
+
+void step_some(struct channel *c)
+{
+    struct request *r = any_open(c);
+    uint32_t in = from_to(0, 1), steps = from_to(1, 8);
+    if (!r || !r->planned)
+        return;
+    while (steps--)
+        step_once(c, r->tag, in ? &r->in : &r->out, in);
+}
+
+/* Flags and counts of the residuals. */
+static void put_residuals(struct response *a, const struct request *r)
+{
+    int out = residual(&r->out, &a->out), in = residual(&r->in, &a->in);
+    a->flags |= out > 0 ? SRP_RSP_FLAG_DOOVER : out < 0 ? SRP_RSP_FLAG_DOUNDER : 0;
+    a->flags |= in > 0 ? SRP_RSP_FLAG_DIOVER : in < 0 ? SRP_RSP_FLAG_DIUNDER : 0;
+    if (out)
+        count(out > 0 ? OUT_OVER : OUT_UNDER);
+    if (in)
+        count(in > 0 ? IN_OVER : IN_UNDER);
+    if (!out && !in)
+        count(NO_RESIDUAL);
+}
+
+void finish_one(struct channel *c)
+{
+    struct request *r = any_open(c);
+    uint8_t sense[SRP_SENSE_BYTES];
+    struct response a = {.sense = sense};
+    if (!r)
+        return;
+    any_bytes(sense, sizeof sense);
+    a.tag = r->tag;
+    a.status = one_in(2) ? 0 : one_in(2) ? 0x02 : (uint8_t)any_number();
+    a.sense_len = a.status == 0x02 ? from_to(0, SRP_SENSE_BYTES) : 0;
+    a.solnt = r->notification & (a.status ? UCSOLNT : SCSOLNT);
+    a.flags = a.sense_len ? SRP_RSP_FLAG_SNSVALID : 0;
+    put_residuals(&a, r);
+    drop(c, r);
+    a.delta = delta_after(c);
+    lend();
+    same("finish", "returned", srp_target_finish(port.words, a.tag, a.status, sense, a.sense_len, port.buf,
+                                                 SRP_MESSAGE_BYTES, port.answer), 0);
+    answered("finish", (const uint64_t[SRP_ANSWER_WORDS]){36 + a.sense_len});
+    kept_from("finish", 36 + a.sense_len);
+    is_rsp("SRP_RSP of finish", port.buf, port.answer[0], &a);
+    count(FINISHED);
+    if (a.sense_len)
+        count(WITH_SENSE);
+}

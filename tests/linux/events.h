@@ -1,0 +1,24 @@
+/* What happens on a channel, each event with its message built or decoded and compared. */
+#ifndef EVENTS_H
+#define EVENTS_H
+
+#include "model.h"
+
+/* A login that is accepted, after any that are rejected. */
+void open_channel(struct channel *c);
+
+/* Each does nothing where the channel's state has no place for it. */
+void new_command(struct channel *c);
+void bad_command(struct channel *c);
+void plan_one(struct channel *c);
+void step_some(struct channel *c);
+void finish_one(struct channel *c);
+void manage(struct channel *c);
+void change_buffers(struct channel *c);
+void grant_credit(struct channel *c);
+void answer_grant(struct channel *c);
+
+/* The channel ends: the initiator's logout, the owner's close, or a message that draws a logout. */
+void end_channel(struct channel *c);
+
+#endif

@@ -1,0 +1,83 @@
+#include "model.h"
+
+uint32_t buffer_length(const struct side *s)
+{
+    uint32_t sum = 0;
+    unsigned i;
+    for (i = 0; i < s->entries; i++)
+        sum += s->segments[i].length;
+    return sum;
+}
+
+uint32_t fetched_length(const struct side *s)
+{
+    uint32_t length = s->table_length;
+    int whole = length % 16 == 0 && length >= 16 && length <= 512;
+    return s->format == 2 && whole && length != 16 * s->copies ? length : 0;
+}
+
+int next_piece(const struct side *s, uint32_t longest, struct piece *p)
+{
+    uint32_t b = buffer_length(s), end = s->required < b ? s->required : b, within = s->moved;
+    const struct segment *segment = s->segments;
+    if (s->moved >= end)
+        return 0;
+    while (within >= segment->length)
+        within -= segment++->length;
+    p->address = segment->address + within;
+    p->handle = segment->handle;
+    p->offset = s->moved;
+    p->length = segment->length - within;
+    if (p->length > longest)
+        p->length = longest;
+    if (p->length > end - s->moved)
+        p->length = end - s->moved;
+    return 1;
+}
+
+int residual(const struct side *s, uint32_t *count)
+{
+    uint32_t b = buffer_length(s);
+    *count = 0;
+    if (s->required > b) {
+        *count = s->required - b;
+        return 1;
+    }
+    if (s->moved < b) {
+        *count = b - s->moved;
+        return -1;
+    }
+    return 0;
+}
+
+int64_t owed(const struct channel *c)
+{
+    return c->wanted - c->announced - c->held;
+}
+
+void begin_request(struct channel *c)
+{
+    c->announced--;
+}
+
+uint32_t delta_after(struct channel *c)
+{
+    int64_t d = owed(c);
+    uint32_t delta = d > 0 ? (uint32_t)d : 0;
+    c->announced += delta;
+    return delta;
+}
+
+struct request *find(struct channel *c, uint64_t tag)
+{
+    unsigned i;
+    for (i = 0; i < c->held; i++)
+        if (c->commands[i].tag == tag)
+            return &c->commands[i];
+    return NULL;
+}
+
+void drop(struct channel *c, struct request *r)
+{
+    *r = c->commands[--c->held];
+}

@@ -1,0 +1,69 @@
+#include <string.h>
+
+#include "outside.h"
+#include "port.h"
+#include "tally.h"
+
+struct port port;
+
+enum { FILL = 0xa5 };
+
+void lend(void)
+{
+    memset(port.buf, FILL, sizeof port.buf);
+    memset(port.answer, FILL, sizeof port.answer);
+}
+
+void answered(const char *name, const uint64_t *words)
+{
+    unsigned i;
+    for (i = 0; i < SRP_ANSWER_WORDS; i++)
+        same(name, "word of the answer", port.answer[i], words[i]);
+}
+
+void kept_from(const char *name, size_t len)
+{
+    while (len < sizeof port.buf && port.buf[len] == FILL)
+        len++;
+    same(name, "first byte written past the message", len, sizeof port.buf);
+}
+
+uint32_t take_message(uint32_t out_len, uint32_t in_len)
+{
+    lend();
+    return srp_target_take(port.words, port.store, port.msg, port.msg_len, port.tables[0], out_len, port.tables[1],
+                           in_len, port.buf, SRP_MESSAGE_BYTES, port.answer);
+}
+
+/* Each open command is listed once: as many as are open, all of them open, none twice. */
+static void agree_listing(struct channel *c)
+{
+    uint64_t records[SRP_LIST_WORDS];
+    unsigned i, seen = 0;
+    same("list", "returned", srp_target_list(port.words, records, SRP_LIST_WORDS, port.answer), 0);
+    same("list", "how many", port.answer[0], c->held);
+    for (i = 0; i < c->held; i++) {
+        const uint64_t *record = records + SRP_RECORD_WORDS * i;
+        struct request *r = find(c, record[0]);
+        same("list", "tag open", r != NULL, 1);
+        if (!r)
+            continue;
+        same("list", "seen before", seen >> (r - c->commands) & 1, 0);
+        seen |= 1u << (r - c->commands);
+        same("list", "LUN", record[1], r->lun);
+        same("list", "out", record[2], r->out.moved);
+        same("list", "in", record[3], r->in.moved);
+        count(LISTED);
+    }
+}
+
+void agree(struct channel *c)
+{
+    uint32_t returned = srp_target_counters(port.words, port.answer);
+    same("counters", "returned", returned, c->open ? 0 : SRP_REFUSED_CLOSED);
+    if (!c->open)
+        return;
+    answered("counters", (const uint64_t[SRP_ANSWER_WORDS]){(uint64_t)c->wanted, (uint64_t)c->announced, c->held,
+                                                            (uint64_t)owed(c)});
+    agree_listing(c);
+}

@@ -1,0 +1,62 @@
+#include <stdio.h>
+#include <string.h>
+
+#include "tally.h"
+
+static const char *const names[TALLIES] = {
+    "SRP_LOGIN_RSP", "SRP_LOGIN_REJ", "SRP_RSP of finish", "SRP_RSP to a task request", "SRP_RSP to bad fields",
+    "SRP_CRED_REQ", "SRP_T_LOGOUT of take", "SRP_T_LOGOUT of close",
+    "sense", "out over", "out under", "in over", "in under", "no residual",
+    "SRP_LOGIN_REQ", "SRP_TSK_MGMT", "SRP_CRED_RSP", "SRP_I_LOGOUT",
+    "direct", "indirect, all copied", "indirect, fetched", "both ways", "additional CDB",
+    "RDMA operation", "record",
+};
+static unsigned tallies[TALLIES], comparisons, failures;
+
+void count(enum tally t)
+{
+    tallies[t]++;
+}
+
+void same(const char *message, const char *field, uint64_t got, uint64_t wanted)
+{
+    comparisons++;
+    if (got == wanted)
+        return;
+    if (failures++ < 20)
+        printf("FAILED %s: %s is %llx, not %llx\n", message, field, (unsigned long long)got,
+               (unsigned long long)wanted);
+}
+
+void same_bytes(const char *message, const char *field, const void *got, const void *wanted, size_t len)
+{
+    same(message, field, len && memcmp(got, wanted, len) != 0, 0);
+}
+
+void all_zero(const char *message, const char *field, const void *got, size_t len)
+{
+    const uint8_t *bytes = got;
+    uint8_t any = 0;
+    while (len--)
+        any |= *bytes++;
+    same(message, field, any, 0);
+}
+
+int tell(unsigned exchanges, unsigned least)
+{
+    unsigned decoded = 0, fewest = tallies[0];
+    int t;
+    for (t = 0; t < TALLIES; t++) {
+        if (tallies[t] < least) {
+            printf("FAILED %s: came up %u times, fewer than %u\n", names[t], tallies[t], least);
+            failures++;
+        }
+        if (tallies[t] < fewest)
+            fewest = tallies[t];
+        if (t <= CLOSINGS)
+            decoded += tallies[t];
+    }
+    printf("Linux srp.h: %u exchanges, %u messages decoded, %u RDMA operations, each kind at least %u times, "
+           "%u comparisons, %u failed\n", exchanges, decoded, tallies[PIECES], fewest, comparisons, failures);
+    return failures ? 1 : 0;
+}

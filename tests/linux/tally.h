@@ -1,0 +1,30 @@
+/* Comparisons, and how often each kind of case came up. */
+#ifndef TALLY_H
+#define TALLY_H
+
+#include <stddef.h>
+#include <stdint.h>
+
+enum tally {
+    /* messages decoded */
+    LOGIN_RSPS, LOGIN_REJS, FINISHED, TASK_ANSWERS, BAD_FIELDS, CRED_REQS, HANG_UPS, CLOSINGS,
+    /* of those of finish */
+    WITH_SENSE, OUT_OVER, OUT_UNDER, IN_OVER, IN_UNDER, NO_RESIDUAL,
+    /* messages built that are no command; descriptors and additional CDBs of commands */
+    LOGIN_REQS, TASKS, CRED_RSPS, I_LOGOUTS, DIRECT, INDIRECT_WHOLE, INDIRECT_FETCHED, BOTH_WAYS, LONG_CDBS,
+    /* answers */
+    PIECES, LISTED,
+    TALLIES
+};
+
+void count(enum tally t);
+
+/* A field of a message, or a word of an answer, and what it must be. */
+void same(const char *message, const char *field, uint64_t got, uint64_t wanted);
+void same_bytes(const char *message, const char *field, const void *got, const void *wanted, size_t len);
+void all_zero(const char *message, const char *field, const void *got, size_t len);
+
+/* Prints the result; the program's exit status: 1 where a comparison failed or a tally is below `least`. */
+int tell(unsigned exchanges, unsigned least);
+
+#endif

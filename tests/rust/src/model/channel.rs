@@ -1,0 +1,106 @@
+//! The port: closed, or an open channel with its credit and its open commands.
+
+use super::command::Request;
+use super::cutting::sum_of_lengths;
+
+/// "Without an accepted login it is closed": None.
+#[derive(Clone, Debug, Default, PartialEq, Eq)]
+pub struct Port {
+    pub channel: Option<Channel>,
+}
+
+#[derive(Clone, Debug, PartialEq, Eq)]
+pub struct Channel {
+    pub agreement: Agreement,
+    pub credit: Credit,
+    /// A credit request is unanswered.
+    pub unanswered: bool,
+    pub commands: Vec<OpenCommand>,
+}
+
+/// What the login settled for good.
+#[derive(Clone, Copy, Debug, PartialEq, Eq)]
+pub struct Agreement {
+    /// The agreed length: the requested one.
+    pub length: u32,
+    /// The agreed formats: the required ones.
+    pub formats: u32,
+    /// M.
+    pub longest_piece: u32,
+    pub crsolnt: bool,
+    pub losolnt: bool,
+}
+
+/// "Whole numbers: W wanted buffers, A announced and unused, H requests held, D owed (may be negative)."
+#[derive(Clone, Copy, Debug, PartialEq, Eq)]
+pub struct Credit {
+    pub wanted: i64,
+    pub announced: i64,
+    pub held: i64,
+    pub owed: i64,
+}
+
+#[derive(Clone, Debug, PartialEq, Eq)]
+pub struct OpenCommand {
+    pub request: Request,
+    pub data_out: Transfer,
+    pub data_in: Transfer,
+    pub planned: bool,
+}
+
+/// One direction of an open command.
+#[derive(Clone, Debug, PartialEq, Eq)]
+pub struct Transfer {
+    /// The segments, as the bytes of memory descriptors.
+    pub segments: Vec<u8>,
+    /// R; "unplanned: R = 0".
+    pub required: u32,
+    /// Bytes handed out.
+    pub moved: u32,
+}
+
+impl Credit {
+    /// "After login W = A = N, H = D = 0."
+    pub fn after_login(n: u32) -> Self {
+        Credit { wanted: i64::from(n), announced: i64::from(n), held: 0, owed: 0 }
+    }
+
+    /// "Taking a request: A - 1, H + 1."
+    pub fn request_taken(&mut self) {
+        self.announced -= 1;
+        self.held += 1;
+    }
+
+    /// "A request ends when it is answered or aborted: H - 1, D + 1."
+    pub fn request_ends(&mut self) {
+        self.held -= 1;
+        self.owed += 1;
+    }
+
+    /// "Each SRP_RSP and SRP_CRED_REQ carries delta = the larger of D and 0, after the endings of that call; then
+    /// A + delta, D - delta."
+    pub fn carry_delta(&mut self) -> u32 {
+        let delta = self.owed.max(0);
+        self.announced += delta;
+        self.owed -= delta;
+        delta as u32
+    }
+}
+
+impl Channel {
+    /// The place of the open command with that tag.
+    pub fn place_of(&self, tag: u64) -> Option<usize> {
+        self.commands.iter().position(|command| command.request.tag == tag)
+    }
+}
+
+impl Transfer {
+    pub fn new(segments: Vec<u8>) -> Self {
+        Transfer { segments, required: 0, moved: 0 }
+    }
+
+    /// B.
+    pub fn length(&self) -> u64 {
+        sum_of_lengths(&self.segments)
+    }
+}

@@ -1,0 +1,71 @@
+//! Look and the cut in their C forms.
+
+use super::{cut, look, Refusal};
+
+/// "In C the answer takes 32 bytes (a shorter buffer draws 1 first)."
+pub const ANSWER_BYTES: usize = 32;
+
+/// Look in its C form: "look's two fetches, out then in, length F".
+pub fn look_in_c(msg: &[u8], agreed: u32, formats: u32, buf: &mut [u8]) -> u32 {
+    answer(buf, || {
+        let fetches = look(msg, agreed, formats)?;
+        let mut bytes = [0; ANSWER_BYTES];
+        bytes[0..16].copy_from_slice(&fetches.data_out.to_bytes());
+        bytes[16..32].copy_from_slice(&fetches.data_in.to_bytes());
+        Ok(bytes)
+    })
+}
+
+/// The cut in its C form: "the piece and then its offset (4 bytes)"; "done .. and unused bytes are 0".
+pub fn cut_in_c(list: &[u8], m: u32, r: u32, handed: u32, buf: &mut [u8]) -> u32 {
+    answer(buf, || {
+        let mut bytes = [0; ANSWER_BYTES];
+        if let Some(piece) = cut(list, m, r, handed)? {
+            bytes[0..16].copy_from_slice(&piece.memory.to_bytes());
+            bytes[16..20].copy_from_slice(&piece.offset.to_be_bytes());
+        }
+        Ok(bytes)
+    })
+}
+
+/// "Every other refusal returns its number and alters nothing."
+fn answer(buf: &mut [u8], outcome: impl FnOnce() -> Result<[u8; ANSWER_BYTES], Refusal>) -> u32 {
+    if buf.len() < ANSWER_BYTES {
+        return Refusal::ShortBuffer.number();
+    }
+    match outcome() {
+        Ok(bytes) => {
+            buf[..ANSWER_BYTES].copy_from_slice(&bytes);
+            0
+        }
+        Err(refusal) => refusal.number(),
+    }
+}
+
+#[cfg(test)]
+mod tests {
+    use super::*;
+    use crate::rows::{self, CutRow, LookRow};
+
+    // The rows through this version: where a row fails through the C interface and not here, the library is wrong.
+
+    #[test]
+    fn look_rows() {
+        rows::run(&[("look", 292)], "the model", |words| {
+            let row = LookRow::read(words);
+            let mut buf = vec![row.fill; row.lent];
+            let returned = look_in_c(&row.msg, row.agreed, row.formats, &mut buf);
+            row.answer.compare(returned, &buf, row.fill)
+        });
+    }
+
+    #[test]
+    fn cut_rows() {
+        rows::run(&[("cut", 267)], "the model", |words| {
+            let row = CutRow::read(words);
+            let mut buf = vec![row.fill; row.lent];
+            let returned = cut_in_c(&row.list, row.m, row.r, row.handed, &mut buf);
+            row.answer.compare(returned, &buf, row.fill)
+        });
+    }
+}

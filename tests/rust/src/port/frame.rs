@@ -1,0 +1,111 @@
+//! What is true of every call of the library, whatever words and bytes it is given: what it must leave as it was, and
+//! what a closed port is. Checked without the model, and of garbage too.
+
+use super::call::{Call, Outcome, UNWRITTEN};
+use crate::interface::{PORT_WORDS, STORE_BYTES};
+use crate::model::Refusal;
+
+/// A port as its owner keeps it.
+#[derive(Clone)]
+pub struct Memory {
+    pub words: Vec<u64>,
+    pub store: Vec<u8>,
+}
+
+impl Default for Memory {
+    /// Before its first login a port's memory may hold anything.
+    fn default() -> Self {
+        Memory { words: vec![0x1111_2222_3333_4444; PORT_WORDS], store: vec![0xee; STORE_BYTES] }
+    }
+}
+
+impl Memory {
+    /// The store, for a call that is lent it.
+    pub fn lent_to(&self, call: &Call) -> &[u8] {
+        if call.has_store() {
+            &self.store
+        } else {
+            &[]
+        }
+    }
+}
+
+/// "Every other refusal returns its number and alters nothing": all but take's 10 and those that hang up. A login makes
+/// a port whatever its outcome.
+fn alters_nothing(call: &Call, returned: u32) -> bool {
+    match call {
+        Call::Login { .. } => false,
+        Call::Take { .. } => returned != 0 && returned != 10 && !Refusal::hangs_up(returned),
+        _ => returned != 0,
+    }
+}
+
+/// Whether the port is closed by this call.
+fn closes(call: &Call, outcome: &Outcome) -> bool {
+    match call {
+        Call::Login { .. } => outcome.returned != 0 || outcome.answer[1] != 0,
+        Call::Take { .. } => Refusal::hangs_up(outcome.returned) || outcome.answer[1] == 4,
+        Call::Close { .. } => outcome.returned == 0,
+        _ => false,
+    }
+}
+
+/// "The store is written for a command taken, and for nothing else."
+fn writes_store(call: &Call, outcome: &Outcome) -> bool {
+    matches!(call, Call::Take { .. }) && outcome.returned == 0 && outcome.answer[1] == 1
+}
+
+/// Calls that leave the port as it was where they are not refused: the two that only read, and a step that says done.
+fn only_reads(call: &Call, outcome: &Outcome) -> bool {
+    match call {
+        Call::Counters | Call::List { .. } => true,
+        Call::Step { .. } => outcome.answer[0] == 0,
+        _ => false,
+    }
+}
+
+/// Bytes that the call says it has written to the lent buffer.
+fn written(call: &Call, outcome: &Outcome) -> usize {
+    if call.buf().is_empty() || !call.has_answer() {
+        0
+    } else {
+        outcome.answer[0] as usize
+    }
+}
+
+/// A port's words and its store, before and after a call.
+pub struct Change<'a> {
+    pub words: [&'a [u64]; 2],
+    pub store: [&'a [u8]; 2],
+}
+
+/// Panics where the call changed what it must leave.
+pub fn check(call: &Call, outcome: &Outcome, change: &Change) {
+    let fail = |what: &str| panic!("{what}\n{call:02x?}\n{outcome:02x?}");
+    let same_words = change.words[0] == change.words[1];
+    let same_store = change.store[0] == change.store[1];
+    if alters_nothing(call, outcome.returned) {
+        if !same_words || !same_store || outcome.buf != call.buf() || outcome.records != call.records() {
+            fail("a refusal that alters nothing altered something");
+        }
+        if call.has_answer() && outcome.answer != [0; 8] {
+            fail("a refusal without a message has an answer");
+        }
+    }
+    if !call.has_answer() && outcome.answer != UNWRITTEN {
+        fail("the answer words were written by a call that has none");
+    }
+    if !writes_store(call, outcome) && !same_store {
+        fail("the store was written, and no command was taken");
+    }
+    if only_reads(call, outcome) && !same_words {
+        fail("a call that only reads wrote the port");
+    }
+    let written = written(call, outcome);
+    if written > call.buf().len() || outcome.buf[written..] != call.buf()[written..] {
+        fail("a byte past the message was written");
+    }
+    if closes(call, outcome) && change.words[1].iter().any(|&word| word != 0) {
+        fail("a closed port's words are not all 0");
+    }
+}

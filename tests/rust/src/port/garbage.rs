@@ -1,0 +1,148 @@
+//! Calls on words that no login made. "The calls are total: any words are a port": each returns, and what `frame` says
+//! holds; the numbers that are read lie in document 01's ranges.
+
+use super::call::{Call, Outcome, Target};
+use super::frame::Memory;
+use super::generate::Generator;
+use super::heap::Heap;
+use super::kinds;
+use super::library::Library;
+use crate::model;
+use crate::random::Random;
+use crate::tally::Tally;
+
+/// A target whose memory can be overwritten.
+pub trait InMemory: Target {
+    fn memory(&mut self) -> &mut Memory;
+}
+
+impl InMemory for Library {
+    fn memory(&mut self) -> &mut Memory {
+        &mut self.memory
+    }
+}
+
+impl InMemory for Heap {
+    fn memory(&mut self) -> &mut Memory {
+        &mut self.memory
+    }
+}
+
+pub struct Garbage<T> {
+    target: T,
+    /// A port like the target's before its memory was overwritten; calls are chosen by it.
+    guide: model::Port,
+    generator: Generator,
+    random: Random,
+    pub tally: Tally,
+}
+
+impl<T: InMemory> Garbage<T> {
+    pub fn new(target: T, seed: u64) -> Self {
+        Garbage {
+            target,
+            guide: model::Port::default(),
+            generator: Generator::new(seed),
+            random: Random::new(!seed),
+            tally: Tally::default(),
+        }
+    }
+
+    /// Makes a port of garbage, and some calls on it.
+    pub fn round(&mut self) {
+        self.make_port();
+        for _ in 0..16 {
+            let call = self.generator.call(&self.guide);
+            let outcome = self.target.call(&call);
+            self.assert_lawful(&call, &outcome);
+            self.tally.add(kinds::outcome(&call, &outcome));
+            let open = self.assert_ranges();
+            if matches!(call, Call::Login { .. }) || !open && self.random.one_in(3) {
+                return;
+            }
+        }
+    }
+
+    fn make_port(&mut self) {
+        let manner = self.random.below(8);
+        if manner >= 4 || self.guide.channel.is_none() {
+            self.real_port();
+        }
+        let random = &mut self.random;
+        let memory = self.target.memory();
+        match manner {
+            0 => memory.words.fill_with(|| random.u64()),
+            1 => memory.words.fill_with(|| random.up_to(2)),
+            2 => memory.words.fill_with(|| random.up_to(40)),
+            3 => memory.words.fill_with(|| number(random)),
+            _ => {
+                for _ in 0..random.of(&[1, 1, 2, 4, 8, 40]) {
+                    let at = random.below(memory.words.len());
+                    memory.words[at] = number(random);
+                }
+            }
+        }
+        if random.one_in(3) {
+            memory.store = random.bytes(memory.store.len());
+        }
+    }
+
+    /// An open port, as some calls after a login leave it.
+    fn real_port(&mut self) {
+        self.guide = model::Port::default();
+        let calls = 4 + self.random.below(40);
+        let mut made = 0;
+        while made < calls || self.guide.channel.is_none() {
+            let call = self.generator.call(&self.guide);
+            self.guide.call(&call);
+            self.target.call(&call);
+            made += 1;
+        }
+    }
+
+    /// An outcome that the call has on some port, and messages of their lengths.
+    fn assert_lawful(&self, call: &Call, outcome: &Outcome) {
+        let kind = kinds::outcome(call, outcome);
+        assert!(kinds::OUTCOMES.contains(&kind.as_str()), "{kind}: {call:02x?}\n{outcome:02x?}");
+        if let (Call::Take { .. }, returned) = (call, outcome.returned) {
+            let length = match (returned, outcome.answer[1]) {
+                (0, 2) | (10, _) => 40,
+                (0 | 1 | 9 | 21, _) => 0,
+                _ => 16,
+            };
+            assert_eq!(outcome.answer[0], length, "{call:02x?}\n{outcome:02x?}");
+        }
+        if let (Call::Step { direction, .. }, [1, operation, _, _, length, ..]) = (call, outcome.answer) {
+            assert_eq!(operation, if *direction == 0 { 1 } else { 2 }, "RDMA Read or Write");
+            assert!((1..=1_048_576).contains(&length), "a piece of {length} bytes");
+        }
+    }
+
+    /// "W stays in 1 to 16"; A and H are at most 16 together; A + H + D = W; as many commands are listed as H says.
+    /// Whether the port is open.
+    fn assert_ranges(&mut self) -> bool {
+        let counters = self.target.call(&Call::Counters);
+        let listed = self.target.call(&Call::List { records: vec![0x5b; 70] });
+        assert_eq!(counters.returned, listed.returned, "open, or closed");
+        if counters.returned != 0 {
+            assert_eq!(counters.returned, 21);
+            return false;
+        }
+        let [w, a, h, d, rest @ ..] = counters.answer.map(|word| word as i64);
+        assert!((1..=16).contains(&w) && a >= 0 && h >= 0 && a + h <= 16, "{counters:x?}");
+        assert_eq!((a + h + d, rest), (w, [0; 4]), "{counters:x?}");
+        assert_eq!(listed.answer[0], h as u64, "H, and how many are listed");
+        assert!(listed.records[4 * h as usize..].iter().all(|&word| word == 0x5b), "the rest of the list");
+        true
+    }
+}
+
+/// A word that code might stumble over.
+fn number(random: &mut Random) -> u64 {
+    match random.below(4) {
+        0 => random.u64(),
+        1 => random.up_to(40),
+        2 => random.of(&[511, 512, 513, 1364, 1365, 16_383, 16_384, 1 << 20, 1 << 31, 1 << 32, 1 << 60, 1 << 63]),
+        _ => random.of(&[u64::MAX, u64::MAX - 1, u64::from(u32::MAX), u64::MAX << 4, 1 << 32 | 16, 255, 256, 3]),
+    }
+}

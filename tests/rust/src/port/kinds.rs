@@ -1,0 +1,285 @@
+//! Names for what a call came to, so that a tally shows that all of it came up.
+
+use super::call::{Call, Outcome};
+use crate::model::{number, Channel, Command, Port};
+
+/// The outcomes that calls have, one a call: a refusal, or what the call gave.
+pub const OUTCOMES: [&str; 65] = [
+    "login: accepted",
+    "login: rejected 10000",
+    "login: rejected 10002",
+    "login: rejected 10003",
+    "login: rejected 10004",
+    "login: rejected 10005",
+    "login: refused 1",
+    "login: refused 2",
+    "login: refused 3",
+    "login: refused 4",
+    "take: command",
+    "take: task, code 0",
+    "take: task, code 2",
+    "take: task, code 4",
+    "take: credit response",
+    "take: logout",
+    "take: refused 1",
+    "take: refused 3",
+    "take: refused 4",
+    "take: refused 5",
+    "take: refused 6",
+    "take: refused 7",
+    "take: refused 8",
+    "take: refused 9",
+    "take: refused 10",
+    "take: refused 21",
+    "take: refused 22",
+    "take: refused 23",
+    "take: refused 25",
+    "plan: done",
+    "plan: refused 21",
+    "plan: refused 24",
+    "plan: refused 30",
+    "step: RDMA Read",
+    "step: RDMA Write",
+    "step: done",
+    "step: refused 21",
+    "step: refused 24",
+    "step: refused 29",
+    "finish: done",
+    "finish: refused 1",
+    "finish: refused 11",
+    "finish: refused 21",
+    "finish: refused 24",
+    "add: done",
+    "add: refused 11",
+    "add: refused 21",
+    "add: refused 28",
+    "withdraw: done",
+    "withdraw: refused 11",
+    "withdraw: refused 21",
+    "withdraw: refused 28",
+    "grant: done",
+    "grant: refused 1",
+    "grant: refused 21",
+    "grant: refused 26",
+    "grant: refused 27",
+    "close: done",
+    "close: refused 1",
+    "close: refused 21",
+    "counters: done",
+    "counters: refused 21",
+    "list: done",
+    "list: refused 11",
+    "list: refused 21",
+];
+
+pub fn outcome(call: &Call, outcome: &Outcome) -> String {
+    let name = call.name();
+    if outcome.returned != 0 {
+        return format!("{name}: refused {}", outcome.returned);
+    }
+    match (call, outcome.answer) {
+        (Call::Login { .. }, [_, 0, ..]) => "login: accepted".into(),
+        (Call::Login { .. }, [_, reason, ..]) => format!("login: rejected {reason:x}"),
+        (Call::Take { .. }, [_, 1, ..]) => "take: command".into(),
+        (Call::Take { .. }, [_, 2, ..]) => format!("take: task, code {:x}", outcome.buf[39]),
+        (Call::Take { .. }, [_, 3, ..]) => "take: credit response".into(),
+        (Call::Take { .. }, [_, 4, ..]) => "take: logout".into(),
+        (Call::Step { .. }, [1, 1, ..]) => "step: RDMA Read".into(),
+        (Call::Step { .. }, [1, 2, ..]) => "step: RDMA Write".into(),
+        _ => format!("{name}: done"),
+    }
+}
+
+/// Further kinds, several a call: what a command was like, why it was refused, what a message says.
+pub const FEATURES: [&str; 72] = [
+    "SRP_CRED_REQ, delta above 1",
+    "SRP_CRED_REQ, delta 1",
+    "SRP_CRED_REQ, notified",
+    "SRP_LOGIN_REJ",
+    "SRP_LOGIN_RSP",
+    "SRP_RSP, delta 0",
+    "SRP_RSP, delta 1",
+    "SRP_RSP, delta above 1",
+    "SRP_RSP, notified",
+    "SRP_RSP, sense",
+    "SRP_RSP, sense of 96 bytes",
+    "SRP_T_LOGOUT, notified",
+    "SRP_T_LOGOUT, reason 0",
+    "SRP_T_LOGOUT, reason 6",
+    "SRP_T_LOGOUT, reason 7",
+    "SRP_T_LOGOUT, reason 8",
+    "SRP_T_LOGOUT, reason 9",
+    "SRP_T_LOGOUT, another reason",
+    "command, formats 0 and 0",
+    "command, formats 0 and 1",
+    "command, formats 0 and 2",
+    "command, formats 1 and 0",
+    "command, formats 1 and 1",
+    "command, formats 1 and 2",
+    "command, formats 2 and 0",
+    "command, formats 2 and 1",
+    "command, formats 2 and 2",
+    "command, in table fetched",
+    "command, longer CDB",
+    "command, out table fetched",
+    "command, the 16th",
+    "finish, in over",
+    "finish, in under",
+    "finish, no residual",
+    "finish, out over",
+    "finish, out under",
+    "finish, unplanned",
+    "function 1 aborts 0",
+    "function 1 aborts 1",
+    "function 2 aborts 0",
+    "function 2 aborts 1",
+    "function 2 aborts several",
+    "function 4 aborts 0",
+    "function 4 aborts 1",
+    "function 4 aborts several",
+    "function 8 aborts 0",
+    "function 8 aborts 1",
+    "function 8 aborts several",
+    "owed: 0",
+    "owed: above 0",
+    "owed: below 0",
+    "refused 10, in Copy",
+    "refused 10, in PastTheEnd",
+    "refused 10, in TableLength",
+    "refused 10, in Total",
+    "refused 10, out Copy",
+    "refused 10, out PastTheEnd",
+    "refused 10, out TableLength",
+    "refused 10, out Total",
+    "refused 22, command",
+    "refused 22, task",
+    "refused 23, command",
+    "refused 23, task",
+    "refused 25, another tag",
+    "refused 25, unexpected",
+    "refused 3, command not exact",
+    "refused 3, command of 16 to 47",
+    "refused 3, credit response",
+    "refused 3, logout",
+    "refused 3, over the agreed length",
+    "refused 3, task",
+    "refused 3, under 16",
+];
+
+/// The features of a call, by the port before it.
+pub fn features(call: &Call, outcome: &Outcome, before: &Port) -> Vec<String> {
+    let mut found = Vec::new();
+    if let (Call::Take { msg, tables, .. }, Some(channel)) = (call, &before.channel) {
+        match outcome.returned {
+            0 if outcome.answer[1] == 1 => found.extend(of_command(msg, tables, channel)),
+            0 if outcome.answer[1] == 2 => found.extend(of_task(msg, channel)),
+            0 | 1 | 9 => {}
+            10 => found.extend(of_bad_fields(msg, tables, channel)),
+            refusal => found.extend(of_hang_up(refusal, msg, channel)),
+        }
+    }
+    if let (Call::Finish { tag, .. }, Some(channel), 0) = (call, &before.channel, outcome.returned) {
+        found.extend(of_residuals(&outcome.buf, *tag, channel));
+    }
+    if matches!(call, Call::Counters) && outcome.returned == 0 {
+        let sign = ["below 0", "0", "above 0"][((outcome.answer[3] as i64).signum() + 1) as usize];
+        found.push(format!("owed: {sign}"));
+    }
+    if !call.buf().is_empty() && outcome.answer[0] > 0 {
+        found.extend(of_message(outcome.message()));
+    }
+    found
+}
+
+fn of_command(msg: &[u8], tables: &[Vec<u8>; 2], channel: &Channel) -> Vec<String> {
+    let mut found = vec![format!("command, formats {} and {}", msg[5] >> 4, msg[5] & 0x0f)];
+    let kinds = [
+        (!tables[0].is_empty(), "command, out table fetched"),
+        (!tables[1].is_empty(), "command, in table fetched"),
+        (msg[31] >> 2 != 0, "command, longer CDB"),
+        (channel.commands.len() == 15, "command, the 16th"),
+    ];
+    found.extend(kinds.into_iter().filter(|(fits, _)| *fits).map(|(_, kind)| kind.into()));
+    found
+}
+
+/// How many commands the task request aborts.
+fn of_task(msg: &[u8], channel: &Channel) -> Option<String> {
+    let (function, lun, task_tag) = (msg[30], number(&msg[20..28]), number(&msg[32..40]));
+    let of_lun = channel.commands.iter().filter(|command| command.request.lun == lun);
+    let aborted = match function {
+        1 => of_lun.filter(|command| command.request.tag == task_tag).count(),
+        2 | 4 | 8 => of_lun.count(),
+        _ => return None,
+    };
+    let many = ["0", "1", "several"][aborted.min(2)];
+    Some(format!("function {function} aborts {many}"))
+}
+
+fn of_bad_fields(msg: &[u8], [out, inn]: &[Vec<u8>; 2], channel: &Channel) -> Vec<String> {
+    let Ok(command) = Command::read(msg, channel.agreement.formats) else {
+        return vec!["refused 10, not a command".into()];
+    };
+    let bad = [("out", command.data_out.bad_field(out)), ("in", command.data_in.bad_field(inn))];
+    bad.into_iter().filter_map(|(side, bad)| bad.map(|bad| format!("refused 10, {side} {bad:?}"))).collect()
+}
+
+fn of_hang_up(refusal: u32, msg: &[u8], channel: &Channel) -> Option<String> {
+    let kind = match (refusal, msg.first()) {
+        (3, _) if msg.len() < 16 => "refused 3, under 16",
+        (3, _) if msg.len() > channel.agreement.length as usize => "refused 3, over the agreed length",
+        (3, Some(1)) => "refused 3, task",
+        (3, Some(2)) if msg.len() < 48 => "refused 3, command of 16 to 47",
+        (3, Some(2)) => "refused 3, command not exact",
+        (3, Some(3)) => "refused 3, logout",
+        (3, _) => "refused 3, credit response",
+        (22, Some(1)) => "refused 22, task",
+        (22, _) => "refused 22, command",
+        (23, Some(1)) => "refused 23, task",
+        (23, _) => "refused 23, command",
+        (25, _) if channel.unanswered => "refused 25, another tag",
+        (25, _) => "refused 25, unexpected",
+        _ => return None,
+    };
+    Some(kind.into())
+}
+
+fn of_residuals(buf: &[u8], tag: u64, channel: &Channel) -> Vec<String> {
+    let planned = channel.place_of(tag).is_some_and(|place| channel.commands[place].planned);
+    let flags = buf[18];
+    let kinds = [
+        (!planned, "finish, unplanned"),
+        (flags & 0b11_1100 == 0, "finish, no residual"),
+        (flags & 1 << 2 != 0, "finish, out over"),
+        (flags & 1 << 3 != 0, "finish, out under"),
+        (flags & 1 << 4 != 0, "finish, in over"),
+        (flags & 1 << 5 != 0, "finish, in under"),
+    ];
+    kinds.into_iter().filter(|(fits, _)| *fits).map(|(_, kind)| kind.into()).collect()
+}
+
+fn of_message(message: &[u8]) -> Vec<String> {
+    let name = match message[0] {
+        0x80 => "SRP_T_LOGOUT",
+        0x81 => "SRP_CRED_REQ",
+        0xc0 => "SRP_LOGIN_RSP",
+        0xc1 => "SRP_RSP",
+        0xc2 => "SRP_LOGIN_REJ",
+        _ => "another message",
+    };
+    let mut found = match (message[0], number(&message[4..8])) {
+        (0x80, reason @ (0 | 6..=9)) => vec![format!("{name}, reason {reason}")],
+        (0x80, _) => vec![format!("{name}, another reason")],
+        (0x81 | 0xc1, delta @ (0 | 1)) => vec![format!("{name}, delta {delta}")],
+        (0x81 | 0xc1, _) => vec![format!("{name}, delta above 1")],
+        _ => vec![name.into()],
+    };
+    if message[0] != 0xc0 && message[0] != 0xc2 && message[1] == 1 {
+        found.push(format!("{name}, notified"));
+    }
+    if message[0] == 0xc1 && message[18] & 1 << 1 != 0 {
+        found.push(format!("{name}, sense"));
+        found.extend((message.len() == 132).then(|| format!("{name}, sense of 96 bytes")));
+    }
+    found
+}

@@ -1,0 +1,135 @@
+//! The two-ended machine of document 01: an initiator with its limit, two queues, and a port with its owner. It "is fed
+//! the events' arguments, the calls' refusals and the messages written; of the port's state it is given D alone, as
+//! owed". Its own counts say what each message lifts, which operations are handed out, and which call is refused for
+//! what went before; what is in a command it reads with the model (`expected`). All of it is asserted of each event, as
+//! demand 3 has it, and which message is written.
+
+mod ends;
+mod expected;
+mod initiator;
+mod owner;
+mod pieces;
+
+use super::call::{Call, Outcome, Target};
+use super::kinds;
+use crate::random::Random;
+use crate::tally::Tally;
+use ends::Ends;
+
+pub struct Machine<T> {
+    target: T,
+    random: Random,
+    /// "Let the initiator send a request only with a limit of at least 1 and answer each credit request at most once."
+    fair: bool,
+    ends: Ends,
+    pub events: Tally,
+    /// What the events came to.
+    pub states: Tally,
+}
+
+/// Whether the list goes on: "closing ends the list".
+#[derive(Clone, Copy, Debug, PartialEq, Eq)]
+pub enum Channel {
+    Open,
+    Closed,
+}
+
+impl<T: Target> Machine<T> {
+    pub fn new(target: T, seed: u64) -> Self {
+        Machine {
+            target,
+            random: Random::new(seed),
+            fair: true,
+            ends: Ends::default(),
+            events: Tally::default(),
+            states: Tally::default(),
+        }
+    }
+
+    /// A list of events after an accepted login, until the channel closes or `most` have happened.
+    pub fn list(&mut self, fair: bool, most: usize) {
+        self.fair = fair;
+        self.log_in();
+        self.assert_balance();
+        for _ in 0..most {
+            if self.event() == Channel::Closed {
+                assert_eq!(self.call(&Call::Counters).returned, 21, "closed");
+                return;
+            }
+            self.assert_balance();
+        }
+    }
+
+    fn event(&mut self) -> Channel {
+        match self.random.below(100) {
+            0..=23 => self.send(),
+            24..=39 => self.deliver(),
+            40..=59 => return self.take(),
+            60..=66 => self.plan(),
+            67..=82 => self.step(),
+            83..=90 => self.finish(),
+            91..=93 => self.add(),
+            94..=96 => self.withdraw(),
+            _ => self.grant(),
+        }
+        Channel::Open
+    }
+
+    fn call(&mut self, call: &Call) -> Outcome {
+        self.target.call(call).in_order()
+    }
+
+    /// A call that is an event: it writes just the message that it has to, if any.
+    fn counted(&mut self, call: &Call) -> Outcome {
+        let outcome = self.call(call);
+        let message = if call.buf().is_empty() { &[] } else { outcome.message() };
+        let expected = self.ends.message_of(call, outcome.returned);
+        assert_eq!(message.first().copied(), expected, "the message's type byte\n{call:02x?}\n{outcome:02x?}");
+        self.events.add(kinds::outcome(call, &outcome));
+        outcome
+    }
+
+    /// "At the start and after every event .. while the channel is open, limit + requests on the way + requests held +
+    /// deltas on the way + owed = N + added - withdrawn."
+    fn assert_balance(&mut self) {
+        let counters = self.call(&Call::Counters);
+        assert_eq!(counters.returned, 0, "open");
+        let [w, a, h, d, ..] = counters.answer.map(|word| word as i64);
+        let ends = &self.ends;
+        assert_eq!(ends.first_four() + d, ends.right_side(), "limit + on the way + held + deltas + owed");
+        // "Requests held = taken - ended = commands open; H says so, and as many are listed after each call."
+        assert_eq!([w, a, h], [ends.right_side(), ends.announced(), ends.held()], "W, A, H");
+        self.states.add(format!("owed {}", ["below 0", "0", "above 0"][(d.signum() + 1) as usize]));
+        if h == 16 {
+            self.states.add("16 commands open");
+        }
+        if ends.limit < 0 {
+            self.states.add("limit below 0");
+        }
+
+        let listed = self.call(&Call::List { records: vec![0x5b; 64] });
+        let mut records: Vec<[u64; 4]> = self.ends.open.iter().map(|command| command.record()).collect();
+        records.sort_unstable();
+        let mut expected = records.concat();
+        expected.resize(64, 0x5b);
+        assert_eq!((listed.returned, listed.answer[0]), (0, records.len() as u64), "as many are listed");
+        assert_eq!(listed.records, expected, "the listing");
+    }
+}
+
+#[cfg(test)]
+mod tests {
+    use super::Machine;
+    use crate::model;
+
+    // The model through the machine: where an event fails over the library and not here, the library is wrong.
+    #[test]
+    fn the_model() {
+        let mut machine = Machine::new(model::Port::default(), 13);
+        while machine.events.total() < 100_000 {
+            machine.list(true, 1_000);
+            machine.list(false, 1_000);
+        }
+        machine.events.print_as("machine, over the model", "events");
+    }
+}

@@ -1,0 +1,126 @@
+//! Which refusal a call draws, and the type of the message that it writes. The machine's own: type and length of what is
+//! not a command, 1, 11 and all that the counts say (22 to 30). The model's: a request's tag and LUN, and of a command
+//! its refusals 3 and 5 to 8, the lengths of its tables (9), its bad fields (10) and its segments.
+
+use super::ends::Ends;
+use super::Call;
+use crate::model::command::Request;
+use crate::model::{number, Command, Refusal};
+
+/// A message that take does not refuse for what is in it.
+pub enum Message {
+    Command(Command),
+    Task { request: Request, function: u8, task_tag: u64 },
+    CreditResponse,
+    Logout,
+}
+
+impl Ends {
+    /// What a message is, or take's 3 to 8.
+    pub fn read(&self, msg: &[u8]) -> Result<Message, u32> {
+        if msg.len() < 16 || msg.len() > self.login.agreed as usize {
+            return Err(3);
+        }
+        match (msg[0], msg.len()) {
+            (0x01, 48) => {
+                Ok(Message::Task { request: Request::read(msg), function: msg[30], task_tag: number(&msg[32..40]) })
+            }
+            (0x02, _) => {
+                let command = Command::read(msg, self.login.formats).map_err(|refusal| refusal.number())?;
+                Ok(Message::Command(command))
+            }
+            (0x03, 16) => Ok(Message::Logout),
+            (0x41, 16) => Ok(Message::CreditResponse),
+            (0x01 | 0x03 | 0x41, _) => Err(3),
+            _ => Err(4),
+        }
+    }
+
+    /// Take's refusal, 0 for none: 1, 3 to 8 by what the message is, 22, 23 and 25 by the counts, then 9 and 10.
+    pub fn refusal_of_take(&self, msg: &[u8], [out, inn]: &[Vec<u8>; 2], lent: usize) -> u32 {
+        if lent < 132 {
+            return 1;
+        }
+        let command = match self.read(msg) {
+            Err(refusal) => return refusal,
+            Ok(Message::Logout) => return 0,
+            Ok(Message::CreditResponse) if self.unanswered && number(&msg[8..16]) == 1 => return 0,
+            Ok(Message::CreditResponse) => return 25,
+            Ok(Message::Task { request, .. }) => return self.refusal_of_request(&request),
+            Ok(Message::Command(command)) => command,
+        };
+        let due = [&command.data_out, &command.data_in].map(|data| data.fetch().length as usize);
+        let bad = command.data_out.bad_field(out).is_some() || command.data_in.bad_field(inn).is_some();
+        match self.refusal_of_request(&command.request) {
+            0 if [out.len(), inn.len()] != due => 9,
+            0 if bad => 10,
+            refusal => refusal,
+        }
+    }
+
+    /// The type byte of the message that a call writes, None where it writes none. Plan, step, add and withdraw are
+    /// lent no buffer for one.
+    pub fn message_of(&self, call: &Call, returned: u32) -> Option<u8> {
+        match (call, returned) {
+            (Call::Login { .. }, 0) => Some(0xc0),
+            (Call::Take { msg, .. }, 0) => matches!(self.read(msg), Ok(Message::Task { .. })).then_some(0xc1),
+            (Call::Take { .. }, 10) | (Call::Finish { .. }, 0) => Some(0xc1),
+            (Call::Take { .. }, refusal) if Refusal::hangs_up(refusal) => Some(0x80),
+            (Call::Grant { .. }, 0) => Some(0x81),
+            _ => None,
+        }
+    }
+
+    fn refusal_of_request(&self, request: &Request) -> u32 {
+        if self.announced() == 0 {
+            22
+        } else if self.place_of(request.tag).is_some() {
+            23
+        } else {
+            0
+        }
+    }
+
+    pub fn refusal_of_plan(&self, tag: u64) -> u32 {
+        self.place_of(tag).map_or(24, |place| if self.open[place].planned { 30 } else { 0 })
+    }
+
+    pub fn refusal_of_step(&self, tag: u64) -> u32 {
+        self.place_of(tag).map_or(24, |place| if self.open[place].planned { 0 } else { 29 })
+    }
+
+    pub fn refusal_of_finish(&self, tag: u64, status: u8, sense: usize, lent: usize) -> u32 {
+        if lent < 132 {
+            1
+        } else if sense > 96 || sense > 0 && status != 2 {
+            11
+        } else if self.place_of(tag).is_none() {
+            24
+        } else {
+            0
+        }
+    }
+
+    pub fn refusal_of_grant(&self, lent: usize) -> u32 {
+        if lent < 132 {
+            1
+        } else if self.unanswered {
+            26
+        } else if self.lack() <= 0 {
+            27
+        } else {
+            0
+        }
+    }
+
+    /// Of add, and of withdraw with the other sign: "W would leave 1 to 16".
+    pub fn refusal_of_change(&self, k: u32, change: i64) -> u32 {
+        if k == 0 {
+            11
+        } else if (1..=16).contains(&(self.right_side() + change)) {
+            0
+        } else {
+            28
+        }
+    }
+}

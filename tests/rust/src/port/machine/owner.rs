@@ -1,0 +1,176 @@
+//! The owner's events: the calls on the port. Each asserts the refusal that `expected` says.
+
+use super::ends::{delta, Open, Sent};
+use super::expected::Message;
+use super::pieces::Pieces;
+use super::{Call, Channel, Machine, Outcome, Target};
+use crate::model::segments;
+use crate::random::Random;
+
+/// 132 bytes or more, else too short.
+fn buffer(random: &mut Random) -> Vec<u8> {
+    let length = random.of(&[132, 132, 132, 132, 133, 140, 160, 200, 131, 16, 0]);
+    vec![0x5b; if random.one_in(2) { 132 } else { length }]
+}
+
+impl<T: Target> Machine<T> {
+    /// "Take gets that queue's front, with any tables. On refusals 1 and 9 the message stays there, else it leaves."
+    pub(super) fn take(&mut self) -> Channel {
+        let Some(Sent { msg, mut tables }) = self.ends.to_port.front().cloned() else {
+            return Channel::Open;
+        };
+        if self.random.one_in(16) {
+            tables[self.random.below(2)] = vec![0x5b; self.random.of(&[0, 16, 15])];
+        }
+        let buf = buffer(&mut self.random);
+        let expected = self.ends.refusal_of_take(&msg, &tables, buf.len());
+        let call = Call::Take { msg, tables, buf };
+        let outcome = self.counted(&call);
+        assert_eq!(outcome.returned, expected, "{call:02x?}");
+        assert!(outcome.returned != 22 || !self.fair, "a fair request drew 22");
+        if matches!(outcome.returned, 1 | 9) {
+            return Channel::Open;
+        }
+        self.ends.to_port.pop_front();
+        self.taken(&call, &outcome)
+    }
+
+    /// "A command taken is open until it ends. A task request ends in the same call, as do the open commands that it
+    /// aborts and any command that draws 10."
+    fn taken(&mut self, call: &Call, outcome: &Outcome) -> Channel {
+        let (msg, [out, inn]) = (call.input(), call.tables());
+        let Ok(message) = self.ends.read(msg) else {
+            return Channel::Closed;
+        };
+        match (outcome.returned, message) {
+            (0, Message::Command(command)) => {
+                let lists = [command.data_out.segment_list(out), command.data_in.segment_list(inn)];
+                let pieces = lists.map(|list| Pieces::new(&segments(&list).collect::<Vec<_>>()));
+                let (tag, lun) = (command.request.tag, command.request.lun);
+                self.ends.open.push(Open { tag, lun, planned: false, pieces });
+            }
+            (0, Message::Task { request, function, task_tag }) => {
+                let aborted = |command: &Open| match function {
+                    0x01 => command.tag == task_tag && command.lun == request.lun,
+                    0x02 | 0x04 | 0x08 => command.lun == request.lun,
+                    _ => false,
+                };
+                self.ends.open.retain(|command| !aborted(command));
+                self.written(outcome);
+            }
+            (0, Message::CreditResponse) => self.ends.unanswered = false,
+            (10, _) => self.written(outcome),
+            _ => return Channel::Closed,
+        }
+        Channel::Open
+    }
+
+    /// An SRP_RSP or an SRP_CRED_REQ, which the call must have written.
+    fn written(&mut self, outcome: &Outcome) {
+        let message = outcome.message();
+        let name = if message[0] == 0x81 { "SRP_CRED_REQ" } else { "SRP_RSP" };
+        let lift = ["0", "1", "more"][delta(message).unwrap_or(0).clamp(0, 2) as usize];
+        self.states.add(format!("{name} lifts {lift}"));
+        self.ends.join(message);
+    }
+
+    /// Mostly of an open command.
+    pub(super) fn tag(&mut self) -> u64 {
+        let open = &self.ends.open;
+        if open.is_empty() || self.random.one_in(12) {
+            self.random.up_to(40)
+        } else {
+            open[self.random.below(open.len())].tag
+        }
+    }
+
+    /// Mostly where bytes are still to be handed out.
+    fn tag_and_direction(&mut self) -> (u64, usize) {
+        let (tag, direction) = (self.tag(), self.random.below(2));
+        let any = [0, 1].into_iter().flat_map(|at| self.ends.open.iter().map(move |command| (command, at)));
+        let due: Vec<(u64, usize)> =
+            any.filter(|(command, at)| command.pieces[*at].are_due()).map(|(command, at)| (command.tag, at)).collect();
+        if due.is_empty() || self.random.one_in(5) {
+            (tag, direction)
+        } else {
+            due[self.random.below(due.len())]
+        }
+    }
+
+    pub(super) fn plan(&mut self) {
+        let tag = self.tag();
+        let [r_out, r_in] = [0, 1].map(|_| match self.random.below(3) {
+            0 => u32::MAX,
+            1 => self.random.below(3000) as u32,
+            _ => self.random.any_size(),
+        });
+        let outcome = self.counted(&Call::Plan { tag, r_out, r_in });
+        assert_eq!(outcome.returned, self.ends.refusal_of_plan(tag), "plan");
+        if let (0, Some(place)) = (outcome.returned, self.ends.place_of(tag)) {
+            let command = &mut self.ends.open[place];
+            command.planned = true;
+            command.pieces[0].plan(r_out);
+            command.pieces[1].plan(r_in);
+        }
+    }
+
+    /// "Each command's operations in a direction are, in order, the first of those that document 01 cuts from its own
+    /// segments .. An unrefused step says done exactly when all those of its command and direction were handed out
+    /// before it."
+    pub(super) fn step(&mut self) {
+        let (tag, direction) = self.tag_and_direction();
+        let outcome = self.counted(&Call::Step { tag, direction: direction as u32 });
+        assert_eq!(outcome.returned, self.ends.refusal_of_step(tag), "step");
+        if let (0, Some(place)) = (outcome.returned, self.ends.place_of(tag)) {
+            let expected = match self.ends.open[place].pieces[direction].next(self.ends.login.m) {
+                Some([handle, address, length, offset]) => {
+                    [1, direction as u64 + 1, handle, address, length, offset, 0, 0]
+                }
+                None => [0; 8],
+            };
+            assert_eq!(outcome.answer, expected, "the operation, or done");
+        }
+    }
+
+    /// "Unrefused, finish ends its command."
+    pub(super) fn finish(&mut self) {
+        let (tag, buf) = (self.tag(), buffer(&mut self.random));
+        let (status, length) = self.random.of(&[(0, 0), (0, 0), (0, 0), (2, 0), (2, 18), (2, 96), (2, 97), (8, 1)]);
+        let expected = self.ends.refusal_of_finish(tag, status, length, buf.len());
+        let outcome = self.counted(&Call::Finish { tag, status, sense: vec![0x70; length], buf });
+        assert_eq!(outcome.returned, expected, "finish");
+        if let (0, Some(place)) = (outcome.returned, self.ends.place_of(tag)) {
+            self.ends.open.remove(place);
+            self.written(&outcome);
+        }
+    }
+
+    pub(super) fn add(&mut self) {
+        let k = self.random.of(&[0, 1, 1, 1, 2, 3, 8, 16, u32::MAX]);
+        let outcome = self.counted(&Call::Add { k });
+        assert_eq!(outcome.returned, self.ends.refusal_of_change(k, k.into()), "add");
+        if outcome.returned == 0 {
+            self.ends.added += i64::from(k);
+        }
+    }
+
+    pub(super) fn withdraw(&mut self) {
+        let k = self.random.of(&[0, 1, 1, 1, 2, 3, 8, 16, u32::MAX]);
+        let outcome = self.counted(&Call::Withdraw { k });
+        assert_eq!(outcome.returned, self.ends.refusal_of_change(k, -i64::from(k)), "withdraw");
+        if outcome.returned == 0 {
+            self.ends.withdrawn += i64::from(k);
+        }
+    }
+
+    pub(super) fn grant(&mut self) {
+        let buf = buffer(&mut self.random);
+        let expected = self.ends.refusal_of_grant(buf.len());
+        let outcome = self.counted(&Call::Grant { buf });
+        assert_eq!(outcome.returned, expected, "grant");
+        if outcome.returned == 0 {
+            self.ends.unanswered = true;
+            self.written(&outcome);
+        }
+    }
+}

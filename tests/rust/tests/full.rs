@@ -1,0 +1,79 @@
+//! A port with all that it can hold: 16 commands of 32 segments each way, and the longest buffers.
+
+use srp_tests::generate::{list_of, Descriptor};
+use srp_tests::model::MemoryDescriptor;
+use srp_tests::port::both::Both;
+use srp_tests::port::generate::{command, Data};
+use srp_tests::port::plain::{finish, login, take};
+use srp_tests::port::{Call, Outcome};
+use srp_tests::random::Random;
+
+/// 32 segments behind a table; no two of all commands have the same address or handle.
+fn segments(random: &mut Random) -> Data {
+    let segment =
+        |_| MemoryDescriptor { address: random.u64() >> 1, handle: random.u32(), length: random.of(&[0, 1, 600]) };
+    let segments: Vec<MemoryDescriptor> = (0..32).map(segment).collect();
+    let total = segments.iter().map(|segment| segment.length).sum();
+    let table = MemoryDescriptor { address: 0x9000, handle: 8, length: 512 };
+    Data { descriptor: Descriptor::Indirect { table, total, copies: Vec::new() }, table: list_of(&segments) }
+}
+
+fn open(both: &mut Both, random: &mut Random, tag: u64) {
+    let data = [segments(random), segments(random)];
+    let msg = command(random, tag, tag % 3, 0, &data);
+    assert_eq!(both.call(&take(&msg, [&data[0].table, &data[1].table])).returned, 0, "taken");
+    assert_eq!(both.call(&Call::Plan { tag, r_out: u32::MAX, r_in: u32::MAX }).returned, 0, "planned");
+}
+
+fn step(both: &mut Both, tag: u64, direction: u32) -> Outcome {
+    let outcome = both.call(&Call::Step { tag, direction });
+    assert_eq!(outcome.returned, 0, "step");
+    outcome
+}
+
+/// Pieces are handed out for one command or another, commands end in between, and others take their place.
+#[test]
+fn sixteen_commands_of_64_segments() {
+    let (mut both, mut random) = (Both::new(31), Random::new(31));
+    both.call(&login(&mut random, 16, 512, 1364, 0b110));
+    (0..16).for_each(|tag| open(&mut both, &mut random, tag));
+    let (mut pieces, mut ended) = (0, 0);
+    for event in 0..12_000 {
+        let tag = random.up_to(15);
+        let stepped = step(&mut both, tag, random.up_to(1) as u32);
+        pieces += stepped.answer[0];
+        if event % 60 == 59 {
+            assert_eq!(both.call(&finish(tag)).returned, 0, "finished");
+            open(&mut both, &mut random, tag);
+            ended += 1;
+        }
+    }
+    println!("full port: {pieces} pieces");
+    assert!(pieces > 6_000 && ended == 200, "{pieces} pieces, {ended} ended");
+}
+
+/// All 2^32 - 1 bytes of a buffer each way, and then one way with a required length above them.
+#[test]
+fn the_longest_buffers() {
+    let (mut both, mut random) = (Both::new(32), Random::new(32));
+    let m = 1_048_576;
+    both.call(&login(&mut random, 1, m, 1364, 0b010));
+    let data = [0, 1 << 63].map(|address| {
+        let segment = MemoryDescriptor { address, handle: 7, length: u32::MAX };
+        Data { descriptor: Descriptor::Direct(segment), table: Vec::new() }
+    });
+    let msg = command(&mut random, 1, 0, 0, &data);
+    both.call(&take(&msg, [&[], &[]]));
+    both.call(&Call::Plan { tag: 1, r_out: u32::MAX, r_in: u32::MAX - 1 });
+    for direction in [0, 1] {
+        let mut moved = 0;
+        while let [1, _, _, _, length, offset, ..] = step(&mut both, 1, direction).answer {
+            assert_eq!(offset, moved, "in order");
+            moved += length;
+        }
+        assert_eq!(moved, u64::from(u32::MAX - direction), "all of it");
+    }
+    let response = both.call(&finish(1));
+    assert_eq!(response.buf[18..28], [0b10_0000, 0, 0, 0, 0, 0, 0, 0, 0, 1], "DIUNDER by 1");
+    println!("longest buffers: {} pieces", 2 * (1 << 32) / u64::from(m));
+}

@@ -1,0 +1,90 @@
+//! Demand 3: the two-ended machine over the library's port.
+
+use srp_tests::port::{library::Library, machine::Machine};
+
+const STATES: [&str; 9] = [
+    "16 commands open",
+    "SRP_CRED_REQ lifts 1",
+    "SRP_CRED_REQ lifts more",
+    "SRP_RSP lifts 0",
+    "SRP_RSP lifts 1",
+    "SRP_RSP lifts more",
+    "owed 0",
+    "owed above 0",
+    "owed below 0",
+];
+
+/// Events that come up whatever the initiator does.
+const EVENTS: [&str; 46] = [
+    "add: done",
+    "add: refused 11",
+    "add: refused 28",
+    "deliver: SRP_CRED_REQ",
+    "deliver: SRP_RSP",
+    "finish: done",
+    "finish: refused 1",
+    "finish: refused 11",
+    "finish: refused 24",
+    "grant: done",
+    "grant: refused 1",
+    "grant: refused 26",
+    "grant: refused 27",
+    "login: accepted",
+    "plan: done",
+    "plan: refused 24",
+    "plan: refused 30",
+    "send: any bytes",
+    "send: command",
+    "send: credit response",
+    "send: logout",
+    "send: task",
+    "step: RDMA Read",
+    "step: RDMA Write",
+    "step: done",
+    "step: refused 24",
+    "step: refused 29",
+    "take: command",
+    "take: credit response",
+    "take: logout",
+    "take: refused 1",
+    "take: refused 10",
+    "take: refused 23",
+    "take: refused 3",
+    "take: refused 4",
+    "take: refused 5",
+    "take: refused 6",
+    "take: refused 7",
+    "take: refused 8",
+    "take: refused 9",
+    "take: task, code 0",
+    "take: task, code 2",
+    "take: task, code 4",
+    "withdraw: done",
+    "withdraw: refused 11",
+    "withdraw: refused 28",
+];
+
+#[test]
+fn a_fair_initiator() {
+    let mut machine = Machine::new(Library::new(11), 11);
+    while machine.events.total() < 220_000 {
+        machine.list(true, 1_000);
+    }
+    machine.events.print_as("machine, a fair initiator", "events");
+    machine.states.print_as("machine, a fair initiator", "states");
+    machine.events.assert_each(12, &EVENTS);
+    machine.states.assert_each(12, &STATES);
+}
+
+#[test]
+fn an_initiator_below_its_limit() {
+    let mut machine = Machine::new(Library::new(12), 12);
+    while machine.events.total() < 150_000 {
+        machine.list(false, 1_000);
+    }
+    machine.events.print_as("machine, an initiator below its limit", "events");
+    machine.states.print_as("machine, an initiator below its limit", "states");
+    let unfair = ["send: a request below a limit of 1", "take: refused 22", "take: refused 25"];
+    machine.events.assert_each(12, &[&EVENTS[..], &unfair].concat());
+    machine.states.assert_each(12, &[&STATES[..], &["limit below 0"]].concat());
+}
