@@ -1,0 +1,82 @@
+//! What the calls on a port answer.
+
+use crate::message::Message;
+
+/// What [`Port::take`](crate::Port::take) took.
+#[derive(Clone, Copy, Debug, PartialEq, Eq)]
+#[must_use = "a task request's message is to be sent, a command to be carried out"]
+pub enum Taken<'m, 'b> {
+    /// A command, open from here on.
+    Command {
+        /// Its tag.
+        tag: u64,
+        /// Its LUN.
+        lun: u64,
+        /// The whole CDB, 16 + 4n bytes: part of the message.
+        cdb: &'m [u8],
+    },
+    /// A task request: carried out, answered and ended.
+    Task {
+        /// Its own tag.
+        tag: u64,
+        /// Its LUN.
+        lun: u64,
+        /// The SRP_RSP to be sent, in the lent buffer.
+        message: Message<'b>,
+    },
+    /// The SRP_CRED_RSP that was due.
+    Credit,
+    /// The initiator's logout: the port is closed, its commands dropped, and there is nothing to send.
+    Logout,
+}
+
+/// What an adapter does with a piece.
+#[derive(Clone, Copy, Debug, PartialEq, Eq, Hash)]
+pub enum Kind {
+    /// Data-out, fetched from the initiator's memory.
+    Read,
+    /// Data-in, brought to it.
+    Write,
+}
+
+/// An RDMA operation: a piece of a command's data in one direction.
+#[derive(Clone, Copy, Debug, PartialEq, Eq, Hash)]
+pub struct Operation {
+    /// RDMA Read or RDMA Write.
+    pub kind: Kind,
+    /// Handle of the initiator's memory.
+    pub handle: u32,
+    /// Address there.
+    pub address: u64,
+    /// Bytes, 1 to M.
+    pub length: u32,
+    /// Where the piece stands in the command's data.
+    pub offset: u32,
+}
+
+/// W, A, H and D of an open channel; A + H + D = W.
+#[derive(Clone, Copy, Debug, PartialEq, Eq, Hash)]
+pub struct Counters {
+    /// W: buffers wanted, 1 to 16.
+    pub wanted: u32,
+    /// A: announced and unused.
+    pub announced: u32,
+    /// H: requests held, which are the open commands.
+    pub held: u32,
+    /// D: owed, negative after a withdrawal of buffers that are announced.
+    pub owed: i64,
+}
+
+/// An open command in a listing.
+#[derive(Clone, Copy, Debug, Default, PartialEq, Eq, Hash)]
+#[repr(C)]
+pub struct Record {
+    /// Its tag.
+    pub tag: u64,
+    /// Its LUN.
+    pub lun: u64,
+    /// Bytes of data-out handed out.
+    pub data_out: u64,
+    /// Bytes of data-in handed out.
+    pub data_in: u64,
+}

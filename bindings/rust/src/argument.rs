@@ -1,0 +1,56 @@
+//! What the calls on a port are given.
+
+/// Settings of a login.
+#[derive(Clone, Copy, Debug, PartialEq, Eq, Hash)]
+pub struct Settings {
+    /// N: receive buffers for requests, 1 to 16. Linux's initiator keeps one for task management: then at least 2.
+    pub buffers: u32,
+    /// M: the longest RDMA operation, 1 to 1,048,576 bytes.
+    pub maximum: u32,
+    /// X: the longest message from the initiator, 64 to 1,364 bytes.
+    pub longest: u32,
+    /// Whether indirect tables, format 2, are supported.
+    pub indirect: bool,
+    /// Whether the adapter has solicited events: SOLNTSUP of SRP_LOGIN_RSP.
+    pub solicited: bool,
+}
+
+impl Settings {
+    /// In the order of the C interface.
+    pub(crate) fn words(&self) -> [u32; 5] {
+        [self.buffers, self.maximum, self.longest, self.indirect.into(), self.solicited.into()]
+    }
+}
+
+/// The tables fetched for a command, as [`look`](crate::look) names them; each has no bytes where it names none.
+#[derive(Clone, Copy, Debug, Default, PartialEq, Eq)]
+pub struct Tables<'t> {
+    /// Of data-out.
+    pub data_out: &'t [u8],
+    /// Of data-in.
+    pub data_in: &'t [u8],
+}
+
+impl Tables<'static> {
+    /// No table: for messages other than commands, and for commands without a fetch.
+    pub const NONE: Tables<'static> = Tables { data_out: &[], data_in: &[] };
+}
+
+/// A direction of a command's data.
+#[derive(Clone, Copy, Debug, PartialEq, Eq, Hash)]
+pub enum Direction {
+    /// Data-out, from the initiator: RDMA Reads.
+    Out,
+    /// Data-in, to the initiator: RDMA Writes.
+    In,
+}
+
+impl Direction {
+    /// In the C interface.
+    pub(crate) fn number(self) -> u32 {
+        match self {
+            Direction::Out => 0,
+            Direction::In => 1,
+        }
+    }
+}

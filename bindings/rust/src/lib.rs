@@ -1,0 +1,94 @@
+//! An SRP target port, one channel: the calls of the proved library libexports.a in safe Rust, `no_std`.
+//!
+//! The library reads an initiator's messages, keeps the credit between both ends and cuts the initiator's buffers into
+//! RDMA operations. The owner has the adapter, the device server and the memory: it hands messages to a [`Port`], posts
+//! the operations and sends the messages that the port writes. Document 01, whose numbers a [`Refusal`] has, describes
+//! the calls; include/srp_target.h is the same interface in C, with what an owner has to see to.
+//!
+//! For each SRP_CMD, [`look`] names the tables to fetch; then come [`Port::take`], [`Port::plan`], [`Port::pieces`] in
+//! each direction, and [`Port::finish`]. A refusal of [`Port::take`] that comes with a message carries it: see
+//! [`TakeRefusal`].
+//!
+//! A login; then a command that reads 1,300 bytes to address 1000h, handle 7, in RDMA operations of up to 512 bytes:
+//!
+//! ```
+//! use srp_target::{Direction, Kind, Port, Settings, Tables, Taken, MESSAGE_BYTES};
+//!
+//! let settings = Settings { buffers: 4, maximum: 512, longest: 1364, indirect: true, solicited: false };
+//! let own = [0xa5; 16];
+//! let mut buf = [0; MESSAGE_BYTES];
+//!
+//! let mut login = [0; 64]; // SRP_LOGIN_REQ
+//! login[15] = 1; // tag
+//! login[16..20].copy_from_slice(&1364u32.to_be_bytes()); // requested length
+//! login[25] = 0x06; // required formats: direct and indirect
+//! login[48..64].copy_from_slice(&own);
+//! let (mut port, message) = Port::login(&settings, &own, &login, &mut buf).unwrap();
+//! assert_eq!(message.len(), 52);
+//! assert_eq!(message[..8], [0xc0, 0, 0, 0, 0, 0, 0, 4]); // SRP_LOGIN_RSP, 4 requests
+//!
+//! let mut command = [0; 64]; // SRP_CMD
+//! command[0] = 0x02;
+//! command[5] = 0x01; // data-in: one memory descriptor
+//! command[15] = 9; // tag
+//! command[48..56].copy_from_slice(&0x1000u64.to_be_bytes());
+//! command[56..60].copy_from_slice(&7u32.to_be_bytes());
+//! command[60..64].copy_from_slice(&1300u32.to_be_bytes());
+//! let Ok(Taken::Command { tag, cdb, .. }) = port.take(&command, Tables::NONE, &mut buf) else { panic!() };
+//! assert_eq!((tag, cdb), (9, &command[32..48]));
+//!
+//! port.plan(tag, 0, 1300)?;
+//! let mut pieces = Vec::new();
+//! for operation in port.pieces(tag, Direction::In) {
+//!     let operation = operation?; // the owner posts it
+//!     assert_eq!((operation.kind, operation.handle), (Kind::Write, 7));
+//!     pieces.push((operation.address, operation.length, operation.offset));
+//! }
+//! assert_eq!(pieces, [(0x1000, 512, 0), (0x1200, 512, 512), (0x1400, 276, 1024)]);
+//!
+//! let message = port.finish(tag, 0x00, &[], &mut buf)?; // the owner sends it
+//! let mut response = [0; 36]; // SRP_RSP: status GOOD, no residual
+//! response[0] = 0xc1;
+//! response[7] = 1; // limit delta
+//! response[15] = 9; // tag
+//! assert_eq!(message, response);
+//! # Ok::<(), srp_target::Refusal>(())
+//! ```
+//!
+//! # Linking
+//!
+//! The build script looks for libexports.a in `SRP_LIB_DIR`, by default target/staticlib of the project, where
+//! `rt staticlib exports` writes it. The library is for x86-64; of the C library it needs memcpy, memmove, memset and
+//! memcmp at most.
+
+#![no_std]
+#![deny(unsafe_code)]
+#![warn(missing_docs)]
+
+mod answer;
+mod argument;
+#[allow(unsafe_code)]
+mod ffi;
+mod message;
+mod outcome;
+mod pieces;
+mod port;
+mod refusal;
+mod stateless;
+
+pub use answer::{Counters, Kind, Operation, Record, Taken};
+pub use argument::{Direction, Settings, Tables};
+pub use message::Message;
+pub use pieces::Pieces;
+pub use port::Port;
+pub use refusal::{LoginRefusal, NoRefusal, Refusal, TakeRefusal};
+pub use stateless::{cut, look, Fetch, Fetches, Piece};
+
+/// The longest message that a port writes, and the shortest buffer that may be lent for one.
+pub const MESSAGE_BYTES: usize = 132;
+
+/// The longest sense that a response carries.
+pub const SENSE_BYTES: usize = 96;
+
+/// The most commands that are open at once, and the shortest list that may be lent for a listing.
+pub const MOST_BUFFERS: usize = 16;

@@ -1,0 +1,54 @@
+//! The words of a call's outcome, read as answers. By the library's contract each is in its range; a refusal or a kind
+//! that is not declared panics.
+
+use crate::answer::{Kind, Operation, Taken};
+use crate::ffi::Outcome;
+use crate::message::Message;
+use crate::refusal::Refusal;
+
+/// The refusal that a call returned, if any.
+pub fn checked(number: u32) -> Result<(), Refusal> {
+    if number == 0 {
+        return Ok(());
+    }
+    Err(Refusal::try_from(number).expect("libexports.a returns document 01's refusals"))
+}
+
+/// The message that a call wrote.
+pub fn written<'b>(buf: &'b mut [u8], outcome: &Outcome) -> Message<'b> {
+    Message(&buf[..outcome.words[0] as usize])
+}
+
+/// What an unrefused take took.
+pub fn taken<'m, 'b>(outcome: &Outcome, msg: &'m [u8], message: Message<'b>) -> Taken<'m, 'b> {
+    let [_, kind, tag, lun, place, length, ..] = outcome.words;
+    match kind {
+        1 => Taken::Command { tag, lun, cdb: &msg[place as usize..][..length as usize] },
+        2 => Taken::Task { tag, lun, message },
+        3 => Taken::Credit,
+        4 => Taken::Logout,
+        _ => unreachable!("libexports.a took a message of kind {kind}"),
+    }
+}
+
+fn kind_of(number: u64) -> Kind {
+    match number {
+        1 => Kind::Read,
+        2 => Kind::Write,
+        _ => unreachable!("libexports.a handed out an operation of kind {number}"),
+    }
+}
+
+/// The operation of an unrefused step, or none where it says done.
+pub fn operation(outcome: &Outcome) -> Option<Operation> {
+    let [1, kind, handle, address, length, offset, ..] = outcome.words else {
+        return None;
+    };
+    Some(Operation {
+        kind: kind_of(kind),
+        handle: handle as u32,
+        address,
+        length: length as u32,
+        offset: offset as u32,
+    })
+}

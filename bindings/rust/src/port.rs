@@ -1,0 +1,215 @@
+//! A port: its words and its store, and the calls on it.
+
+use core::fmt;
+
+use crate::answer::{Counters, Operation, Record, Taken};
+use crate::argument::{Direction, Settings, Tables};
+use crate::ffi::{self, Outcome, Store, Words};
+use crate::message::Message;
+use crate::outcome::{checked, operation, taken, written};
+use crate::pieces::Pieces;
+use crate::refusal::{LoginRefusal, Refusal, TakeRefusal};
+
+/// One channel of an SRP target port: 400 words of state and 16,384 bytes for the descriptors of open commands.
+///
+/// Both are part of the value, so that no allocator is needed: firmware has its ports in a `static` or a pool, made by
+/// [`Port::closed`] and logged in by [`Port::renew`] where they stand; a program with a heap may box them. A port holds
+/// no address and may be moved between calls. It cannot be cloned, since each call has to get the port that the last
+/// one left.
+///
+/// Each call's refusals are listed in the order of checking; the first that hits is returned. But for [`Port::login`],
+/// [`Port::renew`] and [`Port::take`] a refusal alters nothing, neither the port nor what was lent.
+///
+/// A message is written at the start of the lent buffer, which has at least [`MESSAGE_BYTES`](crate::MESSAGE_BYTES),
+/// and is returned as that part of it, a [`Message`] to be sent; the bytes behind it are kept.
+pub struct Port {
+    words: Words,
+    store: Store,
+}
+
+impl Port {
+    /// A closed port, as before any login. [`Port::renew`] logs it in.
+    pub const fn closed() -> Port {
+        Port { words: [0; ffi::WORDS], store: [0; ffi::STORE] }
+    }
+
+    /// Makes a port from the first message of a channel, an SRP_LOGIN_REQ. `own` is the target port's identifier.
+    /// Returned with the port is the SRP_LOGIN_RSP to be sent.
+    ///
+    /// The agreed length and formats that [`look`](crate::look) needs are the message's: bytes 16-19 and 24-25.
+    ///
+    /// # Errors
+    /// Refused: 1 `buf` under 132 bytes; 2 a setting out of its range; 3 `msg` not 64 bytes; 4 its type not 00h. Then
+    /// rejected, with the first reason that fits: 0001 0000h requested length under 64; 0001 0002h above X; 0001 0004h
+    /// a required format that is not supported; 0001 0005h channel action 1; 0001 0000h channel action 2 or 3;
+    /// 0001 0003h another target identifier.
+    ///
+    /// # Panics
+    /// If the library linked is not the one that this crate declares.
+    pub fn login<'b>(
+        settings: &Settings,
+        own: &[u8; 16],
+        msg: &[u8],
+        buf: &'b mut [u8],
+    ) -> Result<(Port, Message<'b>), LoginRefusal<'b>> {
+        let mut port = Port::closed();
+        let message = port.renew(settings, own, msg, buf)?;
+        Ok((port, message))
+    }
+
+    /// [`Port::login`] in place: makes this port anew, whatever it was.
+    ///
+    /// # Errors
+    /// As [`Port::login`]. Refused or rejected, the port is closed afterwards.
+    ///
+    /// # Panics
+    /// If the library linked is not the one that this crate declares.
+    pub fn renew<'b>(
+        &mut self,
+        settings: &Settings,
+        own: &[u8; 16],
+        msg: &[u8],
+        buf: &'b mut [u8],
+    ) -> Result<Message<'b>, LoginRefusal<'b>> {
+        assert!(ffi::agrees(), "libexports.a has ports of another size");
+        let outcome = ffi::login(&mut self.words, &settings.words(), own, msg, buf);
+        checked(outcome.number).map_err(LoginRefusal::Refused)?;
+        let message = written(buf, &outcome);
+        match outcome.words[1] as u32 {
+            0 => Ok(message),
+            reason => Err(LoginRefusal::Rejected { reason, message }),
+        }
+    }
+
+    /// Takes a message from the initiator, with the tables that [`look`](crate::look) has named for it.
+    ///
+    /// # Errors
+    /// Refused: 1 `buf` under 132 bytes; 21 closed; 3 message under 16 bytes or over the agreed length; 4 another type;
+    /// 3 a command under 48 bytes; 5, 6 a format not agreed; 3 not its type's length; 7, 8 a count; 22 a request with
+    /// A = 0; 23 its tag is open; 25 an SRP_CRED_RSP that is not due or has a tag other than 1; 9 a table of another
+    /// length than the fetched one; 10 bad fields. [`TakeRefusal`] says what each leaves behind, and has its message.
+    pub fn take<'m, 'b>(
+        &mut self,
+        msg: &'m [u8],
+        tables: Tables<'_>,
+        buf: &'b mut [u8],
+    ) -> Result<Taken<'m, 'b>, TakeRefusal<'b>> {
+        let outcome = ffi::take(&mut self.words, &mut self.store, msg, tables.data_out, tables.data_in, buf);
+        let message = written(buf, &outcome);
+        match checked(outcome.number) {
+            Ok(()) => Ok(taken(&outcome, msg, message)),
+            Err(refusal) if message.is_empty() => Err(TakeRefusal::Unaltered(refusal)),
+            Err(refusal @ Refusal::Fields) => Err(TakeRefusal::Answered { refusal, message }),
+            Err(refusal) => Err(TakeRefusal::HungUp { refusal, message }),
+        }
+    }
+
+    /// States once what an open command requires: R of data-out and of data-in, from its CDB.
+    ///
+    /// # Errors
+    /// Refused: 21 closed; 24 tag not open; 30 planned already.
+    pub fn plan(&mut self, tag: u64, required_out: u32, required_in: u32) -> Result<(), Refusal> {
+        checked(ffi::plan(&mut self.words, tag, required_out, required_in))
+    }
+
+    /// Hands out the next RDMA operation of a command in a direction, or says done by none: the first min(R, B) bytes
+    /// have been handed out.
+    ///
+    /// # Errors
+    /// Refused: 21 closed; 24 tag not open; 29 not planned.
+    pub fn step(&mut self, tag: u64, direction: Direction) -> Result<Option<Operation>, Refusal> {
+        let outcome = ffi::step(&mut self.words, &self.store, tag, direction.number());
+        checked(outcome.number)?;
+        Ok(operation(&outcome))
+    }
+
+    /// The operations of a command in a direction that are still due, handed out by [`Port::step`] as the iterator is
+    /// asked for them. It ends when done, and after a refusal, which comes once. Dropped early, it leaves the rest due.
+    ///
+    /// # Errors
+    /// Its items, as [`Port::step`]. Refused: 21 closed; 24 tag not open; 29 not planned.
+    pub fn pieces(&mut self, tag: u64, direction: Direction) -> Pieces<'_> {
+        Pieces::new(self, tag, direction)
+    }
+
+    /// Ends an open command, planned or not, with its SCSI status and sense. Returned is the SRP_RSP to be sent.
+    ///
+    /// # Errors
+    /// Refused: 1 `buf` under 132 bytes; 21 closed; 11 sense above 96 bytes, or any with a status other than 02h; 24
+    /// tag not open.
+    pub fn finish<'b>(
+        &mut self,
+        tag: u64,
+        status: u8,
+        sense: &[u8],
+        buf: &'b mut [u8],
+    ) -> Result<Message<'b>, Refusal> {
+        let outcome = ffi::finish(&mut self.words, tag, status, sense, buf);
+        checked(outcome.number)?;
+        Ok(written(buf, &outcome))
+    }
+
+    /// Adds `k` receive buffers: W + k, D + k.
+    ///
+    /// # Errors
+    /// Refused: 21 closed; 11 k = 0; 28 W would be above 16.
+    pub fn add(&mut self, k: u32) -> Result<(), Refusal> {
+        checked(ffi::add(&mut self.words, k))
+    }
+
+    /// Withdraws `k` receive buffers: W - k, D - k.
+    ///
+    /// # Errors
+    /// Refused: 21 closed; 11 k = 0; 28 W would be below 1.
+    pub fn withdraw(&mut self, k: u32) -> Result<(), Refusal> {
+        checked(ffi::withdraw(&mut self.words, k))
+    }
+
+    /// Grants what is owed. Returned is the SRP_CRED_REQ to be sent; the SRP_CRED_RSP that answers it is taken.
+    ///
+    /// # Errors
+    /// Refused: 1 `buf` under 132 bytes; 21 closed; 26 the last one is unanswered; 27 D not above 0.
+    pub fn grant<'b>(&mut self, buf: &'b mut [u8]) -> Result<Message<'b>, Refusal> {
+        let outcome = ffi::grant(&mut self.words, buf);
+        checked(outcome.number)?;
+        Ok(written(buf, &outcome))
+    }
+
+    /// Closes the channel with a reason and drops its commands. Returned is the SRP_T_LOGOUT to be sent.
+    ///
+    /// # Errors
+    /// Refused: 1 `buf` under 132 bytes; 21 closed.
+    pub fn close<'b>(&mut self, reason: u32, buf: &'b mut [u8]) -> Result<Message<'b>, Refusal> {
+        let outcome = ffi::close(&mut self.words, reason, buf);
+        checked(outcome.number)?;
+        Ok(written(buf, &outcome))
+    }
+
+    /// W, A, H and D.
+    ///
+    /// # Errors
+    /// Refused: 21 closed.
+    pub fn counters(&self) -> Result<Counters, Refusal> {
+        let Outcome { number, words: [wanted, announced, held, owed, ..] } = ffi::counters(&self.words);
+        checked(number)?;
+        Ok(Counters { wanted: wanted as u32, announced: announced as u32, held: held as u32, owed: owed as i64 })
+    }
+
+    /// Lists the open commands, each once, in any order. Returned is the part of `records` that was written; the others
+    /// are kept.
+    ///
+    /// # Errors
+    /// Refused: 21 closed; 11 `records` under [`MOST_BUFFERS`](crate::MOST_BUFFERS).
+    pub fn list<'r>(&self, records: &'r mut [Record]) -> Result<&'r [Record], Refusal> {
+        let outcome = ffi::list(&self.words, records);
+        checked(outcome.number)?;
+        Ok(&records[..outcome.words[0] as usize])
+    }
+}
+
+/// Its counters.
+impl fmt::Debug for Port {
+    fn fmt(&self, f: &mut fmt::Formatter<'_>) -> fmt::Result {
+        f.debug_tuple("Port").field(&self.counters()).finish()
+    }
+}
