@@ -1,4 +1,4 @@
-.PHONY: run test bench fuzz lib
+.PHONY: run test bench instructions fuzz lib
 
 # build exchange, proved, and run it: an initiator and the port, each message and each RDMA operation a line
 run:
@@ -14,11 +14,17 @@ test:
 lib:
 	@rt staticlib exports
 
-# time look and the cut in C beside plain Rust
+# time the calls in C beside a port in plain Rust, then, with valgrind, count the instructions of both and print one
+# table: make bench [CASE="step, last"], cases by a part of their name
 bench: lib
-	@cd bench && cargo run --offline --locked --release --quiet
+	@cd bench && cargo run --offline --locked --release --quiet -- --save ../target/bench.times $(CASE)
+	@if command -v valgrind >/dev/null; then echo; bench/callgrind --times target/bench.times $(CASE); fi
 
-# compare look and the cut in C with their version in plain Rust on random calls: make fuzz SECONDS=60 [SEED=1]
+# the instructions alone, which are the same in every run
+instructions: lib
+	@bench/callgrind $(CASE)
+
+# compare the calls in C with their version in plain Rust on random arguments, and run the two-ended machine: make fuzz SECONDS=60 [SEED=1]
 SECONDS ?= 60
 fuzz: lib
 	@cd tests/rust && cargo run --offline --locked --release --quiet --bin fuzz -- $(SECONDS) $(SEED)

@@ -1,11 +1,169 @@
-//! Look and the cut in plain Rust, written for speed, with the signatures and the answers of include/srp_target.h.
+//! The calls of include/srp_target.h on the plain Rust port, with the same arguments and answers: a port is a pointer
+//! to a `Port`, and its store is not used.
+//!
+//! # Safety
+//! As the header says of the C functions. No pointer is null.
 
 use std::slice;
 
-/// As srp_look.
-///
-/// # Safety
-/// The pointers lead to as many bytes as the lengths say, and are not null.
+use crate::port::{Direction, Login, Port, Refusal, Refused, Settings, Taken};
+use crate::stateless;
+
+type Answer = *mut [u64; 8];
+
+/// Writes the words of an answer, the others 0.
+unsafe fn put<const N: usize>(answer: Answer, words: [u64; N]) {
+    let answer = unsafe { &mut *answer };
+    *answer = [0; 8];
+    answer[..N].copy_from_slice(&words);
+}
+
+fn number<T>(outcome: Result<T, Refusal>) -> u32 {
+    outcome.err().map_or(0, |refusal| refusal as u32)
+}
+
+/// The answer of a call that writes a message, and the number that it returns.
+unsafe fn wrote(outcome: Result<usize, Refusal>, answer: Answer) -> u32 {
+    unsafe { put(answer, [outcome.unwrap_or(0) as u64]) };
+    number(outcome)
+}
+
+#[inline(never)]
+pub unsafe extern "C" fn plain_login(
+    port: *mut u64,
+    settings: *const [u32; 5],
+    own: *const [u8; 16],
+    msg: *const u8,
+    msg_len: usize,
+    buf: *mut u8,
+    buf_len: usize,
+    answer: Answer,
+) -> u32 {
+    let (port, own) = unsafe { (&mut *port.cast::<Port>(), &*own) };
+    let (msg, buf) = unsafe { (slice::from_raw_parts(msg, msg_len), slice::from_raw_parts_mut(buf, buf_len)) };
+    let [buffers, max_piece, max_message, indirect, solicited] = unsafe { *settings };
+    let settings = Settings { buffers, max_piece, max_message, indirect: indirect != 0, solicited: solicited != 0 };
+    let outcome = port.login(&settings, own, msg, buf);
+    let words = match outcome {
+        Ok(Login::Accepted { wrote }) => [wrote as u64, 0],
+        Ok(Login::Rejected { reason, wrote }) => [wrote as u64, reason.into()],
+        Err(_) => [0, 0],
+    };
+    unsafe { put(answer, words) };
+    number(outcome)
+}
+
+#[inline(never)]
+pub unsafe extern "C" fn plain_take(
+    port: *mut u64,
+    _store: *mut u8,
+    msg: *const u8,
+    msg_len: usize,
+    out: *const u8,
+    out_len: usize,
+    inn: *const u8,
+    in_len: usize,
+    buf: *mut u8,
+    buf_len: usize,
+    answer: Answer,
+) -> u32 {
+    let (port, msg) = unsafe { (&mut *port.cast::<Port>(), slice::from_raw_parts(msg, msg_len)) };
+    let (out, inn) = unsafe { (slice::from_raw_parts(out, out_len), slice::from_raw_parts(inn, in_len)) };
+    let buf = unsafe { slice::from_raw_parts_mut(buf, buf_len) };
+    let (number, words) = match port.take(msg, out, inn, buf) {
+        Ok(Taken::Command { tag, lun, cdb_at, cdb_length }) => (0, [0, 1, tag, lun, cdb_at as u64, cdb_length as u64]),
+        Ok(Taken::Task { tag, lun, wrote }) => (0, [wrote as u64, 2, tag, lun, 0, 0]),
+        Ok(Taken::CreditResponse) => (0, [0, 3, 0, 0, 0, 0]),
+        Ok(Taken::Logout) => (0, [0, 4, 0, 0, 0, 0]),
+        Err(Refused { refusal, wrote }) => (refusal as u32, [wrote as u64, 0, 0, 0, 0, 0]),
+    };
+    unsafe { put(answer, words) };
+    number
+}
+
+#[inline(never)]
+pub unsafe extern "C" fn plain_plan(port: *mut u64, tag: u64, required_out: u32, required_in: u32) -> u32 {
+    let port = unsafe { &mut *port.cast::<Port>() };
+    number(port.plan(tag, required_out, required_in))
+}
+
+#[inline(never)]
+pub unsafe extern "C" fn plain_step(
+    port: *mut u64,
+    _store: *const u8,
+    tag: u64,
+    direction: u32,
+    answer: Answer,
+) -> u32 {
+    let port = unsafe { &mut *port.cast::<Port>() };
+    let (direction, operation) = if direction == 0 { (Direction::Out, 1) } else { (Direction::In, 2) };
+    let outcome = port.step(tag, direction);
+    let words = match &outcome {
+        Ok(Some(p)) => [1, operation, p.handle.into(), p.address, p.length.into(), p.offset.into()],
+        _ => [0; 6],
+    };
+    unsafe { put(answer, words) };
+    number(outcome)
+}
+
+#[inline(never)]
+pub unsafe extern "C" fn plain_finish(
+    port: *mut u64,
+    tag: u64,
+    status: u8,
+    sense: *const u8,
+    sense_len: usize,
+    buf: *mut u8,
+    buf_len: usize,
+    answer: Answer,
+) -> u32 {
+    let port = unsafe { &mut *port.cast::<Port>() };
+    let (sense, buf) = unsafe { (slice::from_raw_parts(sense, sense_len), slice::from_raw_parts_mut(buf, buf_len)) };
+    unsafe { wrote(port.finish(tag, status, sense, buf), answer) }
+}
+
+#[inline(never)]
+pub unsafe extern "C" fn plain_add(port: *mut u64, k: u32) -> u32 {
+    let port = unsafe { &mut *port.cast::<Port>() };
+    number(port.add(k))
+}
+
+#[inline(never)]
+pub unsafe extern "C" fn plain_withdraw(port: *mut u64, k: u32) -> u32 {
+    let port = unsafe { &mut *port.cast::<Port>() };
+    number(port.withdraw(k))
+}
+
+#[inline(never)]
+pub unsafe extern "C" fn plain_grant(port: *mut u64, buf: *mut u8, buf_len: usize, answer: Answer) -> u32 {
+    let (port, buf) = unsafe { (&mut *port.cast::<Port>(), slice::from_raw_parts_mut(buf, buf_len)) };
+    unsafe { wrote(port.grant(buf), answer) }
+}
+
+#[inline(never)]
+pub unsafe extern "C" fn plain_close(port: *mut u64, reason: u32, buf: *mut u8, buf_len: usize, answer: Answer) -> u32 {
+    let (port, buf) = unsafe { (&mut *port.cast::<Port>(), slice::from_raw_parts_mut(buf, buf_len)) };
+    unsafe { wrote(port.close(reason, buf), answer) }
+}
+
+#[inline(never)]
+pub unsafe extern "C" fn plain_counters(port: *const u64, answer: Answer) -> u32 {
+    let port = unsafe { &*port.cast::<Port>() };
+    let outcome = port.counters();
+    let words = match &outcome {
+        Ok(c) => [c.wanted.into(), c.announced.into(), c.held.into(), i64::from(c.owed) as u64],
+        Err(_) => [0; 4],
+    };
+    unsafe { put(answer, words) };
+    number(outcome)
+}
+
+#[inline(never)]
+pub unsafe extern "C" fn plain_list(port: *const u64, records: *mut u64, words: usize, answer: Answer) -> u32 {
+    let (port, records) = unsafe { (&*port.cast::<Port>(), slice::from_raw_parts_mut(records, words)) };
+    unsafe { wrote(port.list(records), answer) }
+}
+
 #[inline(never)]
 pub unsafe extern "C" fn plain_look(
     msg: *const u8,
@@ -16,16 +174,9 @@ pub unsafe extern "C" fn plain_look(
     buf_len: usize,
 ) -> u32 {
     let (msg, buf) = unsafe { (slice::from_raw_parts(msg, msg_len), slice::from_raw_parts_mut(buf, buf_len)) };
-    match look(msg, agreed, formats, buf) {
-        Ok(()) => 0,
-        Err(refusal) => refusal,
-    }
+    stateless::look(msg, agreed, formats, buf).err().unwrap_or(0)
 }
 
-/// As srp_cut.
-///
-/// # Safety
-/// As for plain_look.
 #[inline(never)]
 pub unsafe extern "C" fn plain_cut(
     list: *const u8,
@@ -37,135 +188,5 @@ pub unsafe extern "C" fn plain_cut(
     buf_len: usize,
 ) -> u32 {
     let (list, buf) = unsafe { (slice::from_raw_parts(list, list_len), slice::from_raw_parts_mut(buf, buf_len)) };
-    match cut(list, m, r, handed, buf) {
-        Ok(()) => 0,
-        Err(refusal) => refusal,
-    }
-}
-
-#[inline(always)]
-fn look(msg: &[u8], agreed: u32, formats: u32, buf: &mut [u8]) -> Result<(), u32> {
-    let [out_fetch, in_fetch, ..] = buf.as_chunks_mut::<16>().0 else {
-        return Err(1);
-    };
-    if !(64..=1364).contains(&agreed) || formats & !0b110 != 0 {
-        return Err(2);
-    }
-    if msg.len() < 16 || msg.len() > agreed as usize {
-        return Err(3);
-    }
-    if msg[0] != 0x02 {
-        return Err(4);
-    }
-    let Some(head) = msg.first_chunk::<48>() else {
-        return Err(3);
-    };
-    let (out_format, in_format) = (head[5] >> 4, head[5] & 15);
-    let agreed_format = |format: u8| format == 0 || format <= 2 && formats >> format & 1 == 1;
-    if !agreed_format(out_format) {
-        return Err(5);
-    }
-    if !agreed_format(in_format) {
-        return Err(6);
-    }
-    let out_at = 48 + (head[31] & !3) as usize;
-    let in_at = out_at + descriptor_bytes(out_format, head[6]);
-    if msg.len() != in_at + descriptor_bytes(in_format, head[7]) {
-        return Err(3);
-    }
-    let out_table = table(out_format, head[6], msg, out_at).ok_or(7u32)?;
-    let in_table = table(in_format, head[7], msg, in_at).ok_or(8u32)?;
-    *out_fetch = *out_table;
-    *in_fetch = *in_table;
-    Ok(())
-}
-
-#[inline(always)]
-fn descriptor_bytes(format: u8, count: u8) -> usize {
-    match format {
-        0 => 0,
-        1 => 16,
-        _ => 20 + 16 * count as usize,
-    }
-}
-
-/// The table descriptor if it is to be fetched, else zeros; None for a bad count.
-#[inline(always)]
-fn table(format: u8, count: u8, msg: &[u8], at: usize) -> Option<&[u8; 16]> {
-    static NO_FETCH: [u8; 16] = [0; 16];
-    if format != 2 {
-        return Some(&NO_FETCH);
-    }
-    let table = msg.get(at..)?.first_chunk::<16>()?;
-    let length = u32::from_be_bytes([table[12], table[13], table[14], table[15]]);
-    let copies = 16 * count as u32;
-    if count > 32 || copies > length {
-        return None;
-    }
-    let fetched = length % 16 == 0 && length <= 512 && length != copies;
-    Some(if fetched { table } else { &NO_FETCH })
-}
-
-#[inline(always)]
-fn cut(list: &[u8], m: u32, r: u32, handed: u32, buf: &mut [u8]) -> Result<(), u32> {
-    let [piece, offset, ..] = buf.as_chunks_mut::<16>().0 else {
-        return Err(1);
-    };
-    if !(1..=1 << 20).contains(&m) {
-        return Err(2);
-    }
-    let (segments, []) = list.as_chunks::<16>() else {
-        return Err(11);
-    };
-    if segments.len() > 32 {
-        return Err(11);
-    }
-    let (mut b, mut past) = (0, false);
-    for segment in segments {
-        let length = length_of(segment);
-        past |= length != 0 && address_of(segment).checked_add(length - 1).is_none();
-        b += length;
-    }
-    if past || b > u32::MAX as u64 {
-        return Err(10);
-    }
-    let end = b.min(r as u64);
-    let from = handed as u64;
-    if from > end {
-        return Err(11);
-    }
-    (*piece, *offset) = ([0; 16], [0; 16]);
-    if from == end {
-        return Ok(());
-    }
-    let mut within = from; // bytes of the segment at hand that were handed out
-    for segment in segments {
-        let length = length_of(segment);
-        if within < length {
-            let piece_length = (length - within).min(end - from).min(m as u64);
-            let handle_and_length = tail_of(segment) & !0xffff_ffff | piece_length;
-            *piece.first_chunk_mut().unwrap() = (address_of(segment) + within).to_be_bytes();
-            *piece.last_chunk_mut().unwrap() = handle_and_length.to_be_bytes();
-            *offset.first_chunk_mut().unwrap() = handed.to_be_bytes();
-            break;
-        }
-        within -= length;
-    }
-    Ok(())
-}
-
-#[inline(always)]
-fn address_of(segment: &[u8; 16]) -> u64 {
-    u64::from_be_bytes(*segment.first_chunk().unwrap())
-}
-
-/// Handle and length.
-#[inline(always)]
-fn tail_of(segment: &[u8; 16]) -> u64 {
-    u64::from_be_bytes(*segment.last_chunk().unwrap())
-}
-
-#[inline(always)]
-fn length_of(segment: &[u8; 16]) -> u64 {
-    tail_of(segment) & 0xffff_ffff
+    stateless::cut(list, m, r, handed, buf).err().unwrap_or(0)
 }

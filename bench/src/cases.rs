@@ -1,0 +1,206 @@
+//! The cases: what is timed, and the calls before and after it. Each case starts from the port that the login gave and
+//! leaves its counters as they were.
+
+use crate::batch::{Batch, Message, MAX_PIECE};
+
+pub struct Case {
+    pub name: String,
+    /// The line of cases that differ in the number of segments alone, and that number.
+    pub series: Option<(&'static str, u32)>,
+    /// How many ports take turns; more than one where only one call of a kind can be made on a port.
+    pub ports: usize,
+    pub before: Vec<Batch>,
+    pub timed: Batch,
+    pub after: Vec<Batch>,
+}
+
+const IN: u32 = 1;
+
+/// Bytes of a segment: two pieces.
+const SEGMENT: u32 = 700;
+const PIECES: u32 = SEGMENT.div_ceil(MAX_PIECE);
+
+const TURNS: usize = 8;
+
+fn tags() -> Vec<u64> {
+    (0x100..0x110).collect()
+}
+
+// ---- Messages ----
+
+/// The first 48 bytes of an SRP_CMD, and 4n bytes more of CDB.
+fn command(formats: u8, count: u8, n: u8, tag: u64) -> Vec<u8> {
+    let mut msg = vec![0; 48 + 4 * usize::from(n)];
+    msg[0] = 0x02;
+    msg[5] = formats;
+    msg[6] = count;
+    msg[7] = count;
+    msg[8..16].copy_from_slice(&tag.to_be_bytes());
+    msg[31] = n << 2;
+    msg
+}
+
+fn memory(address: u64, length: u32) -> [u8; 16] {
+    let mut bytes = [0; 16];
+    bytes[0..8].copy_from_slice(&address.to_be_bytes());
+    bytes[8..12].copy_from_slice(&7u32.to_be_bytes());
+    bytes[12..16].copy_from_slice(&length.to_be_bytes());
+    bytes
+}
+
+fn segments(count: u32) -> Vec<u8> {
+    (0..u64::from(count)).flat_map(|i| memory(0x10_0000 + i * 4096, SEGMENT)).collect()
+}
+
+fn plain(bytes: Vec<u8>) -> Message {
+    Message { bytes, out: Vec::new(), inn: Vec::new() }
+}
+
+fn no_data(tag: u64) -> Message {
+    plain(command(0x00, 0, 0, tag))
+}
+
+fn direct(tag: u64) -> Message {
+    plain([command(0x01, 0, 0, tag), memory(0x1000, 1300).to_vec()].concat())
+}
+
+/// A table descriptor, the total length, and the first entries.
+fn indirect(entries: u32, copies: u32) -> Vec<u8> {
+    let (table, total) = (memory(0x9000, 16 * entries), (SEGMENT * entries).to_be_bytes());
+    [table.to_vec(), total.to_vec(), segments(copies)].concat()
+}
+
+/// Data-in of so many segments, all in the message.
+fn all_copied(count: u32, tag: u64) -> Message {
+    plain([command(0x02, count as u8, 0, tag), indirect(count, count)].concat())
+}
+
+/// n = 63, and both ways a table of which all 32 entries are in the message: 1,364 bytes.
+fn longest(tag: u64) -> Message {
+    plain([command(0x22, 32, 63, tag), indirect(32, 32), indirect(32, 32)].concat())
+}
+
+/// Data-in by a table of 32 entries that was fetched, some of them in the message too.
+fn fetched(copies: u32, tag: u64) -> Message {
+    let bytes = [command(0x02, copies as u8, 0, tag), indirect(32, copies)].concat();
+    Message { bytes, out: Vec::new(), inn: segments(32) }
+}
+
+/// An SRP_TSK_MGMT that aborts all commands of LUN 0.
+fn abort_task_set() -> Message {
+    let mut msg = vec![0; 48];
+    msg[0] = 0x01;
+    msg[15] = 0xff;
+    msg[30] = 0x02;
+    plain(msg)
+}
+
+/// The SRP_CRED_RSP to a grant.
+fn credit_response() -> Message {
+    let mut msg = vec![0; 16];
+    msg[0] = 0x41;
+    msg[15] = 1;
+    plain(msg)
+}
+
+// ---- Cases ----
+
+fn take_all(message: impl Fn(u64) -> Message) -> Batch {
+    Batch::Take(tags().into_iter().map(message).collect())
+}
+
+fn finish_all(tags: Vec<u64>) -> Batch {
+    Batch::Finish { tags, status: 0, sense: Vec::new() }
+}
+
+fn case(name: &str, before: Vec<Batch>, timed: Batch, after: Vec<Batch>) -> Case {
+    let ports = if timed.calls() == 1 { TURNS } else { 1 };
+    Case { name: name.into(), series: None, ports, before, timed, after }
+}
+
+fn take_case(name: &str, message: impl Fn(u64) -> Message) -> Case {
+    case(&format!("take, {name}"), vec![], take_all(message), vec![finish_all(tags())])
+}
+
+fn task_case() -> Case {
+    let commands = tags().into_iter().take(15).map(direct).collect();
+    let timed = Batch::Take(vec![abort_task_set()]);
+    case("take, a task that aborts 15 commands", vec![Batch::Take(commands)], timed, vec![])
+}
+
+fn plan_case() -> Case {
+    let timed = Batch::Plan { tags: tags(), required: 1300 };
+    case("plan, 16 commands open", vec![take_all(direct)], timed, vec![finish_all(tags())])
+}
+
+fn step_case(which: &'static str, count: u32) -> Case {
+    let step = || Batch::Step { tags: tags(), direction: IN };
+    let mut before = vec![take_all(|tag| all_copied(count, tag))];
+    before.push(Batch::Plan { tags: tags(), required: SEGMENT * count });
+    let handed = if which == "first" { 0 } else { PIECES * count - 1 };
+    before.extend((0..handed).map(|_| step()));
+    let plural = if count == 1 { "" } else { "s" };
+    let name = format!("step, {which} piece of {count} segment{plural}, 16 commands open");
+    let series = Some((if which == "first" { "step, first piece" } else { "step, last piece" }, count));
+    Case { series, ..case(&name, before, step(), vec![finish_all(tags())]) }
+}
+
+fn finish_case(name: &str, tag: u64, status: u8, sense: Vec<u8>) -> Case {
+    let others = tags().into_iter().filter(|&other| other != tag).collect();
+    let timed = Batch::Finish { tags: vec![tag], status, sense };
+    case(&format!("finish, {name} of 16 commands"), vec![take_all(direct)], timed, vec![finish_all(others)])
+}
+
+fn grant_case() -> Case {
+    let before = vec![Batch::Withdraw(1), Batch::Take(vec![no_data(1)]), finish_all(vec![1]), Batch::Add(1)];
+    case("grant", before, Batch::Grant, vec![Batch::Take(vec![credit_response()])])
+}
+
+fn look_case(name: &str, message: Message) -> Case {
+    case(&format!("look, {name}"), vec![], Batch::Look(vec![message.bytes; 64]), vec![])
+}
+
+fn cut_case(which: &'static str, count: u32) -> Case {
+    let required = SEGMENT * count;
+    let handed = if which == "first" { 0 } else { required - (SEGMENT - MAX_PIECE) };
+    let plural = if count == 1 { "" } else { "s" };
+    let timed = Batch::Cut { lists: vec![segments(count); 64], required, handed };
+    let series = Some((if which == "first" { "cut, first piece" } else { "cut, last piece" }, count));
+    Case { series, ..case(&format!("cut, {which} piece of {count} segment{plural}"), vec![], timed, vec![]) }
+}
+
+/// A case for each number of segments, of the first and of the last piece.
+fn by_segments(of: fn(&'static str, u32) -> Case) -> impl Iterator<Item = Case> {
+    ["first", "last"].into_iter().flat_map(move |which| [1, 8, 16, 32].map(|count| of(which, count)))
+}
+
+impl Case {
+    /// All its batches, in order.
+    pub fn batches(&self) -> Vec<&Batch> {
+        self.before.iter().chain([&self.timed]).chain(&self.after).collect()
+    }
+}
+
+pub fn cases() -> Vec<Case> {
+    let mut cases = vec![
+        take_case("no data", no_data),
+        take_case("direct", direct),
+        take_case("32 copies each way, 1,364 bytes", longest),
+        take_case("fetched table of 32 entries, 0 copies", |tag| fetched(0, tag)),
+        take_case("fetched table of 32 entries, 16 copies", |tag| fetched(16, tag)),
+        task_case(),
+        plan_case(),
+    ];
+    cases.extend(by_segments(step_case));
+    cases.extend([
+        finish_case("oldest", 0x100, 0, vec![]),
+        finish_case("newest", 0x10f, 0, vec![]),
+        finish_case("newest, 96 bytes of sense,", 0x10f, 2, vec![0xa5; 96]),
+        grant_case(),
+        look_case("no data, 48 bytes", no_data(1)),
+        look_case("direct, 64 bytes", direct(1)),
+        look_case("32 copies each way, 1,364 bytes", longest(1)),
+    ]);
+    cases.extend(by_segments(cut_case));
+    cases
+}

@@ -1,0 +1,158 @@
+//! One direction of a command: its segments, and how far they were handed out.
+
+use super::message::Residual;
+use super::request::{u32_at, u64_at};
+
+#[derive(Clone, Copy)]
+pub enum Direction {
+    Out = 0,
+    In = 1,
+}
+
+#[derive(Clone, Copy)]
+struct Segment {
+    address: u64,
+    handle: u32,
+    length: u32,
+}
+
+#[derive(Clone, Copy)]
+pub struct SegmentList([Segment; 32]);
+
+/// A piece to be moved by one RDMA operation.
+#[derive(Debug, PartialEq, Eq)]
+pub struct Piece {
+    pub handle: u32,
+    pub address: u64,
+    pub length: u32,
+    pub offset: u32,
+}
+
+#[derive(Clone, Copy)]
+pub struct Transfer {
+    /// The sum of the segments' lengths, B.
+    length: u32,
+    /// What the SCSI command requires, R; 0 until planned.
+    pub required: u32,
+    /// Bytes handed out.
+    pub moved: u32,
+    /// The segment at hand, and how many of its bytes were handed out.
+    segment: usize,
+    within: u32,
+}
+
+impl Segment {
+    fn read(bytes: &[u8]) -> Self {
+        Segment { address: u64_at(bytes, 0), handle: u32_at(bytes, 8), length: u32_at(bytes, 12) }
+    }
+
+    /// Whether address + length is above 2^64.
+    fn ends_past_memory(&self) -> bool {
+        self.length > 0 && self.address.checked_add(u64::from(self.length - 1)).is_none()
+    }
+}
+
+impl SegmentList {
+    pub const EMPTY: SegmentList = SegmentList([Segment { address: 0, handle: 0, length: 0 }; 32]);
+
+    /// Holds the segments of up to 512 bytes; gives the sum of their lengths, None where a segment is bad.
+    fn load(&mut self, bytes: &[u8]) -> Option<u64> {
+        let mut sum = 0;
+        for (segment, bytes) in self.0.iter_mut().zip(bytes.chunks_exact(16)) {
+            *segment = Segment::read(bytes);
+            if segment.ends_past_memory() {
+                return None;
+            }
+            sum += u64::from(segment.length);
+        }
+        Some(sum)
+    }
+}
+
+impl Transfer {
+    /// A transfer of these segments, which `list` then holds. None where they are bad or the total is not their sum.
+    pub fn new(list: &mut SegmentList, bytes: &[u8], total: Option<u32>) -> Option<Self> {
+        let length = u32::try_from(list.load(bytes)?).ok()?;
+        if total.is_some_and(|total| total != length) {
+            return None;
+        }
+        Some(Transfer { length, required: 0, moved: 0, segment: 0, within: 0 })
+    }
+
+    /// The next piece, or None: done.
+    pub fn next_piece(&mut self, list: &SegmentList, max_piece: u32) -> Option<Piece> {
+        let left = self.required.min(self.length) - self.moved;
+        if left == 0 {
+            return None;
+        }
+        // Bytes are left, so a segment ahead has some; those of length 0 are skipped.
+        while list.0[self.segment].length == self.within {
+            self.segment += 1;
+            self.within = 0;
+        }
+        let segment = list.0[self.segment];
+        let length = (segment.length - self.within).min(left).min(max_piece);
+        let address = segment.address + u64::from(self.within);
+        let piece = Piece { handle: segment.handle, address, length, offset: self.moved };
+        self.within += length;
+        self.moved += length;
+        Some(piece)
+    }
+
+    pub fn residual(&self) -> Residual {
+        if self.required > self.length {
+            Residual::Over(self.required - self.length)
+        } else if self.moved < self.length {
+            Residual::Under(self.length - self.moved)
+        } else {
+            Residual::None
+        }
+    }
+}
+
+#[cfg(test)]
+mod tests {
+    use super::*;
+
+    /// A transfer of segments with these lengths, at 4096, 8192 and so on.
+    fn transfer(lengths: &[u32], required: u32) -> (SegmentList, Transfer) {
+        let mut bytes = Vec::new();
+        for (at, length) in lengths.iter().enumerate() {
+            bytes.extend((4096 * (at as u64 + 1)).to_be_bytes());
+            bytes.extend(7u32.to_be_bytes());
+            bytes.extend(length.to_be_bytes());
+        }
+        let mut list = SegmentList::EMPTY;
+        let transfer = Transfer::new(&mut list, &bytes, None).expect("no bad field");
+        (list, Transfer { required, ..transfer })
+    }
+
+    #[test]
+    fn segments_of_length_zero_in_a_row_are_skipped() {
+        let (list, mut transfer) = transfer(&[0, 0, 600, 0, 0, 100, 0], 700);
+        let mut next = || transfer.next_piece(&list, 512).map(|piece| (piece.address, piece.length, piece.offset));
+        assert_eq!(next(), Some((12288, 512, 0)));
+        assert_eq!(next(), Some((12288 + 512, 88, 512)));
+        assert_eq!(next(), Some((24576, 100, 600)));
+        assert_eq!(next(), None);
+        assert_eq!(next(), None);
+    }
+
+    #[test]
+    fn residuals_after_some_pieces() {
+        for (required, pieces, expected) in [
+            (800, 0, Residual::Over(100)),
+            (800, 1, Residual::Over(100)),
+            (700, 0, Residual::Under(700)),
+            (700, 1, Residual::Under(188)),
+            (650, 2, Residual::Under(50)),
+            (700, 2, Residual::None),
+        ] {
+            let (list, mut transfer) = transfer(&[700], required);
+            for _ in 0..pieces {
+                transfer.next_piece(&list, 512).expect("a piece");
+            }
+            assert_eq!(transfer.residual(), expected, "required {required}, pieces {pieces}");
+        }
+    }
+}

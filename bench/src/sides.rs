@@ -1,0 +1,78 @@
+//! The two sides that are compared: the library and the plain Rust port, behind the same functions.
+
+use crate::plain;
+use crate::port::Port;
+
+type Answer = *mut [u64; 8];
+
+pub type Login =
+    unsafe extern "C" fn(*mut u64, *const [u32; 5], *const [u8; 16], *const u8, usize, *mut u8, usize, Answer) -> u32;
+pub type Take = unsafe extern "C" fn(
+    *mut u64,
+    *mut u8,
+    *const u8,
+    usize,
+    *const u8,
+    usize,
+    *const u8,
+    usize,
+    *mut u8,
+    usize,
+    Answer,
+) -> u32;
+pub type Plan = unsafe extern "C" fn(*mut u64, u64, u32, u32) -> u32;
+pub type Step = unsafe extern "C" fn(*mut u64, *const u8, u64, u32, Answer) -> u32;
+pub type Finish = unsafe extern "C" fn(*mut u64, u64, u8, *const u8, usize, *mut u8, usize, Answer) -> u32;
+pub type Buffers = unsafe extern "C" fn(*mut u64, u32) -> u32;
+pub type Grant = unsafe extern "C" fn(*mut u64, *mut u8, usize, Answer) -> u32;
+pub type Close = unsafe extern "C" fn(*mut u64, u32, *mut u8, usize, Answer) -> u32;
+pub type Counters = unsafe extern "C" fn(*const u64, Answer) -> u32;
+pub type List = unsafe extern "C" fn(*const u64, *mut u64, usize, Answer) -> u32;
+pub type Look = unsafe extern "C" fn(*const u8, usize, u32, u32, *mut u8, usize) -> u32;
+pub type Cut = unsafe extern "C" fn(*const u8, usize, u32, u32, u32, *mut u8, usize) -> u32;
+
+pub struct Side {
+    pub name: &'static str,
+    /// Memory for a port, zero or closed, which stays until the program ends.
+    pub new_port: fn() -> *mut u64,
+    pub login: Login,
+    pub take: Take,
+    pub plan: Plan,
+    pub step: Step,
+    pub finish: Finish,
+    pub add: Buffers,
+    pub withdraw: Buffers,
+    pub grant: Grant,
+    pub close: Close,
+    pub counters: Counters,
+    pub list: List,
+    pub look: Look,
+    pub cut: Cut,
+}
+
+/// Starts on a cache line, so that both sides' ports lie alike.
+#[repr(align(64))]
+pub struct Aligned<T>(pub T);
+
+fn plain_port() -> *mut u64 {
+    let port: *mut Aligned<Port> = Box::leak(Box::new(Aligned(Port::CLOSED)));
+    port.cast()
+}
+
+pub static PLAIN: Side = Side {
+    name: "plain",
+    new_port: plain_port,
+    login: plain::plain_login,
+    take: plain::plain_take,
+    plan: plain::plain_plan,
+    step: plain::plain_step,
+    finish: plain::plain_finish,
+    add: plain::plain_add,
+    withdraw: plain::plain_withdraw,
+    grant: plain::plain_grant,
+    close: plain::plain_close,
+    counters: plain::plain_counters,
+    list: plain::plain_list,
+    look: plain::plain_look,
+    cut: plain::plain_cut,
+};
