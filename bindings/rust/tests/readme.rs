@@ -1,4 +1,4 @@
-//! README.md's lines for Rust, which tests/readme compares with those between the two markers, run once: P1 with its
+//! README.md's lines for Rust, which tests/readme compares with those between the two markers, run: P1 with its
 //! table in the initiator's memory, a login that is rejected, and a command that hangs up.
 
 mod messages;
@@ -6,7 +6,7 @@ mod messages;
 use std::cell::RefCell;
 
 use messages::*;
-use srp_target::{Fetch, Operation, Refusal, Settings};
+use srp_target::{Fetch, Message, Operation, Refusal, Settings};
 
 /// What the adapter was told: messages to send, RDMA operations, and tables read.
 #[derive(Default)]
@@ -31,7 +31,7 @@ fn owner(adapter: &Adapter, settings: &Settings, own: &[u8; 16], login: &[u8], m
         named.map_or(vec![], |_| table().to_vec())
     };
     // README.md:
-    use srp_target::{look, Direction, LoginRefusal, Message, Port, Tables, Taken, MESSAGE_BYTES};
+    use srp_target::{look, Direction, LoginRefusal, Port, Tables, Taken, MESSAGE_BYTES};
     let mut buf = [0; MESSAGE_BYTES];
     let mut port = match Port::login(settings, own, login, &mut buf) {
         Ok((port, message)) => { send(message); port }
