@@ -1,5 +1,5 @@
 //! What is true of every call of the library, whatever words and bytes it is given: what it must leave as it was, and
-//! what a closed port is. Checked without the model, and of garbage too.
+//! what a closed port is. Checked of garbage too; of the model it uses only which refusals hang up.
 
 use super::call::{Call, Outcome, UNWRITTEN};
 use crate::interface::{PORT_WORDS, STORE_BYTES};

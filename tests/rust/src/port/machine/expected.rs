@@ -1,11 +1,12 @@
-//! Which refusal a call draws, and the type of the message that it writes. The machine's own: type and length of what is
-//! not a command, 1, 11 and all that the counts say (22 to 30). The model's: a request's tag and LUN, and of a command
-//! its refusals 3 and 5 to 8, the lengths of its tables (9), its bad fields (10) and its segments.
+//! Which refusal a call draws, and the type of the message that it writes. The model's are the reading of big-endian
+//! fields, a request's tag and LUN, and of a command its 3 (but for 16 bytes and the agreed length), 5 to 8, the lengths
+//! of its tables (9), its bad fields (10) and its segments. All else is the machine's own: 1, 4, 11, the lengths of other
+//! messages, and 22 to 30 by its counts.
 
 use super::ends::Ends;
 use super::Call;
 use crate::model::command::Request;
-use crate::model::{number, Command, Refusal};
+use crate::model::{number, Command};
 
 /// A message that take does not refuse for what is in it.
 pub enum Message {
@@ -65,7 +66,7 @@ impl Ends {
             (Call::Login { .. }, 0) => Some(0xc0),
             (Call::Take { msg, .. }, 0) => matches!(self.read(msg), Ok(Message::Task { .. })).then_some(0xc1),
             (Call::Take { .. }, 10) | (Call::Finish { .. }, 0) => Some(0xc1),
-            (Call::Take { .. }, refusal) if Refusal::hangs_up(refusal) => Some(0x80),
+            (Call::Take { .. }, 3..=8 | 22 | 23 | 25) => Some(0x80),
             (Call::Grant { .. }, 0) => Some(0x81),
             _ => None,
         }
