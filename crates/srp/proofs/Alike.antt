@@ -13,19 +13,20 @@ use borrow.Author.Tests.{leb-true}
 use Rattle.srp.specs.Bytes.{Field, get, put, gets, kind, typeOf, inside, apartFrom}
 use Rattle.srp.specs.Messages.{tag, lun, ucsolnt, scsolnt, outFormat, inFormat, outCount, inCount, additional, taskFunction, taskTag, formatBits, requestedLength, loginCrsolnt, loginLosolnt, channelAction, tskMgmt, cmd, iLogout, credRsp}
 use Rattle.srp.specs.Lists.{All, without}
-use Rattle.srp.specs.Refusals.{Check, firstOf}
+use Rattle.srp.specs.Refusals.{Conduct, hangsUp, answered, stays, altersNothing, conductOf, Check, firstOf}
 use Rattle.srp.specs.Descriptors.{descriptorSize, descriptorOf, fetchOf, segments, goodFields}
 use Rattle.srp.specs.Requests.{outAt, inAt, outDescriptor, inDescriptor, commandOf, commandChecks, taskOf, unlessBad, sized, lengthChecks, readMessage, lookDef}
 use Rattle.srp.specs.Credit.{Open, Port}
-use Rattle.srp.specs.Take.{Tables, aborts, laterChecks, accepted, refusedBy, takeBy, takeChecks, takeRead, takeDef}
-use Rattle.srp.specs.Login.{Settings, loginChecks, rejections, judged, loginBy, loginDef}
-use Rattle.srp.specs.Unread.{also, changed, Within}
+use Rattle.srp.specs.Take.{Tables, aborted, laterChecks, accepted, requestIn, conducted, takeBy, takeChecks, takeRead, takeDef}
+use Rattle.srp.specs.Login.{loginChecks, rejections, judged, loginBy, loginDef}
+use Rattle.srp.specs.declared.Settings.{Settings}
+use Rattle.srp.specs.Unread.{also, changed, ChangeOf}
 use Rattle.srp.specs.declared.Refusal.{Refusal}
 use Rattle.srp.specs.declared.Refusal.the-variants.{Length, OtherType}
 use Rattle.srp.specs.declared.Descriptor.{Descriptor}
 use Rattle.srp.specs.declared.Message.{Message}
 use Rattle.srp.specs.declared.Message.the-variants.{Bad, Cmd, TskMgmt, CredRsp, ILogout}
-use Rattle.srp.proofs.Fields.{both, ends, length-put, drop-put}
+use Rattle.srp.proofs.FieldLaws.{both, ends, length-put, drop-put}
 use Rattle.srp.proofs.Layouts.{gets-apart}
 
 -- ── what is read before byte 48, but for the type
@@ -81,7 +82,7 @@ clear-at fs (x ∷ us) e (List·Memᴰ·head q) = ap (clear fs) q ∙ both (clea
 clear-at fs (x ∷ us) e (List·Memᴰ·tail m) = clear-at fs us (both (clear fs x) (allClear fs us) e .1) m
 
 -- a message with changes in fields that are clear of fs is alike
-pub alike : (fs us : List Field) (n : ℕ) (s : List ℕ) → allClear fs us ≡ true → 48 ≤ n → (cs : List (Field × ℕ)) → All (Within us (length s)) cs → Alike fs n (changed cs s) s
+pub alike : (fs us : List Field) (n : ℕ) (s : List ℕ) → allClear fs us ≡ true → 48 ≤ n → (cs : List (Field × ℕ)) → All (ChangeOf us (length s)) cs → Alike fs n (changed cs s) s
 alike fs us n s e k [] w = record { long = refl; code = refl; same = refl; far = refl }
 alike fs us n s e k (c ∷ cs) w =
     let u : Field = c .0 in
@@ -166,10 +167,10 @@ module _ (p : Port) (t : Tables) (s s′ : List ℕ) where
   record Same (m m′ : Message) : Type 0 where
     checks : laterChecks p s t m ≡ laterChecks p s′ t m′
     done : accepted p s t m ≡ accepted p s′ t m′
-    refused : (r : Refusal) → refusedBy p m r ≡ refusedBy p m′ r
+    request : requestIn m ≡ requestIn m′
 
   same-bad : (r : Refusal) → Same (Bad r) (Bad r)
-  same-bad r = record { checks = refl; done = refl; refused = λ q. refl }
+  same-bad r = record { checks = refl; done = refl; request = refl }
 
   same-unless : (cs cs′ : List Check) {m m′ : Message} → cs ≡ cs′ → Same m m′ → Same (unlessBad (firstOf cs) m) (unlessBad (firstOf cs′) m′)
   same-unless cs cs′ {m} {m′} e h = rw e (go (firstOf cs′))
@@ -189,16 +190,16 @@ module _ (p : Port) (t : Tables) (s s′ : List ℕ) where
       let o′ = segments-same s s′ (a .far) (outDescriptor s′) (omega arith) (t .out) in
       let i′ = segments-same s s′ (a .far) (inDescriptor s′) (omega arith) (t .inn) in
       let e = commands s s′ a .command in
-      record { checks = cc; done = cc; refused = λ r. cc }
+      record { checks = cc; done = cc; request = cc }
 
   same-task : gets (taskReads (eqb (get taskFunction s′) 1)) s ≡ gets (taskReads (eqb (get taskFunction s′) 1)) s′ → Same (TskMgmt (taskOf s)) (TskMgmt (taskOf s′))
   same-task e =
       let a = also-same (eqb (get taskFunction s′) 1) taskTag (taskReads false) s s′ e in
       let r : gets (taskReads false) s ≡ gets (taskReads false) s′ = a .1 in
-      let b : (c : Open) → aborts (taskOf s) (c .tag) (c .lun) ≡ aborts (taskOf s′) (c .tag) (c .lun) =
-      λ c. cc (managed (eqb (get taskFunction s′) 1) (c .tag) (a .0)) in
+      let b : (c : Open) → aborted (taskOf s) c ≡ aborted (taskOf s′) c =
+      λ c. cc (managed (eqb (get taskFunction s′) 1) (c .request .tag) (a .0)) in
       let w = ap (λ (f : Open → Bool). without f (p .held)) (fun-ext b) in
-      record { checks = cc; done = cc; refused = λ q. cc }
+      record { checks = cc; done = cc; request = cc }
     where
       managed : (b : Bool) (g : ℕ) → cond b (get taskTag s) 0 ≡ cond b (get taskTag s′) 0 → (b && eqb (get taskTag s) g) ≡ (b && eqb (get taskTag s′) g)
       managed true g e = cc
@@ -208,33 +209,39 @@ module _ (p : Port) (t : Tables) (s s′ : List ℕ) where
       → Same (readAs b₁ b₂ b₃ b₄ formats s) (readAs b₁ b₂ b₃ b₄ formats s′)
   same-as true b₂ b₃ b₄ formats a = same-unless (commandChecks formats s) (commandChecks formats s′) (commands s s′ a .checks formats) (same-command a)
   same-as false true b₃ b₄ formats a = rw (a .long) (same-sized (eqb (length s′) 48) (same-task (a .same)))
-  same-as false false true b₄ formats a = rw (a .long) (same-sized (eqb (length s′) 16) (record { checks = refl; done = refl; refused = λ r. refl }))
-  same-as false false false true formats a = rw (a .long) (same-sized (eqb (length s′) 16) (record { checks = cc; done = refl; refused = λ r. cc }))
+  same-as false false true b₄ formats a = rw (a .long) (same-sized (eqb (length s′) 16) (record { checks = refl; done = refl; request = refl }))
+  same-as false false false true formats a = rw (a .long) (same-sized (eqb (length s′) 16) (record { checks = cc; done = refl; request = refl }))
   same-as false false false false formats a = same-bad OtherType
 
   same-take : (room : ℕ) (m m′ : Message) → Same m m′ → takeRead p room s t m ≡ takeRead p room s′ t m′
   same-take room m m′ h = cc (by (firstOf (takeChecks p room s′ t m′)))
     where
+      refused : (c : Conduct) (r : Refusal) → conducted c p m r ≡ conducted c p m′ r
+      refused (hangsUp reason) r = refl
+      refused answered r = rw (h .request)
+      refused stays r = refl
+      refused altersNothing r = refl
+
       by : (o : Option Refusal) → takeBy o p s t m ≡ takeBy o p s′ t m′
       by none = h .done
-      by (some r) = h .refused r
+      by (some r) = refused (conductOf r) r
 
   -- take's outcome is the same for two messages alike in what is read of their type
   pub take-alike : (room : ℕ) → Alike (readsIn s′) (outAt s′) s s′ → takeDef p room s t ≡ takeDef p room s′ t
   unfolding readMessage
-  take-alike room a = same-take room (readMessage (p .agreed) (p .formats) s) (readMessage (p .agreed) (p .formats) s′)
-      (same-unless (lengthChecks (p .agreed) s) (lengthChecks (p .agreed) s′) (cc) (rw (a .code) (ofType same-as (typeOf s′) (p .formats) a)))
+  take-alike room a = same-take room (readMessage (p .terms .agreed) (p .terms .formats) s) (readMessage (p .terms .agreed) (p .terms .formats) s′)
+      (same-unless (lengthChecks (p .terms .agreed) s) (lengthChecks (p .terms .agreed) s′) (cc) (rw (a .code) (ofType same-as (typeOf s′) (p .terms .formats) a)))
 
 -- ── login
 
 -- login's outcome is the same for two messages alike in what a login reads
-pub login-alike : (c : Settings) (room : ℕ) (s s′ : List ℕ) → Alike loginReads 48 s s′ → loginDef c room s ≡ loginDef c room s′
-login-alike c room s s′ a = cc (by (firstOf (loginChecks c room s′)))
+pub login-alike : (c : Settings) (own : List ℕ) (room : ℕ) (s s′ : List ℕ) → Alike loginReads 48 s s′ → loginDef c own room s ≡ loginDef c own room s′
+login-alike c own room s s′ a = cc (by (firstOf (loginChecks c room s′)))
   where
     judge : (o : Option ℕ) → judged o c s ≡ judged o c s′
     judge none = cc
     judge (some r) = cc
 
-    by : (o : Option Refusal) → loginBy o c s ≡ loginBy o c s′
-    by none = cc (judge (firstOf (rejections c s′)))
+    by : (o : Option Refusal) → loginBy o c own s ≡ loginBy o c own s′
+    by none = cc (judge (firstOf (rejections c own s′)))
     by (some r) = refl

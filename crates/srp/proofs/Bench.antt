@@ -15,15 +15,17 @@ use Rattle.srp.specs.Calls.{wrapped, countersOf}
 use Rattle.srp.specs.Answers.{returned, valuesOf}
 use Rattle.srp.specs.declared.Reply.{Reply}
 use Rattle.srp.proofs.Layouts.{whole, bitsOf}
-use Rattle.srp.specs.Rows.{found, expected, no-data, cmd}
-use Rattle.srp.specs.Table.{writtenByLayout, writtenByHand, rows, table, two-entries, answers, answerValues}
+use Rattle.srp.specs.Rows.{found, expected, no-data, cmd-bytes}
+use Rattle.srp.specs.Table.{table, two-entries}
+use Rattle.srp.specs.FurtherRows.{rows}
+use Rattle.srp.specs.Written.{writtenByLayout, writtenByHand, answers, answerValues}
 
 pub rows-hold : map found rows ≡ map expected rows
 unfolding readMessage
 rows-hold = refl
 
 -- the lengths that P5 to P7 name
-pub lengths : map {A = List ℕ} length (no-data 9 ∷ cmd 0 0 0 0 9 0 7 (replicate 4 0) ∷ table 0 32 300 [] ∷ table 2 32 300 two-entries ∷ []) ≡ 48 ∷ 52 ∷ 68 ∷ 100 ∷ []
+pub lengths : map {A = List ℕ} length (no-data 9 ∷ cmd-bytes 0 0 0 0 9 0 7 (replicate 4 0) ∷ table 0 32 300 [] ∷ table 2 32 300 two-entries ∷ []) ≡ 48 ∷ 52 ∷ 68 ∷ 100 ∷ []
 lengths = refl
 
 -- the initiator's messages, as the layouts and as document 01's text have them

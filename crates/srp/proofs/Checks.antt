@@ -1,7 +1,7 @@
 -- The first check that hits: what none of them, or the one that does, tells.
 -- Assumes nothing.
 use mathlib.Core.Path.{_≡_, refl, subst}
-use mathlib.Core.Bool.{Bool, true, false, cond, _||_}
+use mathlib.Core.Bool.{Bool, true, false, cond, _||_, true≢false}
 use mathlib.Core.List.{List, [], _∷_}
 use mathlib.Core.Option.{none, some, Option·none-ne-some, Option·some-ne-none, Option·some-injective}
 use Rattle.srp.specs.Lists.{All}
@@ -32,6 +32,11 @@ module _ {A : Type 0} where
       go false q f ih = ih f
 
 -- ── one test or another
+
+-- where one or the other fails, both do
+pub both-false : (a b : Bool) → (a || b) ≡ false → (a ≡ false) × (b ≡ false)
+both-false true b e = absurd (true≢false e)
+both-false false b e = (refl, e)
 
 module _ (a b : Bool) where
   pub first-hits : a ≡ true → (a || b) ≡ true

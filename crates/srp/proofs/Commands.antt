@@ -1,16 +1,17 @@
 -- An SRP_CMD as an initiator writes it is read back, for every pair of formats: its fields, its CDB, its descriptors.
 -- Assumes nothing.
 use mathlib.Core.Path.{_≡_, refl, sym, ap, subst, _∙_}
+use mathlib.Core.Bool.{Bool, true, false}
 use mathlib.Core.List.{List, [], _∷_, _++_, append-assoc, append-nil}
 use Prim.Native.Nat.{ℕ, _+_, _*_, _/_, _%_}
 use native.Mathlib.Omega.{arith}
 use lib.ListN.{length, take, drop, length-append}
 use lib.Seq.{take-at, drop-at, drop-drop, getD-drop}
-use Rattle.srp.specs.Bytes.{Field, bytes, bits, get, behind, gets, puts, zeros, typeOf, write, InRange, sound}
-use Rattle.srp.specs.Messages.{cmd, outFormat, inFormat, outCount, inCount, additional, address, handle, segmentLength, totalLength, memoryDescriptor, tableDescriptor}
+use Rattle.srp.specs.Bytes.{Field, bytes, bits, bit, get, behind, gets, puts, zeros, typeOf, write, InRange, sound}
+use Rattle.srp.specs.Messages.{cmd, tag, lun, ucsolnt, scsolnt, outFormat, inFormat, outCount, inCount, additional, address, handle, segmentLength, totalLength, memoryDescriptor, tableDescriptor}
 use Rattle.srp.specs.Descriptors.{segmentsIn, segmentsOf, descriptorSize, descriptorOf, copies, segmentBytes, segments}
-use Rattle.srp.specs.Requests.{flag, cdbLength, outAt, inAt, exactLength, commandOf}
-use Rattle.srp.specs.Initiator.{Buffer, noData, direct, indirect, formatOf, countOf, bufferBytes, Fields, values, commandBytes}
+use Rattle.srp.specs.Requests.{flag, requestOf, cdbLength, outAt, inAt, exactLength, outDescriptor, inDescriptor, commandOf}
+use Rattle.srp.specs.Initiator.{Buffer, noData, direct, indirect, formatOf, countOf, bufferBytes, CommandFields, values, commandBytes}
 use Rattle.srp.specs.declared.Descriptor.{Descriptor}
 use Rattle.srp.specs.declared.Command.{Command}
 use Rattle.srp.proofs.Layouts.{gets-append, read-back, Written, written}
@@ -25,8 +26,8 @@ module _ (s a b : List ℕ) (at n : ℕ) (e : drop at s ≡ a ++ b) (l : length 
   pub there : take n (drop at s) ≡ a
   there = rw (e, take-at a b n l)
 
-  pub next : drop (at + n) s ≡ b
-  next = rw (← (drop-drop n at s), e, drop-at a b n l)
+  pub beyond : drop (at + n) s ≡ b
+  beyond = rw (← (drop-drop n at s), e, drop-at a b n l)
 
 -- ── one descriptor
 
@@ -75,7 +76,7 @@ table-read w c rest s at a h n t e l v z =
       handle = cc (get-behind handle at s);
       len = cc (get-behind segmentLength at s);
       total = cc (get-behind totalLength at s);
-      copied = there s c rest (at + 20) (16 * (length c / 16)) (next s w (c ++ rest) at 20 e′ l) (omega arith);
+      copied = there s c rest (at + 20) (16 * (length c / 16)) (beyond s w (c ++ rest) at 20 e′ l) (omega arith);
     }
 
 -- a buffer's descriptor says the buffer, wherever in the message it starts and whatever follows
@@ -91,20 +92,17 @@ buffer-says (indirect a h n t c) f s rest at e =
 -- ── a command
 
 -- the command c, its descriptors in the message s
-abbrev pub commandIn : Fields → List ℕ → Command
+abbrev pub commandIn : CommandFields → List ℕ → Command
 commandIn c s =
     record {
-      tag = c .tag;
-      lun = c .lun;
-      ucsolnt = flag (c .ucsolnt);
-      scsolnt = flag (c .scsolnt);
+      request = c .request;
       cdb = 16 + 4 * c .n;
       out = descriptorOf (formatOf (c .out)) (countOf (c .out)) (48 + 4 * c .n) s;
       inn = descriptorOf (formatOf (c .inn)) (countOf (c .inn)) (48 + 4 * c .n + length (bufferBytes (c .out))) s;
     }
 
 -- what the bytes s of the command c are read as
-pub record Reads (c : Fields) (s : List ℕ) : Type 0 where
+pub record Reads (c : CommandFields) (s : List ℕ) : Type 0 where
   pub code : typeOf s ≡ cmd .code
   pub fields : gets (cmd .fields) s ≡ values c
   pub long : length s ≡ exactLength s
@@ -120,13 +118,21 @@ said b f format count at s rest p q e =
     subst (λ (k : ℕ). Says b (descriptorOf k count at s) s) (sym p)
     (subst (λ (k : ℕ). Says b (descriptorOf (formatOf b) k at s) s) (sym q) (buffer-says b f s rest at e))
 
+flag-bit : (b : Bool) → flag (bit b) ≡ b
+flag-bit true = refl
+flag-bit false = refl
+
 -- the fields' part w read, the rest is
-reads : (c : Fields) (w s : List ℕ) → s ≡ w ++ (c .cdb ++ (bufferBytes (c .out) ++ bufferBytes (c .inn))) → length w ≡ 32 → typeOf s ≡ cmd .code → gets (cmd .fields) s ≡ values c
+reads : (c : CommandFields) (w s : List ℕ) → s ≡ w ++ (c .cdb ++ (bufferBytes (c .out) ++ bufferBytes (c .inn))) → length w ≡ 32 → typeOf s ≡ cmd .code → gets (cmd .fields) s ≡ values c
     → length (c .cdb) ≡ 16 + 4 * c .n → Fit (c .out) → Fit (c .inn) → Reads c s
 reads c w s e lw k v l fo fi =
     let o : List ℕ = bufferBytes (c .out) in
     let i : List ℕ = bufferBytes (c .inn) in
     let n : get additional s ≡ c .n = cc in
+    let t : get tag s ≡ c .request .tag = cc in
+    let u : get lun s ≡ c .request .lun = cc in
+    let uc : get ucsolnt s ≡ bit (c .request .ucsolnt) = cc in
+    let sc : get scsolnt s ≡ bit (c .request .scsolnt) = cc in
     let f : get outFormat s ≡ formatOf (c .out) = cc in
     let g : get outCount s ≡ countOf (c .out) = cc in
     let f′ : get inFormat s ≡ formatOf (c .inn) = cc in
@@ -134,23 +140,27 @@ reads c w s e lw k v l fo fi =
     let lc : length (c .cdb) ≡ cdbLength s = omega arith in
     let lo : length o ≡ descriptorSize (get outFormat s) (get outCount s) = rw (f, g) (buffer-long (c .out) fo) in
     let li : length i ≡ descriptorSize (get inFormat s) (get inCount s) = rw (f′, g′) (buffer-long (c .inn) fi) in
-    let d32 : drop 32 s ≡ c .cdb ++ (o ++ i) = next s w (c .cdb ++ (o ++ i)) 0 32 e lw in
-    let dout : drop (outAt s) s ≡ o ++ i = next s (c .cdb) (o ++ i) 32 (cdbLength s) d32 lc in
-    let din : drop (inAt s) s ≡ i = next s o i (outAt s) (descriptorSize (get outFormat s) (get outCount s)) dout lo in
+    let d32 : drop 32 s ≡ c .cdb ++ (o ++ i) = beyond s w (c .cdb ++ (o ++ i)) 0 32 e lw in
+    let dout : drop (outAt s) s ≡ o ++ i = beyond s (c .cdb) (o ++ i) 32 (cdbLength s) d32 lc in
+    let din : drop (inAt s) s ≡ i = beyond s o i (outAt s) (descriptorSize (get outFormat s) (get outCount s)) dout lo in
     let ao : outAt s ≡ 48 + 4 * c .n = omega arith in
     let ai : inAt s ≡ 48 + 4 * c .n + length o = omega arith in
+    let request : requestOf s ≡ c .request = λ i. record { tag = t i; lun = u i; ucsolnt = (ap flag uc ∙ flag-bit (c .request .ucsolnt)) i; scsolnt = (ap flag sc ∙ flag-bit (c .request .scsolnt)) i } in
+    let cdb : cdbLength s ≡ 16 + 4 * c .n = omega arith in
+    let out : outDescriptor s ≡ commandIn c s .out = cc in
+    let inn : inDescriptor s ≡ commandIn c s .inn = cc in
     record {
       code = k;
       fields = v;
       long = ap length e ∙ simp length-append (omega arith);
       cdb = there s (c .cdb) (o ++ i) 32 (cdbLength s) d32 lc;
-      command = cc;
+      command = λ i. record { request = request i; cdb = cdb i; out = out i; inn = inn i };
       out = said (c .out) fo (get outFormat s) (get outCount s) (outAt s) s i f g dout;
       inn = said (c .inn) fi (get inFormat s) (get inCount s) (inAt s) s [] f′ g′ (din ∙ sym (append-nil i));
     }
 
 -- a command is read back as it was written, for every pair of formats
-pub command-read : (c : Fields) → InRange (cmd .fields) (values c) → length (c .cdb) ≡ 16 + 4 * c .n → Fit (c .out) → Fit (c .inn) → Reads c (commandBytes c)
+pub command-read : (c : CommandFields) → InRange (cmd .fields) (values c) → length (c .cdb) ≡ 16 + 4 * c .n → Fit (c .out) → Fit (c .inn) → Reads c (commandBytes c)
 command-read c r l fo fi =
     let rest : List ℕ = c .cdb ++ (bufferBytes (c .out) ++ bufferBytes (c .inn)) in
     let m : Written cmd (values c) = written cmd refl (values c) r in

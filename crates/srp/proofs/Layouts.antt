@@ -10,7 +10,7 @@ use borrow.Author.Tests.{ltb-true}
 use Rattle.srp.specs.Bytes.{Field, bytes, bits, get, put, gets, puts, zeros, Layout, kind, typeOf, write, bound, InRange, inside, apart, apartFrom, sound}
 use Rattle.srp.specs.Lists.{All}
 use Rattle.srp.specs.Messages.{layouts}
-use Rattle.srp.proofs.Fields.{both, length-put, get-put, get-put-apart, apart-sym, get-append, zeros-read}
+use Rattle.srp.proofs.FieldLaws.{both, length-put, get-put, get-put-apart, apart-sym, get-append, zeros-read}
 
 -- fields apart from the one that is written are as they were
 pub gets-apart : (f : Field) (fs : List Field) (v : ℕ) (s : List ℕ) → inside (length s) f ≡ true → v < bound f → apartFrom f fs ≡ true → gets fs (put f v s) ≡ gets fs s

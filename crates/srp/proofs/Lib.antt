@@ -1,7 +1,9 @@
 pub mod Checks
+pub mod RefusalLaws
 pub mod ListLaws
+pub mod BothLaws
 pub mod Numbers
-pub mod Fields
+pub mod FieldLaws
 pub mod Layouts
 pub mod Commands
 pub mod Reading
@@ -12,15 +14,8 @@ pub mod CutLaws
 pub mod Pieces
 pub mod Listing
 pub mod Owed
+pub mod Opened
 pub mod Ranges
 pub mod Sent
 pub mod Received
-pub mod Tags
-pub mod Deltas
-pub mod Invariant
-pub mod Taking
-pub mod Steps
-pub mod Writes
-pub mod Demand
-pub mod Itself
 pub mod Bench

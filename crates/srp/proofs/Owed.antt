@@ -37,26 +37,26 @@ module _ (p : Port) where
   taken = p .announced + length (p .held)
 
   -- taking a request, A - 1 and H + 1, leaves D
-  pub taking : (c : Open) → 1 ≤ p .announced → owed (withHeld p (p .announced - 1) (p .held ++ (c ∷ []))) ≡ owed p
-  taking c h =
+  pub owed-taken : (c : Open) → 1 ≤ p .announced → owed (withHeld p (p .announced - 1) (p .held ++ (c ∷ []))) ≡ owed p
+  owed-taken c h =
       sub-same (p .wanted) (p .announced - 1 + length (p .held ++ (c ∷ []))) (p .wanted) taken (omega (arith, length-append (p .held) (c ∷ [])))
 
   -- each of k endings adds 1
-  pub ending : (k : ℕ) (cs : List Open) → length (p .held) ≡ k + length cs → owed (withHeld p (p .announced) cs) ≡ owed p +ℤ pos k
-  ending k cs h =
+  pub owed-ended : (k : ℕ) (cs : List Open) → length (p .held) ≡ k + length cs → owed (withHeld p (p .announced) cs) ≡ owed p +ℤ pos k
+  owed-ended k cs h =
       sub-same (p .wanted) (p .announced + length cs) (p .wanted + k) taken (omega arith) ∙ sym (sub-plus (p .wanted) taken k)
 
   -- add k adds k
-  pub adding : (k : ℕ) → owed (withWanted p (p .wanted + k)) ≡ owed p +ℤ pos k
-  adding k = sym (sub-plus (p .wanted) taken k)
+  pub owed-added : (k : ℕ) → owed (withWanted p (p .wanted + k)) ≡ owed p +ℤ pos k
+  owed-added k = sym (sub-plus (p .wanted) taken k)
 
   -- withdraw k takes k off
-  pub withdrawing : (k : ℕ) → k ≤ p .wanted → owed (withWanted p (p .wanted - k)) ≡ owed p -ℤ pos k
-  withdrawing k h = sub-minus (p .wanted - k) taken (p .wanted) taken k (omega arith)
+  pub owed-withdrawn : (k : ℕ) → k ≤ p .wanted → owed (withWanted p (p .wanted - k)) ≡ owed p -ℤ pos k
+  owed-withdrawn k h = sub-minus (p .wanted - k) taken (p .wanted) taken k (omega arith)
 
   -- a message takes its delta off
-  pub paying : owed (withHeld p (p .announced + due p) (p .held)) ≡ owed p -ℤ pos (due p)
-  paying = sub-minus (p .wanted) (p .announced + due p + length (p .held)) (p .wanted) taken (due p) (omega arith)
+  pub owed-paid : owed (withHeld p (p .announced + due p) (p .held)) ≡ owed p -ℤ pos (due p)
+  owed-paid = sub-minus (p .wanted) (p .announced + due p + length (p .held)) (p .wanted) taken (due p) (omega arith)
 
 abbrev pub positive : ℤ → ℕ
 positive (pos n) = n

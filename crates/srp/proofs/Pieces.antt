@@ -1,4 +1,4 @@
--- The pieces: each lies inside one segment, where its offset says, is 1 to M long, and together they cover the first min(R, B) bytes of the segments,
+-- The pieces: each lies inside one segment, where its offset says, is as long as the rule says, and together they cover the first min(R, B) bytes of the segments,
 -- in order, once.
 -- Assumes nothing.
 use mathlib.Core.Path.{_≡_, refl, ap, sym, _∙_, subst}
@@ -15,11 +15,12 @@ use lib.Seq.{take-append-add, take-at, take-nil}
 use borrow.Author.Tests.{ltb-true, ltb-false, leb-true}
 use Rattle.srp.specs.Lists.{All}
 use Rattle.srp.specs.Descriptors.{Segment, sumOf, reachable}
-use Rattle.srp.specs.Cutting.{piece, bytesIn, cutSegment, cutsFrom, cuts, nextFrom, next}
+use Rattle.srp.specs.Cutting.{Rule, upTo, piece, bytesIn, cutSegment, cutsFrom, cuts, nextFrom, next}
 use Rattle.srp.specs.Calls.{wrapped}
 use Rattle.srp.specs.declared.Piece.{Piece}
-use Rattle.srp.proofs.Fields.{both}
-use Rattle.srp.proofs.CutLaws.{cutSegment-bytes, next-at, cutsFrom-bytes}
+use Rattle.srp.proofs.FieldLaws.{both}
+use Rattle.srp.proofs.ListLaws.{all-weaken}
+use Rattle.srp.proofs.CutLaws.{Lawful, up-to, cutSegment-bytes, next-at, cutsFrom-bytes}
 
 -- a piece inside a segment that o bytes come before: it starts there where its offset says
 pub record Inside (o : ℕ) (p : Piece) (s : Segment) : Type 0 where
@@ -33,75 +34,76 @@ pub inside-bounds : {o : ℕ} {p : Piece} {s : Segment} → Inside o p s → (s 
 inside-bounds i = omega arith
 
 -- it lies inside one of the segments
-abbrev pub Within : ℕ → Piece → List Segment → Type 0
-Within o p [] = ⊥
-Within o p (s ∷ ss) = Inside o p s ⊎ Within (o + s .len) p ss
+abbrev pub InSegments : ℕ → Piece → List Segment → Type 0
+InSegments o p [] = ⊥
+InSegments o p (s ∷ ss) = Inside o p s ⊎ InSegments (o + s .len) p ss
 
--- a piece of 1 to M bytes at `from`, up to `to` at most, inside one of the segments
-pub record Fits (M o from to : ℕ) (ss : List Segment) (p : Piece) : Type 0 where
+-- a piece by the rule at `from`, of 1 byte at least, up to `to` at most, inside one of the segments
+pub record Fits (q : Rule) (o from to : ℕ) (ss : List Segment) (p : Piece) : Type 0 where
   pub some : 1 ≤ p .len
-  pub most : p .len ≤ M
+  pub ruled : (n : ℕ) × (p .len ≡ q (p .address) n)
   pub upto : from + p .len ≤ to
   pub offset : p .offset ≡ o + from
-  pub within : Within o p ss
+  pub within : InSegments o p ss
 
 -- every piece fits
-pub piece-fits : (M o from to : ℕ) (ss : List Segment) (p : Piece) → 1 ≤ M → nextFrom M o from to ss ≡ some p → Fits M o from to ss p
-piece-fits M o from to [] p m e = absurd (Option·none-ne-some p e)
-piece-fits M o from to (s ∷ ss) p m e = go (ltb from n) refl e (λ f. piece-fits M (o + n) (from - n) (to - n) ss p m f)
+pub piece-fits : (q : Rule) (o from to : ℕ) (ss : List Segment) (p : Piece) → Lawful q → nextFrom q o from to ss ≡ some p → Fits q o from to ss p
+piece-fits q o from to [] p m e = absurd (Option·none-ne-some p e)
+piece-fits q o from to (s ∷ ss) p m e = go (ltb from n) refl e (λ f. piece-fits q (o + n) (from - n) (to - n) ss p m f)
   where
     n : ℕ
     n = min (s .len) to
 
-    first : from < n → Fits M o from to (s ∷ ss) (piece (s .address + from) (s .handle) (min M (n - from)) (o + from))
+    first : from < n → Fits q o from to (s ∷ ss) (piece (s .address + from) (s .handle) (q (s .address + from) (n - from)) (o + from))
     first h =
+        let c = m (s .address + from) (n - from) (omega arith) in
         record {
-          some = omega arith;
-          most = omega arith;
-          upto = omega arith;
+          some = c .0;
+          ruled = (n - from, refl);
+          upto = omega (arith, c);
           offset = refl;
-          within = inl (record { after = omega arith; place = omega arith; ends = omega arith; handle = refl });
+          within = inl (record { after = omega arith; place = omega arith; ends = omega (arith, c); handle = refl });
         }
 
-    later : n ≤ from → Fits M (o + n) (from - n) (to - n) ss p → Fits M o from to (s ∷ ss) p
+    later : n ≤ from → Fits q (o + n) (from - n) (to - n) ss p → Fits q o from to (s ∷ ss) p
     later h ih =
         let whole : o + n ≡ o + s .len = omega (arith, ih .some, ih .upto) in
         record {
           some = ih .some;
-          most = ih .most;
+          ruled = ih .ruled;
           upto = omega (arith, ih .upto);
           offset = omega (arith, ih .offset);
-          within = inr (subst (λ (k : ℕ). Within k p ss) whole (ih .within));
+          within = inr (subst (λ (k : ℕ). InSegments k p ss) whole (ih .within));
         }
 
     go : (b : Bool) → ltb from n ≡ b
-        → cond b (some (piece (s .address + from) (s .handle) (min M (n - from)) (o + from))) (nextFrom M (o + n) (from - n) (to - n) ss) ≡ some p
-        → (nextFrom M (o + n) (from - n) (to - n) ss ≡ some p → Fits M (o + n) (from - n) (to - n) ss p)
-        → Fits M o from to (s ∷ ss) p
-    go true q f ih = subst (Fits M o from to (s ∷ ss)) (Option·some-injective _ p f) (first (ltb-true from n q))
-    go false q f ih = later (ltb-false from n q) (ih f)
+        → cond b (some (piece (s .address + from) (s .handle) (q (s .address + from) (n - from)) (o + from))) (nextFrom q (o + n) (from - n) (to - n) ss) ≡ some p
+        → (nextFrom q (o + n) (from - n) (to - n) ss ≡ some p → Fits q (o + n) (from - n) (to - n) ss p)
+        → Fits q o from to (s ∷ ss) p
+    go true w f ih = subst (Fits q o from to (s ∷ ss)) (Option·some-injective _ p f) (first (ltb-true from n w))
+    go false w f ih = later (ltb-false from n w) (ih f)
 
 -- ── where the segments end by 2^64
 
-within-reach : (o : ℕ) (p : Piece) (ss : List Segment) → reachable ss ≡ true → Within o p ss → p .address + p .len ≤ 2 ^ 64
+within-reach : (o : ℕ) (p : Piece) (ss : List Segment) → reachable ss ≡ true → InSegments o p ss → p .address + p .len ≤ 2 ^ 64
 within-reach o p [] e w = absurd w
 within-reach o p (s ∷ ss) e w =
     let a = both (leb (s .address + s .len) (2 ^ 64)) (reachable ss) e in
     ⊎-elim
     (λ (i : Inside o p s). omega (arith, leb-true (s .address + s .len) (2 ^ 64) (a .0), inside-bounds i))
-    (λ (v : Within (o + s .len) p ss). within-reach (o + s .len) p ss (a .1) v)
+    (λ (v : InSegments (o + s .len) p ss). within-reach (o + s .len) p ss (a .1) v)
     w
 
 -- a piece of segments that end by 2^64 ends by 2^64
-pub reach : (M o from to : ℕ) (ss : List Segment) (p : Piece) → reachable ss ≡ true → 1 ≤ M → nextFrom M o from to ss ≡ some p
+pub reach : (q : Rule) (o from to : ℕ) (ss : List Segment) (p : Piece) → reachable ss ≡ true → Lawful q → nextFrom q o from to ss ≡ some p
     → p .address + p .len ≤ 2 ^ 64
-reach M o from to ss p r m e = within-reach o p ss r (piece-fits M o from to ss p m e .within)
+reach q o from to ss p r m e = within-reach o p ss r (piece-fits q o from to ss p m e .within)
 
 -- so its address is the same in 64 bits
-pub wrapped-same : (M from to : ℕ) (ss : List Segment) (p : Piece) → reachable ss ≡ true → 1 ≤ M → next M from to ss ≡ some p → wrapped p ≡ p
-wrapped-same M from to ss p r m e =
+pub wrapped-same : (q : Rule) (from to : ℕ) (ss : List Segment) (p : Piece) → reachable ss ≡ true → Lawful q → next q from to ss ≡ some p → wrapped p ≡ p
+wrapped-same q from to ss p r m e =
     ap (λ (a : ℕ). piece a (p .handle) (p .len) (p .offset))
-    (mod-eq-of-lt (omega (arith, reach M 0 from to ss p r m e, piece-fits M 0 from to ss p m e .some)))
+    (mod-eq-of-lt (omega (arith, reach q 0 from to ss p r m e, piece-fits q 0 from to ss p m e .some)))
 
 -- ── all the pieces
 
@@ -109,13 +111,17 @@ all-at : {A : Type 0} (P : A → Type 0) (l : List A) → ((k : ℕ) (x : A) →
 all-at P [] f = tt
 all-at P (x ∷ l) f = (f 0 x refl, all-at P l (λ k y e. f (suc k) y e))
 
--- every piece is 1 to M long and lies inside one segment, where its offset says
-pub cuts-fit : (M R : ℕ) (ss : List Segment) → 1 ≤ M → All (λ p. (1 ≤ p .len) × (p .len ≤ M) × Within 0 p ss) (cuts M R ss)
-cuts-fit M R ss m =
-    all-at _ (cuts M R ss) λ k p e.
+-- every piece has a byte, a length that the rule gives at its address, and lies inside one segment, where its offset says
+pub cuts-fit : (q : Rule) (R : ℕ) (ss : List Segment) → Lawful q → All (λ p. (1 ≤ p .len) × ((n : ℕ) × (p .len ≡ q (p .address) n)) × InSegments 0 p ss) (cuts q R ss)
+cuts-fit q R ss m =
+    all-at _ (cuts q R ss) λ k p e.
     let to = min R (sumOf ss) in
-    let f = piece-fits M 0 (bytesIn (take k (cuts M R ss))) to ss p m (sym (next-at M 0 to ss k m) ∙ e) in
-    (f .some, f .most, f .within)
+    let f = piece-fits q 0 (bytesIn (take k (cuts q R ss))) to ss p m (sym (next-at q 0 to ss k m) ∙ e) in
+    (f .some, f .ruled, f .within)
+
+-- so, with document 01's rule, at most M long
+pub cuts-short : (M R : ℕ) (ss : List Segment) → 1 ≤ M → All (λ p. p .len ≤ M) (cuts (upTo M) R ss)
+cuts-short M R ss m = all-weaken _ (λ p. p .len ≤ M) (λ p h. omega (arith, h .1 .1)) (cuts (upTo M) R ss) (cuts-fit (upTo M) R ss (up-to M m))
 
 -- each piece starts where the one before it ends
 abbrev pub Consecutive : ℕ → List Piece → Type 0
@@ -126,26 +132,26 @@ consecutive-append : (o : ℕ) (p q : List Piece) → Consecutive o p → Consec
 consecutive-append o [] q a b = rw add-zero at b
 consecutive-append o (x ∷ p) q a b = (a .0, consecutive-append (o + x .len) p q (a .1) (rw add-assoc b))
 
-segment-consecutive : (f M a h o n : ℕ) → Consecutive o (cutSegment f M a h o n)
-segment-consecutive zero M a h o n = tt
-segment-consecutive (suc f) M a h o zero = tt
-segment-consecutive (suc f) M a h o (suc n) = (refl, segment-consecutive f M (a + min M (suc n)) h (o + min M (suc n)) (suc n - min M (suc n)))
+segment-consecutive : (f : ℕ) (q : Rule) (a h o n : ℕ) → Consecutive o (cutSegment f q a h o n)
+segment-consecutive zero q a h o n = tt
+segment-consecutive (suc f) q a h o zero = tt
+segment-consecutive (suc f) q a h o (suc n) = (refl, segment-consecutive f q (a + q a (suc n)) h (o + q a (suc n)) (suc n - q a (suc n)))
 
-cutsFrom-consecutive : (M o left : ℕ) (ss : List Segment) → 1 ≤ M → Consecutive o (cutsFrom M o left ss)
-cutsFrom-consecutive M o left [] m = tt
-cutsFrom-consecutive M o left (s ∷ ss) m =
+cutsFrom-consecutive : (q : Rule) (o left : ℕ) (ss : List Segment) → Lawful q → Consecutive o (cutsFrom q o left ss)
+cutsFrom-consecutive q o left [] m = tt
+cutsFrom-consecutive q o left (s ∷ ss) m =
     let n = min (s .len) left in
-    consecutive-append o (cutSegment n M (s .address) (s .handle) o n) (cutsFrom M (o + n) (left - n) ss)
-    (segment-consecutive n M (s .address) (s .handle) o n)
-    (rw (cutSegment-bytes n M (s .address) (s .handle) o n m (omega arith)) (cutsFrom-consecutive M (o + n) (left - n) ss m))
+    consecutive-append o (cutSegment n q (s .address) (s .handle) o n) (cutsFrom q (o + n) (left - n) ss)
+    (segment-consecutive n q (s .address) (s .handle) o n)
+    (rw (cutSegment-bytes n q (s .address) (s .handle) o n m (omega arith)) (cutsFrom-consecutive q (o + n) (left - n) ss m))
 
 -- the pieces follow each other from offset 0 on
-pub cuts-consecutive : (M R : ℕ) (ss : List Segment) → 1 ≤ M → Consecutive 0 (cuts M R ss)
-cuts-consecutive M R ss m = cutsFrom-consecutive M 0 (min R (sumOf ss)) ss m
+pub cuts-consecutive : (q : Rule) (R : ℕ) (ss : List Segment) → Lawful q → Consecutive 0 (cuts q R ss)
+cuts-consecutive q R ss m = cutsFrom-consecutive q 0 (min R (sumOf ss)) ss m
 
 -- and have min(R, B) bytes
-pub cuts-bytes : (M R : ℕ) (ss : List Segment) → 1 ≤ M → bytesIn (cuts M R ss) ≡ min R (sumOf ss)
-cuts-bytes M R ss m = cutsFrom-bytes M 0 (min R (sumOf ss)) ss m (omega arith)
+pub cuts-bytes : (q : Rule) (R : ℕ) (ss : List Segment) → Lawful q → bytesIn (cuts q R ss) ≡ min R (sumOf ss)
+cuts-bytes q R ss m = cutsFrom-bytes q 0 (min R (sumOf ss)) ss m (omega arith)
 
 -- ── byte by byte
 
@@ -176,19 +182,20 @@ pieces-append : (p q : List Piece) → bytesOfPieces (p ++ q) ≡ bytesOfPieces 
 pieces-append [] q = refl
 pieces-append (x ∷ p) q = rw (pieces-append p q, append-assoc)
 
-segment-covered : (f M a h o n : ℕ) → 1 ≤ M → n ≤ f → bytesOfPieces (cutSegment f M a h o n) ≡ run h a n
-segment-covered zero M a h o zero m le = refl
-segment-covered zero M a h o (suc n) m le = absurd (not-suc-le-zero le)
-segment-covered (suc f) M a h o zero m le = refl
-segment-covered (suc f) M a h o (suc n) m le =
-    let k = min M (suc n) in
-    let e : k + (suc n - k) ≡ suc n = omega arith in
-    rw (segment-covered f M (a + k) h (o + k) (suc n - k) m (omega arith)) (sym (run-add h a k (suc n - k)) ∙ ap (run h a) e)
+segment-covered : (f : ℕ) (q : Rule) (a h o n : ℕ) → Lawful q → n ≤ f → bytesOfPieces (cutSegment f q a h o n) ≡ run h a n
+segment-covered zero q a h o zero m le = refl
+segment-covered zero q a h o (suc n) m le = absurd (not-suc-le-zero le)
+segment-covered (suc f) q a h o zero m le = refl
+segment-covered (suc f) q a h o (suc n) m le =
+    let k = q a (suc n) in
+    let c = m a (suc n) (omega arith) in
+    let e : k + (suc n - k) ≡ suc n = omega (arith, c) in
+    rw (segment-covered f q (a + k) h (o + k) (suc n - k) m (omega (arith, c))) (sym (run-add h a k (suc n - k)) ∙ ap (run h a) e)
 
-covered-from : (M o left : ℕ) (ss : List Segment) → 1 ≤ M → bytesOfPieces (cutsFrom M o left ss) ≡ take left (bytesOfSegments ss)
-covered-from M o left [] m = sym (take-nil left)
-covered-from M o left (s ∷ ss) m =
-    rw (pieces-append (cutSegment n M (s .address) (s .handle) o n) (cutsFrom M (o + n) (left - n) ss), segment-covered n M (s .address) (s .handle) o n m (omega arith), covered-from M (o + n) (left - n) ss m)
+covered-from : (q : Rule) (o left : ℕ) (ss : List Segment) → Lawful q → bytesOfPieces (cutsFrom q o left ss) ≡ take left (bytesOfSegments ss)
+covered-from q o left [] m = sym (take-nil left)
+covered-from q o left (s ∷ ss) m =
+    rw (pieces-append (cutSegment n q (s .address) (s .handle) o n) (cutsFrom q (o + n) (left - n) ss), segment-covered n q (s .address) (s .handle) o n m (omega arith), covered-from q (o + n) (left - n) ss m)
     (go (ltb left (s .len)) refl)
   where
     n : ℕ
@@ -215,5 +222,5 @@ covered-from M o left (s ∷ ss) m =
         rw all (sym (ap (λ (k : ℕ). take k (r (s .len) ++ rest)) split ∙ take-append-add (r (s .len)) rest (left - s .len)))
 
 -- the bytes of the pieces are the first min(R, B) bytes of the segments, in order, once
-pub bytes-covered : (M R : ℕ) (ss : List Segment) → 1 ≤ M → bytesOfPieces (cuts M R ss) ≡ take (min R (sumOf ss)) (bytesOfSegments ss)
-bytes-covered M R ss m = covered-from M 0 (min R (sumOf ss)) ss m
+pub bytes-covered : (q : Rule) (R : ℕ) (ss : List Segment) → Lawful q → bytesOfPieces (cuts q R ss) ≡ take (min R (sumOf ss)) (bytesOfSegments ss)
+bytes-covered q R ss m = covered-from q 0 (min R (sumOf ss)) ss m

@@ -3,7 +3,7 @@
 -- closed port is one value.
 -- Assumes nothing.
 use mathlib.Core.Path.{_≡_, refl, ap, sym, _∙_}
-use mathlib.Core.Logic.{_⊎_, inl, inr, ⊎-elim}
+use mathlib.Core.Logic.{inl, inr, ⊎-elim}
 use mathlib.Core.Bool.{Bool, true, false, cond, not, _&&_, _||_, true≢false}
 use mathlib.Core.List.{List, [], _∷_, _++_}
 use mathlib.Core.Option.{Option, none, some, Option·none-ne-some}
@@ -11,42 +11,38 @@ use Prim.Native.Nat.{ℕ, zero, suc, _+_, _-_, _/_, _^_, _≤_, _<_, min}
 use native.Mathlib.Omega.{arith}
 use lib.Dec.{ltb, eqb}
 use lib.ListN.{length, take, drop, length-append, length-take}
-use borrow.Author.Tests.{ltb-false, leb-false, eqb-true, eqb-false, not-false}
+use borrow.Author.Tests.{ltb-false, leb-false, eqb-true, eqb-false}
 use Rattle.srp.specs.Bytes.{bytes, number, get}
 use Rattle.srp.specs.Messages.{tag, outFormat, inFormat, outCount, inCount, segmentLength}
 use Rattle.srp.specs.Lists.{find, change, without, All}
 use Rattle.srp.specs.Limits.{bufferSize}
-use Rattle.srp.specs.Refusals.{numberOf, firstOf, hangsUp, short}
+use Rattle.srp.specs.Refusals.{Conduct, hangsUp, answered, stays, altersNothing, conductOf, firstOf, short}
 use Rattle.srp.specs.Descriptors.{segmentsIn, segmentsOf, segments, sumOf, reachable, descriptorOf, goodTable, copiesAgree, goodFields}
 use Rattle.srp.specs.Requests.{outAt, inAt, outDescriptor, inDescriptor, commandOf, readMessage}
-use Rattle.srp.specs.Cutting.{next, badMaximum}
-use Rattle.srp.specs.Credit.{Side, Open, Port, closedPort, due, withHeld, withWanted, withUnanswered}
-use Rattle.srp.specs.Take.{Outcome, silent, hangUp, closed, answerBad, Tables, fieldsFit, newSide, newOpen, aborts, takeChecks, accepted, takeBy, takeDef, hasTag}
-use Rattle.srp.specs.Calls.{unless, planned as withPlan, planChecks, planDef, requiring, sideOf, handing, advanced, nextOf, wrapped, handOut, stepChecks, stepDef, finishChecks, finishDef, addChecks, addDef, withdrawChecks, withdrawDef, grantChecks, grantDef, closeDef}
-use Rattle.srp.specs.Login.{Settings, badSettings, loginChecks, rejections, judged, loginBy, loginDef}
+use Rattle.srp.specs.Both.{Both, of, alter, Each}
+use Rattle.srp.specs.Credit.{Side, Open, ruleOf, Port, closedPort, due, withHeld, withWanted, withUnanswered}
+use Rattle.srp.specs.Take.{Outcome, closed, conducted, Tables, fieldsFit, newSide, newOpen, aborted, takeChecks, accepted, takeBy, takeDef, hasTag}
+use Rattle.srp.specs.Calls.{unless, planned as withPlan, planChecks, planDef, requiring, handing, advanced, nextIn, nextOf, wrapped, handOut, stepChecks, stepDef, finishChecks, finishDef, addChecks, addDef, withdrawChecks, withdrawDef, grantChecks, grantDef, closeDef}
 use Rattle.srp.specs.declared.Refusal.{Refusal}
 use Rattle.srp.specs.declared.Refusal.the-variants.{ShortBuffer, Closed}
 use Rattle.srp.specs.declared.Descriptor.{Descriptor}
 use Rattle.srp.specs.declared.Message.{Message}
 use Rattle.srp.specs.declared.Message.the-variants.{Bad, Cmd, TskMgmt, CredRsp, ILogout}
 use Rattle.srp.specs.declared.Direction.{Direction}
-use Rattle.srp.specs.declared.Direction.the-variants.{Out, In}
 use Rattle.srp.specs.declared.Piece.{Piece}
-use Rattle.srp.specs.declared.Reply.the-variants.{Refused}
 use Rattle.srp.specs.Bytes.{Bytes}
-use Rattle.srp.specs.Ranges.{SideRanges, OpenRanges, Ranges, Reached, logged-in, took, planned, stepped, finished, added, withdrew, granted, hung-up, Kept}
-use Rattle.srp.proofs.Fields.{both, get-below}
+use Rattle.srp.specs.Ranges.{SideRanges, OpenRanges, Ranges, Reached, logged-in, took, planned, stepped, finished, added, withdrew, granted, hung-up, Ranged}
+use Rattle.srp.proofs.FieldLaws.{both, get-below}
 use Rattle.srp.proofs.ListLaws.{all-take, all-drop, all-snoc, all-without, all-find, all-change, length-change, length-without}
+use Rattle.srp.proofs.BothLaws.{each-of, each-altered}
+use Rattle.srp.proofs.Opened.{login-kept}
 use Rattle.srp.proofs.Checks.{passes}
 use Rattle.srp.proofs.Reading.{read-has}
+use Rattle.srp.proofs.Refusing.{passed}
+use Rattle.srp.proofs.CutLaws.{Lawful, up-to}
 use Rattle.srp.proofs.Pieces.{piece-fits, wrapped-same}
 
 -- ── a message's segments
-
--- neither of two
-pub neither : (a b : Bool) → (a || b) ≡ false → (a ≡ false) × (b ≡ false)
-neither true b e = absurd (true≢false e)
-neither false b e = (refl, e)
 
 one-segment : (k : ℕ) (l : List ℕ) → k ≤ 1 → Bytes l → sumOf (segmentsIn k l) < 2 ^ 32
 one-segment zero l h a = omega arith
@@ -90,7 +86,7 @@ module _ (f count at : ℕ) (s table : List ℕ) (b : Bytes s) where
   new-ranges : goodFields desc s table ≡ true → SideRanges (newSide (segments desc s table))
   new-ranges good =
       let g = both (tests (eqb f 2)) (reachable (segments desc s table)) good in
-      record { reach = g .1; sum = refl; small = small (g .0); handed = omega arith; required = omega arith }
+      record { extent = record { reach = g .1; sum = refl; small = small (g .0) }; handed = omega arith; required = omega arith }
 
 -- a command that a message of bytes is read as has such segments, where its fields are good
 abbrev Sane : List ℕ → Tables → Message → Type 0
@@ -106,8 +102,7 @@ module _ (s : List ℕ) (t : Tables) (b : Bytes s) where
       let g = both (goodFields (outDescriptor s) s (t .out)) (goodFields (inDescriptor s) s (t .inn)) e in
       record {
         tag = get-below tag s b;
-        out = new-ranges (get outFormat s) (get outCount s) (outAt s) s (t .out) b (g .0);
-        inn = new-ranges (get inFormat s) (get inCount s) (inAt s) s (t .inn) b (g .1);
+        sides = (new-ranges (get outFormat s) (get outCount s) (outAt s) s (t .out) b (g .0), new-ranges (get inFormat s) (get inCount s) (inAt s) s (t .inn) b (g .1));
         unplanned = λ _. (refl, refl);
       }
 
@@ -115,6 +110,10 @@ module _ (s : List ℕ) (t : Tables) (b : Bytes s) where
   read-sane = read-has (Sane s t) (λ _. tt) s command-sane tt tt tt
 
 -- ── each call on a port that has them
+
+-- its pieces have bytes, and no more than are left
+pub cutting : {p : Port} → Ranges p → Lawful (ruleOf (p .terms))
+cutting {p} v = up-to (p .terms .maximum) (v .smallest)
 
 module _ {p : Port} (v : Ranges p) where
   fewer : (a : ℕ) (cs : List Open) → a + length cs ≤ 16 → All OpenRanges cs → Ranges (withHeld p a cs)
@@ -129,12 +128,12 @@ module _ {p : Port} (v : Ranges p) where
   asking b =
       record { live = v .live; least = v .least; most = v .most; room = v .room; smallest = v .smallest; largest = v .largest; commands = v .commands }
 
-  unless-kept : (r : Option Refusal) (o : Outcome) → (r ≡ none → Kept (o .port)) → Kept (unless r p o .port)
+  unless-kept : (r : Option Refusal) (o : Outcome) → (r ≡ none → Ranged (o .port)) → Ranged (unless r p o .port)
   unless-kept none o f = f refl
   unless-kept (some r) o f = inr v
 
   changed : (f : Open → Bool) (g : Open → Open) → ((c : Open) → find f (p .held) ≡ some c → OpenRanges c → OpenRanges (g c))
-      → Kept (withHeld p (p .announced) (change f g (p .held)))
+      → Ranged (withHeld p (p .announced) (change f g (p .held)))
   changed f g h =
       inr (fewer (p .announced) (change f g (p .held)) (omega (arith, v .room, length-change f g (p .held))) (all-change OpenRanges f g (p .held) (v .commands) h))
 
@@ -148,107 +147,96 @@ module _ {p : Port} (v : Ranges p) where
   shorter a f h = fewer v a (without f (p .held)) (omega (arith, v .room, length-without f (p .held))) (all-without OpenRanges f (p .held) (v .commands))
 
 module _ {p : Port} (v : Ranges p) where
-  take-kept : (room : ℕ) (s : List ℕ) (t : Tables) → Bytes s → Kept (takeDef p room s t .port)
-  take-kept room s t b = go (readMessage (p .agreed) (p .formats) s) (read-sane s t b (p .agreed) (p .formats))
+  take-kept : (room : ℕ) (s : List ℕ) (t : Tables) → Bytes s → Ranged (takeDef p room s t .port)
+  take-kept room s t b = go (readMessage (p .terms .agreed) (p .terms .formats) s) (read-sane s t b (p .terms .agreed) (p .terms .formats))
     where
-      by : (hang bad : Bool) (m : Message) (r : Refusal) → Kept (cond hang (hangUp p r) (cond bad (answerBad p m r) (silent p (Refused r))) .port)
-      by true bad m r = inl refl
-      by false true m r = inr (paid (fewer v (p .announced - 1) (p .held) (omega (arith, v .room)) (v .commands)))
-      by false false m r = inr v
+      by : (c : Conduct) (m : Message) (r : Refusal) → Ranged (conducted c p m r .port)
+      by (hangsUp reason) m r = inl refl
+      by answered m r = inr (paid (fewer v (p .announced - 1) (p .held) (omega (arith, v .room)) (v .commands)))
+      by stays m r = inr v
+      by altersNothing m r = inr v
 
-      accept : (m : Message) → Sane s t m → firstOf (takeChecks p room s t m) ≡ none → Kept (accepted p s t m .port)
-      accept (Bad r) k e = inl refl
+      accept : (m : Message) → Sane s t m → firstOf (takeChecks p room s t m) ≡ none → Ranged (accepted p s t m .port)
+      accept (Bad r) k e = by (conductOf r) (Bad r) r
       accept (Cmd c) k e =
-          let q = passes (takeChecks p room s t (Cmd c)) e in
+          let q = passed p room s t c e in
           inr
           (fewer v (p .announced - 1) (p .held ++ (newOpen c s t ∷ []))
-          (omega (arith, v .room, length-append (p .held) (newOpen c s t ∷ []), eqb-false (p .announced) 0 (q .1 .1 .0)))
-          (all-snoc OpenRanges (p .held) (newOpen c s t) (v .commands) (k (not-false (fieldsFit c s t) (q .1 .1 .1 .1 .1 .0)))))
-      accept (TskMgmt k) a e = inr (paid (shorter v (p .announced - 1) (λ (c : Open). aborts k (c .tag) (c .lun)) (omega arith)))
+          (omega (arith, v .room, length-append (p .held) (newOpen c s t ∷ []), eqb-false (p .announced) 0 (q .credit)))
+          (all-snoc OpenRanges (p .held) (newOpen c s t) (v .commands) (k (q .fields))))
+      accept (TskMgmt k) a e = inr (paid (shorter v (p .announced - 1) (aborted k) (omega arith)))
       accept (CredRsp g) k e = inr (asking v false)
       accept ILogout k e = inl refl
 
-      end : (r : Option Refusal) (m : Message) → Sane s t m → firstOf (takeChecks p room s t m) ≡ r → Kept (takeBy r p s t m .port)
+      end : (r : Option Refusal) (m : Message) → Sane s t m → firstOf (takeChecks p room s t m) ≡ r → Ranged (takeBy r p s t m .port)
       end none m k e = accept m k e
-      end (some r) m k e = by (hangsUp (numberOf r)) (eqb (numberOf r) 10) m r
+      end (some r) m k e = by (conductOf r) m r
 
-      go : (m : Message) → Sane s t m → Kept (takeBy (firstOf (takeChecks p room s t m)) p s t m .port)
+      go : (m : Message) → Sane s t m → Ranged (takeBy (firstOf (takeChecks p room s t m)) p s t m .port)
       go m k = end (firstOf (takeChecks p room s t m)) m k refl
 
-  plan-kept : (tag out inn : ℕ) → out < 2 ^ 32 → inn < 2 ^ 32 → Kept (planDef p tag out inn .port)
+  plan-kept : (tag out inn : ℕ) → out < 2 ^ 32 → inn < 2 ^ 32 → Ranged (planDef p tag out inn .port)
   plan-kept tag out inn ho hi =
       unless-kept v (firstOf (planChecks p tag)) _ λ e.
       changed v (hasTag tag) (withPlan out inn) λ c f r.
       let u = r .unplanned (rw f at (passes (planChecks p tag) e .1 .1 .0)) in
-      record { tag = r .tag; out = requires (c .out) out (r .out) (u .0) ho; inn = requires (c .inn) inn (r .inn) (u .1) hi; unplanned = λ z. absurd (true≢false z) }
+      record {
+        tag = r .tag;
+        sides = (requires (c .sides .out) out (r .sides .0) (u .0) ho, requires (c .sides .inn) inn (r .sides .1) (u .1) hi);
+        unplanned = λ z. absurd (true≢false z);
+      }
     where
-      requires : (s : Side) (n : ℕ) → SideRanges s → s .required ≡ 0 → n < 2 ^ 32 → SideRanges (requiring n s)
-      requires s n r z h = record { reach = r .reach; sum = r .sum; small = r .small; handed = omega (arith, r .handed); required = h }
+      requires : (s : Side) (n : ℕ) → SideRanges s → s .transfer .required ≡ 0 → n < 2 ^ 32 → SideRanges (requiring n s)
+      requires s n r z h = record { extent = r .extent; handed = omega (arith, r .handed); required = h }
 
-  step-kept : (tag : ℕ) (d : Direction) → Kept (stepDef p tag d .port)
-  step-kept tag d = unless-kept v (firstOf (stepChecks p tag)) _ λ _. go (nextOf (p .maximum) d (find (hasTag tag) (p .held))) refl
+  step-kept : (tag : ℕ) (d : Direction) → Ranged (stepDef p tag d .port)
+  step-kept tag d = unless-kept v (firstOf (stepChecks p tag)) _ λ _. go (nextOf (p .terms) d (find (hasTag tag) (p .held))) refl
     where
-      hands : (s : Side) (o : Piece) → SideRanges s → next (p .maximum) (s .handed) (min (s .required) (s .total)) (s .segs) ≡ some o → SideRanges (handing (o .len) s)
+      hands : (s : Side) (o : Piece) → SideRanges s → nextIn (p .terms) s ≡ some o → SideRanges (handing (o .len) s)
       hands s o r e =
-          let f = piece-fits (p .maximum) 0 (s .handed) (min (s .required) (s .total)) (s .segs) o (v .smallest) e in
-          record { reach = r .reach; sum = r .sum; small = r .small; handed = f .upto; required = r .required }
+          let f = piece-fits (ruleOf (p .terms)) 0 (s .transfer .handed) (min (s .transfer .required) (s .extent .total)) (s .extent .segs) o (cutting v) e in
+          record { extent = r .extent; handed = f .upto; required = r .required }
 
-      more : (d : Direction) (c : Open) (o : Piece) → nextOf (p .maximum) d (some c) ≡ some o → OpenRanges c → OpenRanges (advanced d (o .len) c)
-      more Out c o e r = record { tag = r .tag; out = hands (c .out) o (r .out) e; inn = r .inn; unplanned = r .unplanned }
-      more In c o e r = record { tag = r .tag; out = r .out; inn = hands (c .inn) o (r .inn) e; unplanned = r .unplanned }
+      -- what is required does not move
+      same-plan : (d : Direction) (n : ℕ) (b : Both Side) → Each (λ s. s .transfer .required ≡ 0) b → Each (λ s. s .transfer .required ≡ 0) (alter d (handing n) b)
+      same-plan d n b z = each-altered (λ s. s .transfer .required ≡ 0) d b (handing n) z (each-of (λ s. s .transfer .required ≡ 0) d b z)
 
-      go : (o : Option Piece) → nextOf (p .maximum) d (find (hasTag tag) (p .held)) ≡ o → Kept (handOut p tag d o .port)
+      more : (d : Direction) (c : Open) (o : Piece) → nextOf (p .terms) d (some c) ≡ some o → OpenRanges c → OpenRanges (advanced d (o .len) c)
+      more d c o e r =
+          record {
+            tag = r .tag;
+            sides = each-altered SideRanges d (c .sides) (handing (o .len)) (r .sides) (hands (of d (c .sides)) o (each-of SideRanges d (c .sides) (r .sides)) e);
+            unplanned = λ u. same-plan d (o .len) (c .sides) (r .unplanned u);
+          }
+
+      go : (o : Option Piece) → nextOf (p .terms) d (find (hasTag tag) (p .held)) ≡ o → Ranged (handOut p tag d o .port)
       go none e = inr v
       go (some o) e = changed v (hasTag tag) (advanced d (o .len)) λ c f r. more d c o (rw f at e) r
 
-  add-kept : (k : ℕ) → Kept (addDef p k .port)
+  add-kept : (k : ℕ) → Ranged (addDef p k .port)
   add-kept k =
       unless-kept v (firstOf (addChecks p k)) _ λ e.
       inr (wanting v (p .wanted + k) (omega (arith, v .least)) (ltb-false 16 (p .wanted + k) (passes (addChecks p k) e .1 .1 .0)))
 
-  withdraw-kept : (k : ℕ) → Kept (withdrawDef p k .port)
+  withdraw-kept : (k : ℕ) → Ranged (withdrawDef p k .port)
   withdraw-kept k =
       unless-kept v (firstOf (withdrawChecks p k)) _ λ e.
       inr (wanting v (p .wanted - k) (omega (arith, leb-false (p .wanted) k (passes (withdrawChecks p k) e .1 .1 .0))) (omega (arith, v .most)))
 
-  finish-kept : (room tag status : ℕ) (sense : List ℕ) → Kept (finishDef p room tag status sense .port)
+  finish-kept : (room tag status : ℕ) (sense : List ℕ) → Ranged (finishDef p room tag status sense .port)
   finish-kept room tag status sense =
       unless-kept v (firstOf (finishChecks p room tag status sense)) _ λ _. inr (paid (shorter v (p .announced) (hasTag tag) (omega arith)))
 
-  grant-kept : (room : ℕ) → Kept (grantDef p room .port)
+  grant-kept : (room : ℕ) → Ranged (grantDef p room .port)
   grant-kept room = unless-kept v (firstOf (grantChecks p room)) _ λ _. inr (paid (asking v true))
 
-  close-kept : (room reason : ℕ) → Kept (closeDef p room reason .port)
+  close-kept : (room reason : ℕ) → Ranged (closeDef p room reason .port)
   close-kept room reason = unless-kept v (firstOf (short room ∷ closed p ∷ [])) _ λ _. inl refl
-
-login-kept : (c : Settings) (room : ℕ) (s : List ℕ) → Kept (loginDef c room s .port)
-login-kept c room s = go (firstOf (loginChecks c room s)) refl
-  where
-    opens : badSettings c ≡ false → (r : Option ℕ) → Kept (judged r c s .port)
-    opens e none =
-        let a = neither (eqb (c .buffers) 0) _ e in
-        let b = neither (ltb 16 (c .buffers)) _ (a .1) in
-        let m = neither (eqb (c .maximum) 0) (ltb 1048576 (c .maximum)) (neither (badMaximum (c .maximum)) _ (b .1) .0) in
-        let few = ltb-false 16 (c .buffers) (b .0) in
-        inr (record {
-          live = refl;
-          least = omega (arith, eqb-false (c .buffers) 0 (a .0));
-          most = few;
-          room = omega arith;
-          smallest = omega (arith, eqb-false (c .maximum) 0 (m .0));
-          largest = ltb-false 1048576 (c .maximum) (m .1);
-          commands = tt;
-        })
-    opens e (some r) = inl refl
-
-    go : (r : Option Refusal) → firstOf (loginChecks c room s) ≡ r → Kept (loginBy r c s .port)
-    go none e = opens (passes (loginChecks c room s) e .1 .0) (firstOf (rejections c s))
-    go (some r) e = inl refl
 
 -- ── the law
 
 -- a call that leaves the closed port as it is, and whose other results are fine
-carry : {p : Port} (f : Port → Port) → f closedPort ≡ closedPort → (Ranges p → Kept (f p)) → Kept p → Kept (f p)
+carry : {p : Port} (f : Port → Port) → f closedPort ≡ closedPort → (Ranges p → Ranged (f p)) → Ranged p → Ranged (f p)
 carry f z g k = ⊎-elim (λ e. inl (ap f e ∙ z)) g k
 
 -- the closed port stays, whatever the room
@@ -261,8 +249,8 @@ unless-shut true o = refl
 unless-shut false o = refl
 
 -- every port that a login made and calls changed is closed, as the one value closedPort, or has the ranges
-pub reached : {p : Port} → Reached p → Kept p
-reached (logged-in c room s) = login-kept c room s
+pub reached : {p : Port} → Reached p → Ranged p
+reached (logged-in c own room s) = login-kept c own room s
 reached (took r room s t b) = carry (λ p. takeDef p room s t .port) (take-shut (ltb room bufferSize) s t _) (λ v. take-kept v room s t b) (reached r)
 reached (planned r tag out inn ho hi) = carry (λ p. planDef p tag out inn .port) refl (λ v. plan-kept v tag out inn ho hi) (reached r)
 reached (stepped r tag d) = carry (λ p. stepDef p tag d .port) refl (λ v. step-kept v tag d) (reached r)
@@ -284,15 +272,12 @@ closed-one r e = ⊎-elim (λ z. z) (λ v. absurd (true≢false (sym (v .live) �
 
 -- and of a port with the ranges the address of a piece that a step hands out is the same in 64 bits
 pub step-same : {p : Port} → Ranges p → (tag : ℕ) (d : Direction) (o : Piece)
-    → nextOf (p .maximum) d (find (hasTag tag) (p .held)) ≡ some o → wrapped o ≡ o
+    → nextOf (p .terms) d (find (hasTag tag) (p .held)) ≡ some o → wrapped o ≡ o
 step-same {p} v tag d o = go (find (hasTag tag) (p .held)) refl
   where
-    side : (d : Direction) (c : Open) → OpenRanges c → SideRanges (sideOf d c)
-    side Out c r = r .out
-    side In c r = r .inn
-
-    go : (x : Option Open) → find (hasTag tag) (p .held) ≡ x → nextOf (p .maximum) d x ≡ some o → wrapped o ≡ o
+    go : (x : Option Open) → find (hasTag tag) (p .held) ≡ x → nextOf (p .terms) d x ≡ some o → wrapped o ≡ o
     go none f e = absurd (Option·none-ne-some o e)
     go (some c) f e =
-        let r = side d c (all-find OpenRanges (hasTag tag) (p .held) c (v .commands) f) in
-        wrapped-same (p .maximum) (sideOf d c .handed) (min (sideOf d c .required) (sideOf d c .total)) (sideOf d c .segs) o (r .reach) (v .smallest) e
+        let s = of d (c .sides) in
+        let r = each-of SideRanges d (c .sides) (all-find OpenRanges (hasTag tag) (p .held) c (v .commands) f .sides) in
+        wrapped-same (ruleOf (p .terms)) (s .transfer .handed) (min (s .transfer .required) (s .extent .total)) (s .extent .segs) o (r .extent .reach) (cutting v) e

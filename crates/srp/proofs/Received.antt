@@ -16,8 +16,9 @@ use Rattle.srp.specs.Messages.{outFormat, inFormat, loginReq, tskMgmt, c
 use Rattle.srp.specs.Refusals.{Check, firstOf}
 use Rattle.srp.specs.Descriptors.{agrees, descriptorOf, badCount, fetchOf}
 use Rattle.srp.specs.Requests.{flag, exactLength, outDescriptor, inDescriptor, commandOf, commandChecks, taskOf, unlessBad, lengthChecks, byType, readMessage, otherFormats, lookChecks, lookDef, badLength}
-use Rattle.srp.specs.Initiator.{Buffer, noData, direct, indirect, formatOf, countOf, Fields, values, commandBytes}
-use Rattle.srp.specs.Login.{Settings, opened, loginDef, openedBy}
+use Rattle.srp.specs.Initiator.{Buffer, noData, direct, indirect, formatOf, countOf, CommandFields, values, commandBytes}
+use Rattle.srp.specs.Login.{termsBy, openedWith, opened, loginDef}
+use Rattle.srp.specs.declared.Settings.{Settings}
 use Rattle.srp.specs.declared.Refusal.{Refusal}
 use Rattle.srp.specs.declared.Refusal.the-variants.{OtherType}
 use Rattle.srp.specs.declared.Descriptor.{Descriptor}
@@ -29,7 +30,7 @@ use Rattle.srp.specs.declared.Reply.the-variants.{Accepted}
 use Rattle.srp.proofs.Checks.{clear}
 use Rattle.srp.proofs.Layouts.{Written, written}
 use Rattle.srp.proofs.Commands.{Fit, Says, commandIn, Reads, command-read}
-use Rattle.srp.proofs.Demand.{opens}
+use Rattle.srp.proofs.Opened.{opens}
 
 -- ── requests, credit responses and logouts
 
@@ -40,14 +41,14 @@ module _ (agreed formats : ℕ) where
   by-length s h k = rw (clear (lengthChecks agreed s) (le-ltb (length s) 16 h, (le-ltb agreed (length s) k, tt)))
 
   task-read : (s : List ℕ) (u c t l f m : ℕ) → length s ≡ 48 → typeOf s ≡ 0x01 → gets (tskMgmt .fields) s ≡ u ∷ c ∷ t ∷ l ∷ f ∷ m ∷ [] → 48 ≤ agreed
-      → readMessage agreed formats s ≡ TskMgmt (record { tag = t; lun = l; ucsolnt = flag u; scsolnt = flag c; function = f; managed = m })
+      → readMessage agreed formats s ≡ TskMgmt (record { request = record { tag = t; lun = l; ucsolnt = flag u; scsolnt = flag c }; function = f; managed = m })
   task-read s u c t l f m n k v h =
-      let e : taskOf s ≡ record { tag = t; lun = l; ucsolnt = flag u; scsolnt = flag c; function = f; managed = m } = cc in
+      let e : taskOf s ≡ record { request = record { tag = t; lun = l; ucsolnt = flag u; scsolnt = flag c }; function = f; managed = m } = cc in
       by-length s (omega arith) (omega arith) ∙ rw (k, n, e)
 
   -- a task management request is read as it was written
   pub task-received : (u c t l f m : ℕ) → InRange (tskMgmt .fields) (u ∷ c ∷ t ∷ l ∷ f ∷ m ∷ []) → 48 ≤ agreed
-      → readMessage agreed formats (write tskMgmt (u ∷ c ∷ t ∷ l ∷ f ∷ m ∷ [])) ≡ TskMgmt (record { tag = t; lun = l; ucsolnt = flag u; scsolnt = flag c; function = f; managed = m })
+      → readMessage agreed formats (write tskMgmt (u ∷ c ∷ t ∷ l ∷ f ∷ m ∷ [])) ≡ TskMgmt (record { request = record { tag = t; lun = l; ucsolnt = flag u; scsolnt = flag c }; function = f; managed = m })
   task-received u c t l f m r h =
       let w : Written tskMgmt (u ∷ c ∷ t ∷ l ∷ f ∷ m ∷ []) = written tskMgmt refl _ r in
       task-read _ u c t l f m (w .long) (w .code) (w .values) h
@@ -83,7 +84,7 @@ good-count (indirect a h n t w) at d s k e y =
     rw (f, c, y .len, le-ltb 32 (length w / 16) (omega (arith, k .0)), le-ltb n (16 * (length w / 16)) (omega (arith, k .1)))
 
 -- a command whose formats are agreed, whose copies fit and that is not too long is read as it was written
-pub command-received : (agreed formats : ℕ) (c : Fields) → InRange (cmd .fields) (values c) → length (c .cdb) ≡ 16 + 4 * c .n → Fit (c .out) → Fit (c .inn)
+pub command-received : (agreed formats : ℕ) (c : CommandFields) → InRange (cmd .fields) (values c) → length (c .cdb) ≡ 16 + 4 * c .n → Fit (c .out) → Fit (c .inn)
     → Copied (c .out) → Copied (c .inn) → agrees formats (formatOf (c .out)) ≡ true → agrees formats (formatOf (c .inn)) ≡ true → length (commandBytes c) ≤ agreed
     → readMessage agreed formats (commandBytes c) ≡ Cmd (commandIn c (commandBytes c))
 command-received agreed formats c h l fo fi ko ki ao ai n = go (commandBytes c) (command-read c h l fo fi) n
@@ -105,16 +106,16 @@ command-received agreed formats c h l fo fi ko ki ao ai n = go (commandBytes c) 
 
 -- ── login
 
-login-read : (c : Settings) (s : List ℕ) (t n f r o a i g : ℕ) → gets (loginReq .fields) s ≡ t ∷ n ∷ f ∷ r ∷ o ∷ a ∷ i ∷ g ∷ [] → opened c s ≡ openedBy c n f r o
+login-read : (c : Settings) (s : List ℕ) (t n f r o a i g : ℕ) → gets (loginReq .fields) s ≡ t ∷ n ∷ f ∷ r ∷ o ∷ a ∷ i ∷ g ∷ [] → opened c s ≡ openedWith (c .buffers) (termsBy c n f r o)
 login-read c s t n f r o a i g v = cc
 
 -- a login request that is accepted opens the port with the length, formats, CRSOLNT and LOSOLNT that were written into it
-pub login-received : (c : Settings) (room t n f r o a i g : ℕ) → InRange (loginReq .fields) (t ∷ n ∷ f ∷ r ∷ o ∷ a ∷ i ∷ g ∷ [])
-    → loginDef c room (write loginReq (t ∷ n ∷ f ∷ r ∷ o ∷ a ∷ i ∷ g ∷ [])) .reply ≡ Accepted
-    → loginDef c room (write loginReq (t ∷ n ∷ f ∷ r ∷ o ∷ a ∷ i ∷ g ∷ [])) .port ≡ openedBy c n f r o
-login-received c room t n f r o a i g h e =
+pub login-received : (c : Settings) (own : List ℕ) (room t n f r o a i g : ℕ) → InRange (loginReq .fields) (t ∷ n ∷ f ∷ r ∷ o ∷ a ∷ i ∷ g ∷ [])
+    → loginDef c own room (write loginReq (t ∷ n ∷ f ∷ r ∷ o ∷ a ∷ i ∷ g ∷ [])) .reply ≡ Accepted
+    → loginDef c own room (write loginReq (t ∷ n ∷ f ∷ r ∷ o ∷ a ∷ i ∷ g ∷ [])) .port ≡ openedWith (c .buffers) (termsBy c n f r o)
+login-received c own room t n f r o a i g h e =
     let s : List ℕ = write loginReq (t ∷ n ∷ f ∷ r ∷ o ∷ a ∷ i ∷ g ∷ []) in
-    opens c room s e ∙ login-read c s t n f r o a i g (written loginReq refl _ h .values)
+    opens c own room s e ∙ login-read c s t n f r o a i g (written loginReq refl _ h .values)
 
 -- ── look
 

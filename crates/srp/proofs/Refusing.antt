@@ -5,26 +5,31 @@ use mathlib.Core.Logic.{_↔_}
 use mathlib.Core.Bool.{Bool, true, false, cond, not, true≢false}
 use mathlib.Core.List.{List, [], _∷_, _++_}
 use mathlib.Core.Option.{Option, none, some, Option·none-ne-some, Option·some-injective}
-use Prim.Native.Nat.{ℕ}
+use Prim.Native.Nat.{ℕ, _^_, _<_}
+use native.Mathlib.Omega.{arith}
 use lib.Dec.{ltb, eqb}
 use lib.ListN.{length}
-use borrow.Author.Tests.{eqb-true}
+use borrow.Author.Tests.{eqb-true, not-true, not-false}
+use Rattle.srp.specs.Lists.{All}
 use Rattle.srp.specs.Bytes.{get, typeOf}
 use Rattle.srp.specs.Messages.{tag}
-use Rattle.srp.specs.Refusals.{numberOf, Check, firstOf, hangsUp}
+use Rattle.srp.specs.Refusals.{Conduct, hangsUp, answered, stays, altersNothing, numberOf, conductOf, Check, firstOf}
 use Rattle.srp.specs.Requests.{commandChecks, commandOf, taskOf, unlessBad, sized, lengthChecks, byType, readMessage}
 use Rattle.srp.specs.Credit.{Port}
-use Rattle.srp.specs.Take.{Outcome, silent, hangUp, Tables, laterChecks, takeChecks, accepted, answerBad, refusedBy, takeBy, takeRead, takeDef}
+use Rattle.srp.specs.Take.{Outcome, conducted, isOpen, Tables, fieldsFit, laterChecks, takeChecks, accepted, refusedBy, takeBy, takeRead, takeDef}
 use Rattle.srp.specs.Calls.{unless}
 use Rattle.srp.specs.Answers.{refusalIn}
 use Rattle.srp.specs.Order.{orderOf, takeOrder}
 use Rattle.srp.specs.declared.Refusal.{Refusal}
-use Rattle.srp.specs.declared.Refusal.the-variants.{ShortBuffer, Length, Closed}
+use Rattle.srp.specs.declared.Refusal.the-variants.{ShortBuffer, Length, Closed, NoCredit, TagOpen}
+use Rattle.srp.specs.Limits.{bufferSize}
+use Rattle.srp.specs.declared.Command.{Command}
 use Rattle.srp.specs.declared.Message.{Message}
 use Rattle.srp.specs.declared.Message.the-variants.{Bad, Cmd, TskMgmt, CredRsp, ILogout}
 use Rattle.srp.specs.declared.Reply.{Reply}
 use Rattle.srp.specs.declared.Reply.the-variants.{Refused}
-use Rattle.srp.proofs.Checks.{passes}
+use Rattle.srp.proofs.Checks.{passes, hit}
+use Rattle.srp.proofs.Reading.{ByType}
 
 -- a reply that is no refusal
 pub unrefused : (r : Reply) (f : Refusal) → refusalIn r ≡ none → r ≡ Refused f → ⊥
@@ -32,14 +37,13 @@ unrefused r f e g = Option·none-ne-some f (sym e ∙ ap refusalIn g)
 
 -- a refusal is what the reply says, whatever else it does
 pub refused-as : (p : Port) (m : Message) (r : Refusal) → refusedBy p m r .reply ≡ Refused r
-refused-as p m r = go (hangsUp (numberOf r)) (eqb (numberOf r) 10)
+refused-as p m r = go (conductOf r)
   where
-    go : (a b : Bool)
-        → let o : Outcome = cond a (hangUp p r) (cond b (answerBad p m r) (silent p (Refused r))) in
-        o .reply ≡ Refused r
-    go true b = refl
-    go false true = refl
-    go false false = refl
+    go : (c : Conduct) → conducted c p m r .reply ≡ Refused r
+    go (hangsUp reason) = refl
+    go answered = refl
+    go stays = refl
+    go altersNothing = refl
 
 -- a call whose first check that hits is v, of checks that come to k
 pub unless-iff : (p : Port) (v k : Option Refusal) (o : Outcome) → v ≡ k → refusalIn (o .reply) ≡ none → (f : Refusal)
@@ -66,6 +70,62 @@ module _ (p : Port) (room : ℕ) (s : List ℕ) (t : Tables) where
         λ g. refused-as p d r ∙ ap Refused (Option·some-injective r f (sym z ∙ e ∙ g)),
       )
 
+  -- what take does at a refusal that it draws: a reason fits its field, only a request is answered, and only a closed port leaves the message alone
+  abbrev pub Suits : Bool → Conduct → Type 0
+  Suits request (hangsUp reason) = reason < 2 ^ 32
+  Suits request answered = request ≡ true
+  Suits request stays = Unit {0}
+  Suits request altersNothing = p .live ≡ false
+
+  -- and 22 is drawn only of a request without credit
+  pub record Drawn (b : Bool) (r : Refusal) : Type 0 where
+    pub suits : Suits b (conductOf r)
+    pub unpaid : numberOf r ≡ 22 → (b ≡ true) × (eqb (p .announced) 0 ≡ true)
+
+  pub drawn : (b : Bool) (d : Message) → ByType b d → (r : Refusal) → firstOf (takeChecks p room s t d) ≡ some r → Drawn b r
+  drawn b d = by d
+    where
+      -- a refusal other than 22
+      other : {r : Refusal} → Suits b (conductOf r) → (numberOf r ≡ 22 → ⊥) → Drawn b r
+      other y z = record { suits = y; unpaid = λ e. absurd (z e) }
+
+      -- the checks that stand first, and 22 and 23
+      small : ltb room bufferSize ≡ true → Drawn b ShortBuffer
+      small _ = other tt (λ z. omega arith)
+
+      shut : not (p .live) ≡ true → Drawn b Closed
+      shut e = other (not-true (p .live) e) (λ z. omega arith)
+
+      spent : b ≡ true → eqb (p .announced) 0 ≡ true → Drawn b NoCredit
+      spent k e = record { suits = omega arith; unpaid = λ _. (k, e) }
+
+      twice : (tag : ℕ) → isOpen p tag ≡ true → Drawn b TagOpen
+      twice tag _ = other (omega arith) (λ z. omega arith)
+
+      every : (d : Message) → All (λ c. c .0 ≡ true → Drawn b (c .1)) (takeChecks p room s t d)
+          → (r : Refusal) → firstOf (takeChecks p room s t d) ≡ some r → Drawn b r
+      every d = hit (Drawn b) (takeChecks p room s t d)
+
+      by : (d : Message) → ByType b d → (r : Refusal) → firstOf (takeChecks p room s t d) ≡ some r → Drawn b r
+      by (Bad r) k = every (Bad r) (small, (shut, ((λ _. other (rw (k .hangs) (k .small)) (k .not-credit)), tt)))
+      by (Cmd c) k =
+          every (Cmd c)
+          (small, (shut, (spent k, (twice (c .request .tag), ((λ _. other tt (λ z. omega arith)), ((λ _. other k (λ z. omega arith)), tt))))))
+      by (TskMgmt c) k = every (TskMgmt c) (small, (shut, (spent k, (twice (c .request .tag), tt))))
+      by (CredRsp g) k = every (CredRsp g) (small, (shut, ((λ _. other (omega arith) (λ z. omega arith)), tt)))
+      by ILogout k = every ILogout (small, (shut, tt))
+
+  -- what a command has that draws none
+  pub record Passed (c : Command) : Type 0 where
+    pub credit : eqb (p .announced) 0 ≡ false
+    pub fresh : isOpen p (c .request .tag) ≡ false
+    pub fields : fieldsFit c s t ≡ true
+
+  pub passed : (c : Command) → firstOf (takeChecks p room s t (Cmd c)) ≡ none → Passed c
+  passed c z =
+      let q = passes (takeChecks p room s t (Cmd c)) z in
+      record { credit = q .1 .1 .0; fresh = q .1 .1 .1 .0; fields = not-false (fieldsFit c s t) (q .1 .1 .1 .1 .1 .0) }
+
   -- ── the one list
 
   -- checks of reading stand before those of what was read
@@ -90,15 +150,15 @@ module _ (p : Port) (room : ℕ) (s : List ℕ) (t : Tables) where
   before : Option Refusal → Option Refusal
   before v =
       cond (ltb room 132) (some ShortBuffer)
-      (cond (not (p .live)) (some Closed) (cond (ltb (length s) 16) (some Length) (cond (ltb (p .agreed) (length s)) (some Length) v)))
+      (cond (not (p .live)) (some Closed) (cond (ltb (length s) 16) (some Length) (cond (ltb (p .terms .agreed) (length s)) (some Length) v)))
 
   SameAt : ℕ → Type 0
-  SameAt k = firstOf (orderOf k p room s t) ≡ before (firstOf (laterChecks p s t (byType k (p .formats) s)))
+  SameAt k = firstOf (orderOf k p room s t) ≡ before (firstOf (laterChecks p s t (byType k (p .terms .formats) s)))
 
   same-at : (k : ℕ) → SameAt k
   unfolding SameAt before
   same-at k =
-      by (eqb k 0x02) refl (λ e. subst SameAt (sym (eqb-true k 0x02 e)) (ap before (sym (reading-first (commandChecks (p .formats) s) (Cmd (commandOf s)))))) λ e₂.
+      by (eqb k 0x02) refl (λ e. subst SameAt (sym (eqb-true k 0x02 e)) (ap before (sym (reading-first (commandChecks (p .terms .formats) s) (Cmd (commandOf s)))))) λ e₂.
       by (eqb k 0x01) refl (λ e. subst SameAt (sym (eqb-true k 0x01 e)) (ap before (sym (sized-first 48 (TskMgmt (taskOf s)))))) λ e₁.
       by (eqb k 0x03) refl (λ e. subst SameAt (sym (eqb-true k 0x03 e)) (ap before (sym (sized-first 16 ILogout)))) λ e₃.
       by (eqb k 0x41) refl (λ e. subst SameAt (sym (eqb-true k 0x41 e)) (ap before (sym (sized-first 16 (CredRsp (get tag s)))))) λ e₄.
@@ -109,13 +169,13 @@ module _ (p : Port) (room : ℕ) (s : List ℕ) (t : Tables) where
       by false e f g = g e
 
   -- take's checks are document 01's, in its order
-  pub take-order : firstOf (takeOrder p room s t) ≡ firstOf (takeChecks p room s t (readMessage (p .agreed) (p .formats) s))
+  pub take-order : firstOf (takeOrder p room s t) ≡ firstOf (takeChecks p room s t (readMessage (p .terms .agreed) (p .terms .formats) s))
   unfolding readMessage SameAt before
   take-order =
       same-at (typeOf s)
       ∙ ap (λ (v : Option Refusal). cond (ltb room 132) (some ShortBuffer) (cond (not (p .live)) (some Closed) v))
-      (sym (reading-first (lengthChecks (p .agreed) s) (byType (typeOf s) (p .formats) s)))
+      (sym (reading-first (lengthChecks (p .terms .agreed) s) (byType (typeOf s) (p .terms .formats) s)))
 
   -- demand 1: take draws the refusal that document 01 names, and no other
   pub take-refused : (f : Refusal) → (takeDef p room s t .reply ≡ Refused f) ↔ (firstOf (takeOrder p room s t) ≡ some f)
-  take-refused f = read-iff (readMessage (p .agreed) (p .formats) s) (firstOf (takeOrder p room s t)) (sym take-order) f
+  take-refused f = read-iff (readMessage (p .terms .agreed) (p .terms .formats) s) (firstOf (takeOrder p room s t)) (sym take-order) f

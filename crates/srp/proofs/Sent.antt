@@ -8,35 +8,36 @@ use mathlib.Core.List.{List, [], _∷_, _++_}
 use mathlib.Core.Option.{Option, none, some}
 use Prim.Native.Nat.{ℕ, _+_, _-_, _^_, _≤_, _<_}
 use native.Mathlib.Omega.{arith}
-use lib.Dec.{ltb, leb, eqb}
+use lib.Dec.{ltb, eqb}
 use lib.ListN.{length, take, drop, length-append}
 use lib.Seq.{take-all}
-use borrow.Author.Tests.{ltb-false, leb-true}
+use borrow.Author.Tests.{ltb-false}
 use Rattle.srp.specs.Bytes.{bit, get, gets, typeOf, write, InRange}
 use Rattle.srp.specs.Messages.{tag, requestedLength, rsp, credReq, tLogout, loginRsp, loginRej, responseLength, senseLength}
 use Rattle.srp.specs.Lists.{find, without, isSome, All}
 use Rattle.srp.specs.Limits.{bufferSize}
-use Rattle.srp.specs.Refusals.{numberOf, firstOf, hangsUp, reasonOf, short}
-use Rattle.srp.specs.Requests.{readMessage}
+use Rattle.srp.specs.Refusals.{Conduct, hangsUp, answered, stays, altersNothing, conductOf, firstOf, short}
+use Rattle.srp.specs.Requests.{isRequest, readMessage}
 use Rattle.srp.specs.Credit.{Side, Open, Port, due, withHeld}
 use Rattle.srp.specs.declared.Residual.{Residual}
 use Rattle.srp.specs.declared.Residual.the-variants.{Even, Over, Under}
 use Rattle.srp.specs.Writing.{residualOf, amount, isOver, isUnder, Response, responseBytes, responseValues, response, answer, targetLogout, solicited}
-use Rattle.srp.specs.Take.{Outcome, silent, hangUp, closed, hasTag, Tables, aborts, wholeLun, taskCode, tagOf, ucsolntOf, answerBad, takeChecks, takeBy, takeDef}
+use Rattle.srp.specs.Take.{Outcome, closed, hasTag, Tables, aborted, wholeLun, taskCode, requestIn, conducted, takeChecks, takeBy, takeDef}
 use Rattle.srp.specs.Calls.{unless, finalResponse, finishChecks, finishDef, grantChecks, grantDef, closeDef}
-use Rattle.srp.specs.Login.{Settings, badSettings, loginChecks, supported, rejections, judged, loginBy, loginDef}
+use Rattle.srp.specs.Login.{badSettings, loginChecks, supported, rejections, judged, loginBy, loginDef}
+use Rattle.srp.specs.declared.Settings.{Settings}
 use Rattle.srp.specs.declared.Refusal.{Refusal}
 use Rattle.srp.specs.declared.Message.{Message}
 use Rattle.srp.specs.declared.Message.the-variants.{Bad, Cmd, TskMgmt, CredRsp, ILogout}
-use Rattle.srp.specs.declared.Reply.the-variants.{Refused}
 use Rattle.srp.specs.Bytes.{Bytes}
-use Rattle.srp.proofs.Fields.{both, get-below}
+use Rattle.srp.proofs.FieldLaws.{get-below}
 use Rattle.srp.proofs.Layouts.{Written, written}
-use Rattle.srp.proofs.Commands.{there, next}
+use Rattle.srp.proofs.Commands.{there, beyond}
 use Rattle.srp.proofs.ListLaws.{all-find}
-use Rattle.srp.proofs.Checks.{passes, hit}
-use Rattle.srp.proofs.Reading.{read-has}
-use Rattle.srp.proofs.Ranges.{neither, reached}
+use Rattle.srp.proofs.Checks.{passes, hit, both-false}
+use Rattle.srp.proofs.Reading.{ByType, read-has, read-by-type}
+use Rattle.srp.proofs.Refusing.{Suits, drawn}
+use Rattle.srp.proofs.Ranges.{reached}
 use Rattle.srp.specs.Ranges.{SideRanges, OpenRanges, Reached}
 
 -- ── a response is read back
@@ -56,13 +57,13 @@ responds r w s e l k v =
     let b : List ℕ = responseBytes (r .code) in
     let lr : get responseLength s ≡ length b = cc in
     let ls : get senseLength s ≡ length (r .sense) = cc in
-    let d : drop 36 s ≡ b ++ r .sense = next s w (b ++ r .sense) 0 36 e l in
+    let d : drop 36 s ≡ b ++ r .sense = beyond s w (b ++ r .sense) 0 36 e l in
     record {
       code = k;
       fields = v;
       long = ap length e ∙ simp length-append (omega arith);
       bytes = rw lr (there s b (r .sense) 36 (length b) d refl);
-      sense = rw (lr, ls, next s b (r .sense) 36 (length b) d refl) (take-all (length (r .sense)) (r .sense) (omega arith));
+      sense = rw (lr, ls, beyond s b (r .sense) 36 (length b) d refl) (take-all (length (r .sense)) (r .sense) (omega arith));
     }
 
 -- a response is read back as it was written: its fields, its response bytes and its sense
@@ -127,11 +128,14 @@ logout-sent : (b : Bool) (reason : ℕ) → reason < 2 ^ 32 → Sent (targetLogo
 logout-sent b reason h = target-logout (bit b ∷ reason ∷ 0 ∷ []) (omega (arith, one-bit b))
 
 residual-small : (s : Side) → SideRanges s → amount (residualOf s) < 2 ^ 32
-residual-small s r = go (ltb (s .total) (s .required)) (ltb (s .handed) (s .total))
+residual-small s r = go (ltb B (s .transfer .required)) (ltb (s .transfer .handed) B)
   where
-    go : (a b : Bool) → amount (cond a (Over (s .required - s .total)) (cond b (Under (s .total - s .handed)) Even)) < 2 ^ 32
+    B : ℕ
+    B = s .extent .total
+
+    go : (a b : Bool) → amount (cond a (Over (s .transfer .required - B)) (cond b (Under (B - s .transfer .handed)) Even)) < 2 ^ 32
     go true b = omega (arith, r .required)
-    go false true = omega (arith, r .small)
+    go false true = omega (arith, r .extent .small)
     go false false = omega arith
 
 -- ── the calls
@@ -144,13 +148,6 @@ task-code function = go (eqb function 1 || wholeLun function) (eqb function 0x40
     go false true = inr (inr refl)
     go false false = inr (inl refl)
 
-reason-small : (n : ℕ) → reasonOf n < 2 ^ 32
-reason-small n = go (leb 5 n && leb n 8) refl
-  where
-    go : (b : Bool) → (leb 5 n && leb n 8) ≡ b → cond b (n + 1) 0 < 2 ^ 32
-    go true e = omega (arith, leb-true n 8 (both (leb 5 n) (leb n 8) e .1))
-    go false e = omega arith
-
 -- a port whose W and open commands are in range
 module _ (p : Port) (w : p .wanted ≤ 16) (o : All OpenRanges (p .held)) where
   due-small : (a : ℕ) (cs : List Open) → due (withHeld p a cs) ≤ 16
@@ -158,32 +155,30 @@ module _ (p : Port) (w : p .wanted ≤ 16) (o : All OpenRanges (p .held)) where
 
   take-sent : (room : ℕ) (s : List ℕ) (t : Tables) → Bytes s → All Sent (takeDef p room s t .wrote)
   take-sent room s t b =
-      go (readMessage (p .agreed) (p .formats) s)
-      (read-has (λ m. tagOf m < 2 ^ 64) (λ r. omega arith) s small small (omega arith) small (p .agreed) (p .formats))
+      go (readMessage (p .terms .agreed) (p .terms .formats) s) (read-by-type (p .terms .agreed) (p .terms .formats) s)
+      (read-has (λ m. requestIn m .tag < 2 ^ 64) (λ r. omega arith) s small small (omega arith) (omega arith) (p .terms .agreed) (p .terms .formats))
     where
       small : get tag s < 2 ^ 64
       small = get-below tag s b
 
-      hung : (r : Refusal) → All Sent (hangUp p r .wrote)
-      hung r = (logout-sent (p .losolnt) (reasonOf (numberOf r)) (reason-small (numberOf r)), tt)
+      by : (c : Conduct) → Suits p room s t (isRequest s) c → (m : Message) (r : Refusal) → requestIn m .tag < 2 ^ 64 → All Sent (conducted c p m r .wrote)
+      by (hangsUp reason) y m r k = (logout-sent (p .terms .losolnt) reason y, tt)
+      by answered y m r k = (answer-sent (requestIn m .ucsolnt) (requestIn m .tag) 2 _ (due-small (p .announced - 1) (p .held)) k (inr (inl refl)), tt)
+      by stays y m r k = tt
+      by altersNothing y m r k = tt
 
-      by : (hang bad : Bool) (m : Message) (r : Refusal) → tagOf m < 2 ^ 64 → All Sent (cond hang (hangUp p r) (cond bad (answerBad p m r) (silent p (Refused r))) .wrote)
-      by true bad m r k = hung r
-      by false true m r k = (answer-sent (ucsolntOf m) (tagOf m) 2 _ (due-small (p .announced - 1) (p .held)) k (inr (inl refl)), tt)
-      by false false m r k = tt
+      end : (r : Option Refusal) (m : Message) → ByType (isRequest s) m → firstOf (takeChecks p room s t m) ≡ r → requestIn m .tag < 2 ^ 64 → All Sent (takeBy r p s t m .wrote)
+      end none (Bad r) y e k = absurd (true≢false (passes (takeChecks p room s t (Bad r)) e .1 .1 .0))
+      end none (Cmd c) y e k = tt
+      end none (TskMgmt j) y e k =
+          let d = due-small (p .announced - 1) (without (aborted j) (p .held)) in
+          (answer-sent (solicited (j .request) (taskCode (j .function))) (j .request .tag) (taskCode (j .function)) _ d k (task-code (j .function)), tt)
+      end none (CredRsp g) y e k = tt
+      end none ILogout y e k = tt
+      end (some r) m y e k = by (conductOf r) (drawn p room s t (isRequest s) m y r e .suits) m r k
 
-      end : (r : Option Refusal) (m : Message) → tagOf m < 2 ^ 64 → All Sent (takeBy r p s t m .wrote)
-      end none (Bad r) k = hung r
-      end none (Cmd c) k = tt
-      end none (TskMgmt j) k =
-          let d = due-small (p .announced - 1) (without (λ (c : Open). aborts j (c .tag) (c .lun)) (p .held)) in
-          (answer-sent (solicited (j .ucsolnt) (j .scsolnt) (taskCode (j .function))) (j .tag) (taskCode (j .function)) _ d k (task-code (j .function)), tt)
-      end none (CredRsp g) k = tt
-      end none ILogout k = tt
-      end (some r) m k = by (hangsUp (numberOf r)) (eqb (numberOf r) 10) m r k
-
-      go : (m : Message) → tagOf m < 2 ^ 64 → All Sent (takeBy (firstOf (takeChecks p room s t m)) p s t m .wrote)
-      go m k = end (firstOf (takeChecks p room s t m)) m k
+      go : (m : Message) → ByType (isRequest s) m → requestIn m .tag < 2 ^ 64 → All Sent (takeBy (firstOf (takeChecks p room s t m)) p s t m .wrote)
+      go m y k = end (firstOf (takeChecks p room s t m)) m y refl k
 
   unless-sent : (r : Option Refusal) (x : Outcome) → (r ≡ none → All Sent (x .wrote)) → All Sent (unless r p x .wrote)
   unless-sent none x f = f refl
@@ -192,7 +187,7 @@ module _ (p : Port) (w : p .wanted ≤ 16) (o : All OpenRanges (p .held)) where
   finish-sent : (room tag status : ℕ) (sense : List ℕ) → status < 256 → All Sent (finishDef p room tag status sense .wrote)
   finish-sent room tag status sense h = unless-sent (firstOf (finishChecks p room tag status sense)) _ λ e.
       let q = passes (finishChecks p room tag status sense) e in
-      let a = neither (ltb 96 (length sense)) (ltb 0 (length sense) && not (eqb status 2)) (q .1 .1 .0) in
+      let a = both-false (ltb 96 (length sense)) (ltb 0 (length sense) && not (eqb status 2)) (q .1 .1 .0) in
       (go (find (hasTag tag) (p .held)) refl (q .1 .1 .1 .0) (ltb-false 96 (length sense) (a .0)), tt)
     where
       go : (x : Option Open) → find (hasTag tag) (p .held) ≡ x → not (isSome x) ≡ false → length sense ≤ 96
@@ -200,15 +195,15 @@ module _ (p : Port) (w : p .wanted ≤ 16) (o : All OpenRanges (p .held)) where
       go none f e l = absurd (true≢false e)
       go (some c) f e l =
           let k = all-find OpenRanges (hasTag tag) (p .held) c o f in
-          response-sent (solicited (c .ucsolnt) (c .scsolnt) status) _ (c .tag) status (residualOf (c .out)) (residualOf (c .inn)) none sense
-          (due-small (p .announced) (without (hasTag tag) (p .held))) (k .tag) h (residual-small (c .out) (k .out)) (residual-small (c .inn) (k .inn)) l
+          response-sent (solicited (c .request) status) _ (c .request .tag) status (residualOf (c .sides .out)) (residualOf (c .sides .inn)) none sense
+          (due-small (p .announced) (without (hasTag tag) (p .held))) (k .tag) h (residual-small (c .sides .out) (k .sides .0)) (residual-small (c .sides .inn) (k .sides .1)) l
 
   grant-sent : (room : ℕ) → All Sent (grantDef p room .wrote)
   grant-sent room = unless-sent (firstOf (grantChecks p room)) _ λ _.
-      (credit-request (bit (p .crsolnt) ∷ due p ∷ 1 ∷ []) (omega (arith, one-bit (p .crsolnt))), tt)
+      (credit-request (bit (p .terms .crsolnt) ∷ due p ∷ 1 ∷ []) (omega (arith, one-bit (p .terms .crsolnt))), tt)
 
   close-sent : (room reason : ℕ) → reason < 2 ^ 32 → All Sent (closeDef p room reason .wrote)
-  close-sent room reason h = unless-sent (firstOf (short room ∷ closed p ∷ [])) _ λ _. (logout-sent (p .losolnt) reason h, tt)
+  close-sent room reason h = unless-sent (firstOf (short room ∷ closed p ∷ [])) _ λ _. (logout-sent (p .terms .losolnt) reason h, tt)
 
 -- what the calls on the port p write
 pub record Writes (p : Port) : Type 0 where
@@ -230,25 +225,25 @@ every-write {p} r =
     }
 
 -- and so is each that a login writes
-pub login-writes : (c : Settings) (room : ℕ) (s : List ℕ) → Bytes s → All Sent (loginDef c room s .wrote)
-login-writes c room s b = go (firstOf (loginChecks c room s)) refl
+pub login-writes : (c : Settings) (own : List ℕ) (room : ℕ) (s : List ℕ) → Bytes s → All Sent (loginDef c own room s .wrote)
+login-writes c own room s b = go (firstOf (loginChecks c room s)) refl
   where
     formats : (i : Bool) → cond i 6 2 < 2 ^ 16
     formats true = omega arith
     formats false = omega arith
 
-    judge : badSettings c ≡ false → (r : Option ℕ) → firstOf (rejections c s) ≡ r → All Sent (judged r c s .wrote)
+    judge : badSettings c ≡ false → (r : Option ℕ) → firstOf (rejections c own s) ≡ r → All Sent (judged r c s .wrote)
     judge e none q =
-        let few = ltb-false 16 (c .buffers) (neither (ltb 16 (c .buffers)) _ (neither (eqb (c .buffers) 0) _ e .1) .0) in (
+        let few = ltb-false 16 (c .buffers) (both-false (ltb 16 (c .buffers)) _ (both-false (eqb (c .buffers) 0) _ e .1) .0) in (
           login-response (c .buffers ∷ get tag s ∷ get requestedLength s ∷ bufferSize ∷ supported c ∷ bit (c .solicited) ∷ [])
               (omega (arith, few, get-below tag s b, get-below requestedLength s b, formats (c .indirect), one-bit (c .solicited))),
           tt,
         )
     judge e (some reason) q =
-        let small = hit (λ n. n < 2 ^ 32) (rejections c s)
+        let small = hit (λ n. n < 2 ^ 32) (rejections c own s)
         ((λ _. omega arith), ((λ _. omega arith), ((λ _. omega arith), ((λ _. omega arith), ((λ _. omega arith), ((λ _. omega arith), tt)))))) reason q in
         (login-rejection (reason ∷ get tag s ∷ supported c ∷ []) (omega (arith, small, get-below tag s b, formats (c .indirect))), tt)
 
-    go : (r : Option Refusal) → firstOf (loginChecks c room s) ≡ r → All Sent (loginBy r c s .wrote)
-    go none e = judge (passes (loginChecks c room s) e .1 .0) (firstOf (rejections c s)) refl
+    go : (r : Option Refusal) → firstOf (loginChecks c room s) ≡ r → All Sent (loginBy r c own s .wrote)
+    go none e = judge (passes (loginChecks c room s) e .1 .0) (firstOf (rejections c own s)) refl
     go (some r) e = tt

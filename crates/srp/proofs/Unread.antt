@@ -4,7 +4,7 @@ use mathlib.Core.Path.{_≡_, refl, sym, ap, _∙_}
 use mathlib.Core.Bool.{Bool, true, false}
 use mathlib.Core.Logic.{_⊎_, inl, inr, ⊎-elim}
 use mathlib.Core.List.{List, [], _∷_, _++_}
-use Prim.Native.Nat.{ℕ, _+_, _*_, _≤_}
+use Prim.Native.Nat.{ℕ, _*_, _≤_}
 use native.Mathlib.Omega.{arith}
 use lib.Dec.{ltb, eqb}
 use lib.ListN.{length, take, drop, take-append-drop}
@@ -16,8 +16,9 @@ use Rattle.srp.specs.Lists.{All}
 use Rattle.srp.specs.Requests.{outAt, lookDef}
 use Rattle.srp.specs.Credit.{Port}
 use Rattle.srp.specs.Take.{Tables, takeDef}
-use Rattle.srp.specs.Login.{Settings, loginDef}
-use Rattle.srp.specs.Unread.{unreadCommand, unreadTask, unreadLogout, unreadCredit, unreadLogin, unreadCommandBy, unreadCommandIn, unreadTaskBy, unreadIn, changed, Within}
+use Rattle.srp.specs.Login.{loginDef}
+use Rattle.srp.specs.declared.Settings.{Settings}
+use Rattle.srp.specs.Unread.{unreadCommand, unreadTask, unreadLogout, unreadCredit, unreadLogin, unreadCommandBy, unreadCommandIn, unreadTaskBy, unreadIn, changed, ChangeOf}
 use Rattle.srp.proofs.Layouts.{bitsOf, gets-append}
 use Rattle.srp.proofs.Alike.{commandReads, commandReadsIn, taskReads, loginReads, pick, ofType, readsAs, readsIn, Alike, allClear, alike, look-alike, take-alike, login-alike}
 
@@ -43,38 +44,38 @@ all-clear false false false false o i m = refl
 -- ── what is not read is all the rest
 
 -- fields that share no bit and together are n bytes
-abbrev Parts : ℕ → List Field → Type 0
-Parts n fs = (sound n fs ≡ true) × (bitsOf fs ≡ 8 * n)
+abbrev Covers : ℕ → List Field → Type 0
+Covers n fs = (sound n fs ≡ true) × (bitsOf fs ≡ 8 * n)
 
 -- every bit of a message before the descriptors is read or stands in its type's list (the counts and the task tag are read here)
 pub nothing-else :
-    Parts 48 (kind ∷ commandReads true true ++ unreadCommand)
-    × Parts 48 (kind ∷ taskReads true ++ unreadTask)
-    × Parts 16 (kind ∷ unreadLogout)
-    × Parts 16 (kind ∷ tag ∷ unreadCredit)
-    × Parts 64 (kind ∷ targetIdentifier ∷ loginReads ++ unreadLogin)
+    Covers 48 (kind ∷ commandReads true true ++ unreadCommand)
+    × Covers 48 (kind ∷ taskReads true ++ unreadTask)
+    × Covers 16 (kind ∷ unreadLogout)
+    × Covers 16 (kind ∷ tag ∷ unreadCredit)
+    × Covers 64 (kind ∷ targetIdentifier ∷ loginReads ++ unreadLogin)
 nothing-else = ((refl, refl), (refl, refl), (refl, refl), (refl, refl), (refl, refl))
 
 -- ── any changes where nothing is read
 
 -- take's outcome, the same with any changes where the message leaves it unread
-pub take-unread : (p : Port) (room : ℕ) (s : List ℕ) (t : Tables) (cs : List (Field × ℕ)) → All (Within (unreadIn s) (length s)) cs
+pub take-unread : (p : Port) (room : ℕ) (s : List ℕ) (t : Tables) (cs : List (Field × ℕ)) → All (ChangeOf (unreadIn s) (length s)) cs
     → takeDef p room (changed cs s) t ≡ takeDef p room s t
 take-unread p room s t cs w =
     let e = ofType all-clear (typeOf s) (eqb (get outFormat s) 2) (eqb (get inFormat s) 2) (eqb (get taskFunction s) 1) in
     take-alike p t (changed cs s) s room (alike (readsIn s) (unreadIn s) (outAt s) s e (omega arith) cs w)
 
 -- look's outcome, the same with any changes where a command leaves it unread
-pub look-unread : (agreed formats : ℕ) (s : List ℕ) (cs : List (Field × ℕ)) → All (Within (unreadCommandIn s) (length s)) cs
+pub look-unread : (agreed formats : ℕ) (s : List ℕ) (cs : List (Field × ℕ)) → All (ChangeOf (unreadCommandIn s) (length s)) cs
     → lookDef agreed formats (changed cs s) ≡ lookDef agreed formats s
 look-unread agreed formats s cs w =
     let e = command-clear (eqb (get outFormat s) 2) (eqb (get inFormat s) 2) in
     look-alike (changed cs s) s (alike (commandReadsIn s) (unreadCommandIn s) (outAt s) s e (omega arith) cs w) agreed formats
 
 -- login's outcome, the same with any changes where a login request leaves it unread
-pub login-unread : (c : Settings) (room : ℕ) (s : List ℕ) (cs : List (Field × ℕ)) → All (Within unreadLogin (length s)) cs
-    → loginDef c room (changed cs s) ≡ loginDef c room s
-login-unread c room s cs w = login-alike c room (changed cs s) s (alike loginReads unreadLogin 48 s refl (omega arith) cs w)
+pub login-unread : (c : Settings) (own : List ℕ) (room : ℕ) (s : List ℕ) (cs : List (Field × ℕ)) → All (ChangeOf unreadLogin (length s)) cs
+    → loginDef c own room (changed cs s) ≡ loginDef c own room s
+login-unread c own room s cs w = login-alike c own room (changed cs s) s (alike loginReads unreadLogin 48 s refl (omega arith) cs w)
 
 -- ── a command's whole CDB
 

@@ -11,51 +11,60 @@ use Rattle.srp.specs.Take.{Outcome}
 use Rattle.srp.specs.declared.Refusal.{Refusal}
 use Rattle.srp.specs.declared.Kind.{Kind}
 use Rattle.srp.specs.declared.Kind.the-variants.{Read, Write}
+use Rattle.srp.specs.declared.Piece.{Piece}
 use Rattle.srp.specs.declared.Reply.{Reply}
 use Rattle.srp.specs.declared.Reply.the-variants.{Refused, Performed, NewCommand, TaskAnswered, CreditSettled, LoggedOut, Operation, Done, Accepted, Rejected, Counts, Listed}
 use Rattle.srp.specs.declared.Answer.{Answer}
-
-abbrev pub refusalIn : Reply → Option Refusal
-refusalIn (Refused r) = some r
-refusalIn Performed = none
-refusalIn (NewCommand tag lun cdb) = none
-refusalIn (TaskAnswered tag lun) = none
-refusalIn CreditSettled = none
-refusalIn LoggedOut = none
-refusalIn (Operation k o) = none
-refusalIn Done = none
-refusalIn Accepted = none
-refusalIn (Rejected reason) = none
-refusalIn (Counts c) = none
-refusalIn (Listed n) = none
-
--- the number that a call returns: the refusal's, 0 where there is none
-abbrev pub returned : Reply → ℕ
-returned r = elim (refusalIn r) [ none ↦ 0 | some f ↦ numberOf f ]
 
 -- an RDMA Read is 1, an RDMA Write 2
 abbrev pub kindNumber : Kind → ℕ
 kindNumber Read = 1
 kindNumber Write = 2
 
--- the values of each case, in document 01's order
-abbrev pub valuesOf : Reply → List ℤ
-valuesOf (Refused r) = []
-valuesOf Performed = []
+-- what a reply says: the refusal, if it is one; the operation that a step hands out; and its values, in document 01's order
+pub record Said : Type 0 where
+  pub refusal : Option Refusal
+  pub operation : Option Piece
+  pub values : List ℤ
+
+abbrev pub saying : List ℤ → Said
+saying vs = record { refusal = none; operation = none; values = vs }
+
+abbrev pub saidBy : Reply → Said
+saidBy (Refused r) = record { refusal = some r; operation = none; values = [] }
+saidBy Performed = saying []
 -- tag, LUN, the CDB's place in the message and its length
-valuesOf (NewCommand tag lun cdb) = pos tag ∷ pos lun ∷ pos (cmd .size) ∷ pos cdb ∷ []
-valuesOf (TaskAnswered tag lun) = pos tag ∷ pos lun ∷ []
-valuesOf CreditSettled = []
-valuesOf LoggedOut = []
+saidBy (NewCommand tag lun cdb) = saying (pos tag ∷ pos lun ∷ pos (cmd .size) ∷ pos cdb ∷ [])
+saidBy (TaskAnswered tag lun) = saying (pos tag ∷ pos lun ∷ [])
+saidBy CreditSettled = saying []
+saidBy LoggedOut = saying []
 -- kind, handle, address, length, offset in the buffer
-valuesOf (Operation k o) = pos (kindNumber k) ∷ pos (o .handle) ∷ pos (o .address) ∷ pos (o .len) ∷ pos (o .offset) ∷ []
-valuesOf Done = []
-valuesOf Accepted = []
-valuesOf (Rejected reason) = pos reason ∷ []
+saidBy (Operation k o) =
+    record {
+      refusal = none;
+      operation = some o;
+      values = pos (kindNumber k) ∷ pos (o .handle) ∷ pos (o .address) ∷ pos (o .len) ∷ pos (o .offset) ∷ [];
+    }
+saidBy Done = saying []
+saidBy Accepted = saying []
+saidBy (Rejected reason) = saying (pos reason ∷ [])
 -- W, A, H, D
-valuesOf (Counts c) = pos (c .wanted) ∷ pos (c .announced) ∷ pos (c .held) ∷ c .owed ∷ []
+saidBy (Counts c) = saying (pos (c .wanted) ∷ pos (c .announced) ∷ pos (c .held) ∷ c .owed ∷ [])
 -- the number of records
-valuesOf (Listed n) = pos n ∷ []
+saidBy (Listed n) = saying (pos n ∷ [])
+
+abbrev pub refusalIn : Reply → Option Refusal
+refusalIn r = saidBy r .refusal
+
+abbrev pub operationIn : Reply → Option Piece
+operationIn r = saidBy r .operation
+
+abbrev pub valuesOf : Reply → List ℤ
+valuesOf r = saidBy r .values
+
+-- the number that a call returns: the refusal's, 0 where there is none
+abbrev pub returned : Reply → ℕ
+returned r = elim (refusalIn r) [ none ↦ 0 | some f ↦ numberOf f ]
 
 -- the length of the message written
 abbrev pub sizeOf : List (List ℕ) → ℕ

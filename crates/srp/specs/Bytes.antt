@@ -47,7 +47,7 @@ abbrev pub put : Field → ℕ → List ℕ → List ℕ
 put (bytes at wide) v s = take at s ++ (bytesOf wide v ++ drop (at + wide) s)
 put (bits at low count) v s = set s at (replaced low count v (getD s at 0))
 
--- a field as seen `n` bytes earlier
+-- the field that stands n bytes further on: what it is in a part, it is behind n bytes in the whole
 abbrev pub behind : ℕ → Field → Field
 behind n (bytes at wide) = bytes (n + at) wide
 behind n (bits at low count) = bits (n + at) low count

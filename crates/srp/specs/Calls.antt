@@ -10,8 +10,10 @@ use Rattle.srp.specs.Limits.{mostBuffers, longestSense}
 use Rattle.srp.specs.Lists.{find, change, without, Rearranged}
 use Rattle.srp.specs.Refusals.{Check, firstOf, short}
 use Rattle.srp.specs.Cutting.{piece, next}
-use Rattle.srp.specs.Credit.{Side, Open, Port, closedPort, owed, due, withHeld, withWanted, withUnanswered, withSides}
-use Rattle.srp.specs.Writing.{residualOf, response, creditRequest, targetLogout, solicited}
+use Rattle.srp.specs.Both.{of, alter, along}
+use Rattle.srp.specs.Credit.{Side, withTransfer, Held, Open, ruleOf, Port, closedPort, owed, due, withHeld, withWanted, withUnanswered, withSides}
+use Rattle.srp.specs.declared.Terms.{Terms}
+use Rattle.srp.specs.Writing.{residualOf, Response, response, creditRequest, targetLogout, solicited}
 use Rattle.srp.specs.Take.{Outcome, silent, answering, closed, hasTag, isOpen}
 use Rattle.srp.specs.declared.Refusal.{Refusal}
 use Rattle.srp.specs.declared.Refusal.the-variants.{Argument, TagNotOpen, Unanswered, NotOwed, Wanted, Unplanned, Planned}
@@ -30,15 +32,15 @@ unless (some r) p o = silent p (Refused r)
 
 -- ── plan
 
-abbrev pub isPlanned : Option Open → Bool
+abbrev pub isPlanned : {S : Type 0} → Option (Held S) → Bool
 isPlanned none = false
 isPlanned (some c) = c .planned
 
 abbrev pub requiring : ℕ → Side → Side
-requiring r s = record { segs = s .segs; total = s .total; required = r; handed = s .handed }
+requiring r s = withTransfer s (record { required = r; handed = s .transfer .handed })
 
 abbrev pub planned : ℕ → ℕ → Open → Open
-planned out inn c = withSides c true (requiring out (c .out)) (requiring inn (c .inn))
+planned out inn c = withSides c true (along requiring (record { out = out; inn = inn }) (c .sides))
 
 abbrev pub planChecks : Port → ℕ → List Check
 planChecks p tag = closed p ∷ (not (isOpen p tag), TagNotOpen) ∷ (isPlanned (find (hasTag tag) (p .held)), Planned) ∷ []
@@ -55,22 +57,20 @@ abbrev pub kindOf : Direction → Kind
 kindOf Out = Read
 kindOf In = Write
 
-abbrev pub sideOf : Direction → Open → Side
-sideOf Out c = c .out
-sideOf In c = c .inn
-
 abbrev pub handing : ℕ → Side → Side
-handing n s = record { segs = s .segs; total = s .total; required = s .required; handed = s .handed + n }
+handing n s = withTransfer s (record { required = s .transfer .required; handed = s .transfer .handed + n })
 
 -- the command with n bytes more handed out
 abbrev pub advanced : Direction → ℕ → Open → Open
-advanced Out n c = withSides c (c .planned) (handing n (c .out)) (c .inn)
-advanced In n c = withSides c (c .planned) (c .out) (handing n (c .inn))
+advanced d n c = withSides c (c .planned) (alter d (handing n) (c .sides))
 
 -- the next piece of a side's first min(R, B) bytes
-abbrev pub nextOf : ℕ → Direction → Option Open → Option Piece
-nextOf M d none = none
-nextOf M d (some c) = next M (sideOf d c .handed) (min (sideOf d c .required) (sideOf d c .total)) (sideOf d c .segs)
+abbrev pub nextIn : Terms → Side → Option Piece
+nextIn T s = next (ruleOf T) (s .transfer .handed) (min (s .transfer .required) (s .extent .total)) (s .extent .segs)
+
+abbrev pub nextOf : Terms → Direction → Option Open → Option Piece
+nextOf T d none = none
+nextOf T d (some c) = nextIn T (of d (c .sides))
 
 -- an address in 64 bits; for every port that a login made it stays as it is
 abbrev pub wrapped : Piece → Piece
@@ -86,7 +86,7 @@ stepChecks p tag = closed p ∷ (not (isOpen p tag), TagNotOpen) ∷ (not (isPla
 
 -- "Step names a tag and a direction and hands out the next piece there, or says done"
 abbrev pub stepDef : Port → ℕ → Direction → Outcome
-stepDef p tag d = unless (firstOf (stepChecks p tag)) p (handOut p tag d (nextOf (p .maximum) d (find (hasTag tag) (p .held))))
+stepDef p tag d = unless (firstOf (stepChecks p tag)) p (handOut p tag d (nextOf (p .terms) d (find (hasTag tag) (p .held))))
 
 -- ── finish
 
@@ -94,21 +94,24 @@ stepDef p tag d = unless (firstOf (stepChecks p tag)) p (handOut p tag d (nextOf
 abbrev pub badSense : ℕ → List ℕ → Bool
 badSense status sense = ltb longestSense (length sense) || (ltb 0 (length sense) && not (eqb status 0x02))
 
--- the response of a command (there is one where the checks passed)
-abbrev pub finalResponse : Option Open → ℕ → List ℕ → ℕ → List ℕ
-finalResponse none status sense delta = []
-finalResponse (some c) status sense delta =
-    response
-    (record {
-      solnt = solicited (c .ucsolnt) (c .scsolnt) status;
+-- the response of a command
+abbrev pub finalOf : Open → ℕ → List ℕ → ℕ → Response
+finalOf c status sense delta =
+    record {
+      solnt = solicited (c .request) status;
       delta = delta;
-      tag = c .tag;
+      tag = c .request .tag;
       status = status;
-      out = residualOf (c .out);
-      inn = residualOf (c .inn);
+      out = residualOf (c .sides .out);
+      inn = residualOf (c .sides .inn);
       code = none;
       sense = sense;
-    })
+    }
+
+-- there is one where the checks passed
+abbrev pub finalResponse : Option Open → ℕ → List ℕ → ℕ → List ℕ
+finalResponse none status sense delta = []
+finalResponse (some c) status sense delta = response (finalOf c status sense delta)
 
 abbrev pub finishChecks : Port → ℕ → ℕ → ℕ → List ℕ → List Check
 finishChecks p room tag status sense = short room ∷ closed p ∷ (badSense status sense, Argument) ∷ (not (isOpen p tag), TagNotOpen) ∷ []
@@ -139,13 +142,13 @@ abbrev pub grantChecks : Port → ℕ → List Check
 grantChecks p room = short room ∷ closed p ∷ (p .unanswered, Unanswered) ∷ (eqb (due p) 0, NotOwed) ∷ []
 
 abbrev pub grantDef : Port → ℕ → Outcome
-grantDef p room = unless (firstOf (grantChecks p room)) p (answering (withUnanswered p true) Performed (creditRequest (p .crsolnt)))
+grantDef p room = unless (firstOf (grantChecks p room)) p (answering (withUnanswered p true) Performed (creditRequest (p .terms .crsolnt)))
 
 -- "The owner may also close with a reason"
 abbrev pub closeDef : Port → ℕ → ℕ → Outcome
 closeDef p room reason =
     unless (firstOf (short room ∷ closed p ∷ [])) p
-    (record { reply = Performed; port = closedPort; wrote = targetLogout (p .losolnt) reason ∷ [] })
+    (record { reply = Performed; port = closedPort; wrote = targetLogout (p .terms .losolnt) reason ∷ [] })
 
 -- ── counters and listing
 
@@ -158,7 +161,8 @@ countersDef p = unless (firstOf (closed p ∷ [])) p (silent p (Counts (counters
 
 -- "tag, LUN, bytes handed out each way"
 abbrev pub recordOf : Open → Record
-recordOf c = record { tag = c .tag; lun = c .lun; out = c .out .handed; inn = c .inn .handed }
+recordOf c =
+    record { tag = c .request .tag; lun = c .request .lun; out = c .sides .out .transfer .handed; inn = c .sides .inn .transfer .handed }
 
 abbrev pub listing : Port → List Record
 listing p = map recordOf (p .held)
@@ -167,7 +171,7 @@ abbrev pub listDef : Port → ℕ → Outcome
 listDef p room = unless (firstOf (closed p ∷ (ltb room mostBuffers, Argument) ∷ [])) p (silent p (Listed (length (p .held))))
 
 -- the lent list before and after an unrefused listing: "each command once; their order is free, the rest of the list untouched"
-pub record Lists (p : Port) (before after : List Record) : Type 0 where
+pub record EachListed (p : Port) (before after : List Record) : Type 0 where
   pub once : Rearranged (take (length (p .held)) after) (listing p)
   pub rest : drop (length (p .held)) after ≡ drop (length (p .held)) before
   pub size : length after ≡ length before

@@ -4,53 +4,60 @@ use mathlib.Core.List.{List, []}
 use Prim.Native.Nat.{ℕ, _+_, _-_}
 use lib.IntN.{ℤ, subℕ}
 use lib.ListN.{length}
+use Rattle.srp.specs.Both.{Both}
 use Rattle.srp.specs.Descriptors.{Segment}
+use Rattle.srp.specs.Cutting.{Rule, upTo}
+use Rattle.srp.specs.declared.Request.{Request}
+use Rattle.srp.specs.declared.Terms.{Terms}
+use Rattle.srp.specs.declared.Transfer.{Transfer}
 
--- one direction of an open command: its segments, B, R (0 until planned), the bytes handed out
-pub record Side : Type 0 where
+-- one direction of a command's data: what is fixed, its segments and B
+pub record Extent : Type 0 where
   pub segs : List Segment
   pub total : ℕ
-  pub required : ℕ
-  pub handed : ℕ
 
-pub record Open : Type 0 where
-  pub tag : ℕ
-  pub lun : ℕ
-  pub ucsolnt : Bool
-  pub scsolnt : Bool
+-- and what moves, R (0 until planned) and the bytes handed out
+pub record Side : Type 0 where
+  pub extent : Extent
+  pub transfer : Transfer
+
+abbrev pub withTransfer : Side → Transfer → Side
+withTransfer s g = record { extent = s .extent; transfer = g }
+
+-- a command that was taken and has not ended, with S for each direction
+pub record Held (S : Type 0) : Type 0 where
+  pub request : Request
   pub planned : Bool
-  pub out : Side
-  pub inn : Side
+  pub sides : Both S
+
+-- with another state of its plan and its directions
+abbrev pub withSides : {S U : Type 0} → Held S → Bool → Both U → Held U
+withSides c planned sides = record { request = c .request; planned = planned; sides = sides }
+
+-- as the port has it
+abbrev pub Open : Type 0
+Open = Held Side
+
+-- the rule that a login's pieces are cut by
+abbrev pub ruleOf : Terms → Rule
+ruleOf T = upTo (T .maximum)
+
+abbrev pub noTerms : Terms
+noTerms = record { maximum = 0; agreed = 0; formats = 0; crsolnt = false; losolnt = false }
 
 -- `wanted` is W, `announced` A, `held` the open commands, oldest first: between calls their number is H. `unanswered`: a credit request
--- waits for its response. `maximum` is M; then what the login agreed
+-- waits for its response
 pub record Port : Type 0 where
   pub live : Bool
   pub wanted : ℕ
   pub announced : ℕ
   pub held : List Open
   pub unanswered : Bool
-  pub maximum : ℕ
-  pub agreed : ℕ
-  pub formats : ℕ
-  pub crsolnt : Bool
-  pub losolnt : Bool
+  pub terms : Terms
 
 -- "without an accepted login it is closed": a closed channel is this value
 abbrev pub closedPort : Port
-closedPort =
-    record {
-      live = false;
-      wanted = 0;
-      announced = 0;
-      held = [];
-      unanswered = false;
-      maximum = 0;
-      agreed = 0;
-      formats = 0;
-      crsolnt = false;
-      losolnt = false;
-    }
+closedPort = record { live = false; wanted = 0; announced = 0; held = []; unanswered = false; terms = noTerms }
 
 -- D, which may be negative: it is not kept, since A + H + D = W always
 abbrev pub owed : Port → ℤ
@@ -62,21 +69,9 @@ due p = p .wanted - (p .announced + length (p .held))
 
 -- ── the port with other numbers
 
--- other W, A, open commands, and whether a credit request is unanswered; what the login agreed stays
+-- other W, A, open commands, and whether a credit request is unanswered
 abbrev pub withCredit : Port → ℕ → ℕ → List Open → Bool → Port
-withCredit p w a cs u =
-    record {
-      live = p .live;
-      wanted = w;
-      announced = a;
-      held = cs;
-      unanswered = u;
-      maximum = p .maximum;
-      agreed = p .agreed;
-      formats = p .formats;
-      crsolnt = p .crsolnt;
-      losolnt = p .losolnt;
-    }
+withCredit p w a cs u = record { live = p .live; wanted = w; announced = a; held = cs; unanswered = u; terms = p .terms }
 
 abbrev pub withHeld : Port → ℕ → List Open → Port
 withHeld p a cs = withCredit p (p .wanted) a cs (p .unanswered)
@@ -86,16 +81,3 @@ withWanted p w = withCredit p w (p .announced) (p .held) (p .unanswered)
 
 abbrev pub withUnanswered : Port → Bool → Port
 withUnanswered p u = withCredit p (p .wanted) (p .announced) (p .held) u
-
--- a command with another state of its plan and its directions
-abbrev pub withSides : Open → Bool → Side → Side → Open
-withSides c planned out inn =
-    record {
-      tag = c .tag;
-      lun = c .lun;
-      ucsolnt = c .ucsolnt;
-      scsolnt = c .scsolnt;
-      planned = planned;
-      out = out;
-      inn = inn;
-    }

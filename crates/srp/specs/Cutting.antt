@@ -20,40 +20,53 @@ abbrev pub bytesIn : List Piece → ℕ
 bytesIn [] = 0
 bytesIn (p ∷ ps) = p .len + bytesIn ps
 
--- n bytes of one segment, "each piece as long as possible up to M"; the first argument bounds the number of pieces
-abbrev pub cutSegment : ℕ → ℕ → ℕ → ℕ → ℕ → ℕ → List Piece
-cutSegment zero M address handle offset n = []
-cutSegment (suc f) M address handle offset zero = []
-cutSegment (suc f) M address handle offset (suc n) =
-    piece address handle (min M (suc n)) offset ∷
-    cutSegment f M (address + min M (suc n)) handle (offset + min M (suc n)) (suc n - min M (suc n))
+-- ── how long a piece is
+
+-- so long is the piece that starts at an address, where so many bytes are left
+abbrev pub Rule : Type 0
+Rule = (address left : ℕ) → ℕ
+
+-- "each piece as long as possible up to M (a login setting)"
+abbrev pub upTo : ℕ → Rule
+upTo M address left = min M left
+
+-- ── the pieces
+
+-- n bytes of one segment; the first argument bounds the number of pieces
+abbrev pub cutSegment : ℕ → Rule → ℕ → ℕ → ℕ → ℕ → List Piece
+cutSegment zero rule address handle offset n = []
+cutSegment (suc f) rule address handle offset zero = []
+cutSegment (suc f) rule address handle offset (suc n) =
+    let long : ℕ = rule address (suc n) in
+    piece address handle long offset ∷ cutSegment f rule (address + long) handle (offset + long) (suc n - long)
 
 -- the first `left` bytes, "cut segment by segment, zero-length segments skipped"; `offset` bytes came before
-abbrev pub cutsFrom : ℕ → ℕ → ℕ → List Segment → List Piece
-cutsFrom M offset left [] = []
-cutsFrom M offset left (s ∷ ss) =
-    cutSegment (min (s .len) left) M (s .address) (s .handle) offset (min (s .len) left)
-    ++ cutsFrom M (offset + min (s .len) left) (left - min (s .len) left) ss
+abbrev pub cutsFrom : Rule → ℕ → ℕ → List Segment → List Piece
+cutsFrom rule offset left [] = []
+cutsFrom rule offset left (s ∷ ss) =
+    let n : ℕ = min (s .len) left in
+    cutSegment n rule (s .address) (s .handle) offset n ++ cutsFrom rule (offset + n) (left - n) ss
 
 -- "The first min(R, B) bytes"
-abbrev pub cuts : ℕ → ℕ → List Segment → List Piece
-cuts M R ss = cutsFrom M 0 (min R (sumOf ss)) ss
+abbrev pub cuts : Rule → ℕ → List Segment → List Piece
+cuts rule R ss = cutsFrom rule 0 (min R (sumOf ss)) ss
 
--- the piece at `from` of the bytes up to `to`: it ends at the nearest of M, the segment's end and `to`
-abbrev pub nextFrom : ℕ → ℕ → ℕ → ℕ → List Segment → Option Piece
-nextFrom M offset from to [] = none
-nextFrom M offset from to (s ∷ ss) =
-    cond (ltb from (min (s .len) to))
-    (some (piece (s .address + from) (s .handle) (min M (min (s .len) to - from)) (offset + from)))
-    (nextFrom M (offset + min (s .len) to) (from - min (s .len) to) (to - min (s .len) to) ss)
+-- the piece at `from` of the bytes up to `to`: what is left there ends at the nearer of the segment's end and `to`
+abbrev pub nextFrom : Rule → ℕ → ℕ → ℕ → List Segment → Option Piece
+nextFrom rule offset from to [] = none
+nextFrom rule offset from to (s ∷ ss) =
+    let n : ℕ = min (s .len) to in
+    cond (ltb from n)
+    (some (piece (s .address + from) (s .handle) (rule (s .address + from) (n - from)) (offset + from)))
+    (nextFrom rule (offset + n) (from - n) (to - n) ss)
 
-abbrev pub next : ℕ → ℕ → ℕ → List Segment → Option Piece
-next M from to ss = nextFrom M 0 from to ss
+abbrev pub next : Rule → ℕ → ℕ → List Segment → Option Piece
+next rule from to ss = nextFrom rule 0 from to ss
 
 -- the pieces one after the other, from `from` on, at most f of them
-abbrev pub pieces : ℕ → ℕ → ℕ → ℕ → List Segment → List Piece
-pieces zero M from to ss = []
-pieces (suc f) M from to ss = elim (next M from to ss) [ none ↦ [] | some p ↦ p ∷ pieces f M (from + p .len) to ss ]
+abbrev pub pieces : ℕ → Rule → ℕ → ℕ → List Segment → List Piece
+pieces zero rule from to ss = []
+pieces (suc f) rule from to ss = elim (next rule from to ss) [ none ↦ [] | some p ↦ p ∷ pieces f rule (from + p .len) to ss ]
 
 -- ── the cut as C calls it
 
@@ -78,6 +91,6 @@ cutNext (some p) = CutPiece p
 abbrev pub cutDef : List ℕ → ℕ → ℕ → ℕ → Cut
 cutDef list M R handed =
     elim (firstOf (cutChecks list M R handed)) [
-      | none ↦ cutNext (next M handed (min R (sumOf (segmentsOf list))) (segmentsOf list))
+      | none ↦ cutNext (next (upTo M) handed (min R (sumOf (segmentsOf list))) (segmentsOf list))
       | some r ↦ CutRefused r
     ]

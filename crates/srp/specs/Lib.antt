@@ -1,5 +1,6 @@
 pub mod Limits
 pub mod Lists
+pub mod Both
 pub mod Bytes
 pub mod Messages
 pub mod Refusals
@@ -16,8 +17,8 @@ pub mod Calls
 pub mod Login
 pub mod Ranges
 pub mod Outside
-pub mod Machine
-pub mod Demand
 pub mod Initiator
 pub mod Rows
 pub mod Table
+pub mod FurtherRows
+pub mod Written

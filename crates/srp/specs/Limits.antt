@@ -37,6 +37,10 @@ mostCopies = 32
 abbrev pub longestSense : ℕ
 longestSense = 96
 
+-- the tag of a credit request and of its response
+abbrev pub creditTag : ℕ
+creditTag = 1
+
 -- formats as login bits: direct alone, and direct and indirect
 abbrev pub directOnly : ℕ
 directOnly = 0x0002

@@ -13,19 +13,12 @@ use Rattle.srp.specs.Descriptors.{sameBytes}
 use Rattle.srp.specs.Requests.{flag, otherFormats, badLength}
 use Rattle.srp.specs.Cutting.{badMaximum}
 use Rattle.srp.specs.Credit.{Port, closedPort}
+use Rattle.srp.specs.declared.Settings.{Settings}
+use Rattle.srp.specs.declared.Terms.{Terms}
 use Rattle.srp.specs.Take.{Outcome, silent}
 use Rattle.srp.specs.declared.Refusal.{Refusal}
 use Rattle.srp.specs.declared.Refusal.the-variants.{Setting, Length, OtherType}
 use Rattle.srp.specs.declared.Reply.the-variants.{Refused, Accepted, Rejected}
-
--- N, M, X, whether indirect tables and solicited events are supported, the port's own identifier of 16 bytes
-pub record Settings : Type 0 where
-  pub buffers : ℕ
-  pub maximum : ℕ
-  pub longest : ℕ
-  pub indirect : Bool
-  pub solicited : Bool
-  pub own : List ℕ
 
 -- "N 1 to 16, M 1 to 1,048,576, X 64 to 1,364"
 abbrev pub badSettings : Settings → Bool
@@ -42,34 +35,30 @@ abbrev pub supported : Settings → ℕ
 supported c = cond (c .indirect) bothFormats directOnly
 
 -- "Then the first that fits is rejected"
-abbrev pub rejections : Settings → List ℕ → List (Bool × ℕ)
-rejections c s =
+abbrev pub rejections : Settings → List ℕ → List ℕ → List (Bool × ℕ)
+rejections c own s =
     (ltb (get requestedLength s) shortestAgreed, 0x00010000)
     ∷ (ltb (c .longest) (get requestedLength s), 0x00010002)
     ∷ (otherFormats (supported c) (get formatBits s), 0x00010004)
     ∷ (eqb (get channelAction s) 1, 0x00010005)
     ∷ (ltb 1 (get channelAction s), 0x00010000)
-    ∷ (not (sameBytes (part targetIdentifier s) (c .own)), 0x00010003)
+    ∷ (not (sameBytes (part targetIdentifier s) own), 0x00010003)
     ∷ []
 
--- "After login W = A = N, H = D = 0"; then the agreed length and formats, CRSOLNT and LOSOLNT
-abbrev pub openedBy : Settings → ℕ → ℕ → ℕ → ℕ → Port
-openedBy c agreed formats crsolnt losolnt =
-    record {
-      live = true;
-      wanted = c .buffers;
-      announced = c .buffers;
-      held = [];
-      unanswered = false;
-      maximum = c .maximum;
-      agreed = agreed;
-      formats = formats;
-      crsolnt = flag crsolnt;
-      losolnt = flag losolnt;
-    }
+-- M, and from the message the agreed length and formats, CRSOLNT and LOSOLNT
+abbrev pub termsBy : Settings → ℕ → ℕ → ℕ → ℕ → Terms
+termsBy c agreed formats crsolnt losolnt =
+    record { maximum = c .maximum; agreed = agreed; formats = formats; crsolnt = flag crsolnt; losolnt = flag losolnt }
+
+abbrev pub termsOf : Settings → List ℕ → Terms
+termsOf c s = termsBy c (get requestedLength s) (get formatBits s) (get loginCrsolnt s) (get loginLosolnt s)
+
+-- "After login W = A = N, H = D = 0"
+abbrev pub openedWith : ℕ → Terms → Port
+openedWith n terms = record { live = true; wanted = n; announced = n; held = []; unanswered = false; terms = terms }
 
 abbrev pub opened : Settings → List ℕ → Port
-opened c s = openedBy c (get requestedLength s) (get formatBits s) (get loginCrsolnt s) (get loginLosolnt s)
+opened c s = openedWith (c .buffers) (termsOf c s)
 
 abbrev pub loginResponse : Settings → List ℕ → List ℕ
 loginResponse c s =
@@ -83,9 +72,10 @@ judged none c s = record { reply = Accepted; port = opened c s; wrote = loginRes
 judged (some reason) c s = record { reply = Rejected reason; port = closedPort; wrote = loginReject c s reason ∷ [] }
 
 -- "A login makes a port, using no earlier one; without an accepted login it is closed"
-abbrev pub loginBy : Option Refusal → Settings → List ℕ → Outcome
-loginBy none c s = judged (firstOf (rejections c s)) c s
-loginBy (some r) c s = silent closedPort (Refused r)
+abbrev pub loginBy : Option Refusal → Settings → List ℕ → List ℕ → Outcome
+loginBy none c own s = judged (firstOf (rejections c own s)) c s
+loginBy (some r) c own s = silent closedPort (Refused r)
 
-abbrev pub loginDef : Settings → ℕ → List ℕ → Outcome
-loginDef c room s = loginBy (firstOf (loginChecks c room s)) c s
+-- login with the message s, by a port whose own identifier is the 16 bytes `own`, and `room` bytes of lent buffer
+abbrev pub loginDef : Settings → List ℕ → ℕ → List ℕ → Outcome
+loginDef c own room s = loginBy (firstOf (loginChecks c room s)) c own s

@@ -6,7 +6,7 @@ use mathlib.Core.List.{List, [], _∷_}
 use Prim.Native.Nat.{ℕ}
 use lib.Dec.{ltb, eqb}
 use lib.ListN.{length}
-use Rattle.srp.specs.Limits.{shortestMessage, shortestCommand}
+use Rattle.srp.specs.Limits.{shortestMessage, shortestCommand, creditTag}
 use Rattle.srp.specs.Bytes.{get, typeOf}
 use Rattle.srp.specs.Messages.{tag, outFormat, inFormat, tskMgmt, cmd, iLogout, credRsp}
 use Rattle.srp.specs.Refusals.{Check, short}
@@ -25,7 +25,10 @@ isKnown k = isCommand k || (eqb k (tskMgmt .code) || (eqb k (iLogout .code) || e
 
 -- the length of a message s of type k
 abbrev pub typeLength : ℕ → List ℕ → ℕ
-typeLength k s = cond (isCommand k) (exactLength s) (cond (eqb k (tskMgmt .code)) (tskMgmt .size) (credRsp .size))
+typeLength k s =
+    cond (isCommand k) (exactLength s)
+    (cond (eqb k (tskMgmt .code)) (tskMgmt .size)
+    (cond (eqb k (iLogout .code)) (iLogout .size) (credRsp .size)))
 
 -- for a message s of type k
 abbrev pub orderOf : ℕ → Port → ℕ → List ℕ → Tables → List Check
@@ -33,11 +36,11 @@ orderOf k p room s t =
     short room
     ∷ closed p
     ∷ (ltb (length s) shortestMessage, Length)
-    ∷ (ltb (p .agreed) (length s), Length)
+    ∷ (ltb (p .terms .agreed) (length s), Length)
     ∷ (not (isKnown k), OtherType)
     ∷ (isCommand k && ltb (length s) shortestCommand, Length)
-    ∷ (isCommand k && not (agrees (p .formats) (get outFormat s)), OutFormat)
-    ∷ (isCommand k && not (agrees (p .formats) (get inFormat s)), InFormat)
+    ∷ (isCommand k && not (agrees (p .terms .formats) (get outFormat s)), OutFormat)
+    ∷ (isCommand k && not (agrees (p .terms .formats) (get inFormat s)), InFormat)
     ∷ (not (eqb (length s) (typeLength k s)), Length)
     ∷ (isCommand k && badCount (outDescriptor s), OutCount)
     ∷ (isCommand k && badCount (inDescriptor s), InCount)
@@ -45,7 +48,7 @@ orderOf k p room s t =
     ∷ (isRequestType k && isOpen p (get tag s), TagOpen)
     ∷ (isCommand k && not (tablesFit (commandOf s) t), TableLength)
     ∷ (isCommand k && not (fieldsFit (commandOf s) s t), Fields)
-    ∷ (eqb k (credRsp .code) && not (p .unanswered && eqb (get tag s) 1), CreditResponse)
+    ∷ (eqb k (credRsp .code) && not (p .unanswered && eqb (get tag s) creditTag), CreditResponse)
     ∷ []
 
 abbrev pub takeOrder : Port → ℕ → List ℕ → Tables → List Check

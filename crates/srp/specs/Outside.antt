@@ -10,7 +10,7 @@ use Rattle.srp.specs.Messages.{memoryDescriptor}
 use Rattle.srp.specs.Refusals.{numberOf, firstOf}
 use Rattle.srp.specs.Descriptors.{Segment, segments, sumOf, fetched}
 use Rattle.srp.specs.Requests.{lookChecks, lookDef, commandOf}
-use Rattle.srp.specs.Cutting.{cuts, cutDef}
+use Rattle.srp.specs.Cutting.{upTo, cuts, cutDef}
 use Rattle.srp.specs.Calls.{kindOf}
 use Rattle.srp.specs.Take.{Tables, fieldsFit}
 use Rattle.srp.specs.declared.Refusal.{Refusal}
@@ -28,20 +28,20 @@ use Rattle.srp.specs.declared.Command.{Command}
 
 -- ── C
 
--- what a call returns, 0 or the refusal's number, and the 32 bytes that it writes where there is none
-pub record Answer : Type 0 where
+-- what a call from C returns, 0 or the refusal's number, and the 32 bytes that it writes where there is none
+pub record CReturn : Type 0 where
   pub returns : ℕ
   pub wrote : List (List ℕ)
 
-abbrev pub refusing : Refusal → Answer
-refusing r = record { returns = numberOf r; wrote = [] }
+abbrev pub refusingC : Refusal → CReturn
+refusingC r = record { returns = numberOf r; wrote = [] }
 
-abbrev pub giving : List ℕ → Answer
-giving bytes = record { returns = 0; wrote = bytes ∷ [] }
+abbrev pub givingC : List ℕ → CReturn
+givingC bytes = record { returns = 0; wrote = bytes ∷ [] }
 
 -- "In C the answer takes 32 bytes (a shorter buffer draws 1 first)"
-abbrev pub inBuffer : ℕ → Answer → Answer
-inBuffer room a = cond (ltb room 32) (refusing ShortBuffer) a
+abbrev pub inBuffer : ℕ → CReturn → CReturn
+inBuffer room a = cond (ltb room 32) (refusingC ShortBuffer) a
 
 abbrev pub descriptorBytes : ℕ → ℕ → ℕ → List ℕ
 descriptorBytes address handle len = puts memoryDescriptor (address ∷ handle ∷ len ∷ []) (zeros 16)
@@ -50,20 +50,20 @@ abbrev pub fetchBytes : Fetch → List ℕ
 fetchBytes f = descriptorBytes (f .address) (f .handle) (f .len)
 
 -- "look's two fetches, out then in"; "F = 0 and unused bytes are 0"
-abbrev pub lookAnswer : Look → Answer
-lookAnswer (LookRefused r) = refusing r
-lookAnswer (Fetches out inn) = giving (fetchBytes out ++ fetchBytes inn)
+abbrev pub lookAnswer : Look → CReturn
+lookAnswer (LookRefused r) = refusingC r
+lookAnswer (Fetches out inn) = givingC (fetchBytes out ++ fetchBytes inn)
 
-abbrev pub lookInC : ℕ → ℕ → List ℕ → ℕ → Answer
+abbrev pub lookInC : ℕ → ℕ → List ℕ → ℕ → CReturn
 lookInC agreed formats s room = inBuffer room (lookAnswer (lookDef agreed formats s))
 
 -- "the piece and then its offset (4 bytes)"; "done ... 0"
-abbrev pub cutAnswer : Cut → Answer
-cutAnswer (CutRefused r) = refusing r
-cutAnswer (CutPiece p) = giving (descriptorBytes (p .address) (p .handle) (p .len) ++ (bytesOf 4 (p .offset) ++ zeros 12))
-cutAnswer CutDone = giving (zeros 32)
+abbrev pub cutAnswer : Cut → CReturn
+cutAnswer (CutRefused r) = refusingC r
+cutAnswer (CutPiece p) = givingC (descriptorBytes (p .address) (p .handle) (p .len) ++ (bytesOf 4 (p .offset) ++ zeros 12))
+cutAnswer CutDone = givingC (zeros 32)
 
-abbrev pub cutInC : List ℕ → ℕ → ℕ → ℕ → ℕ → Answer
+abbrev pub cutInC : List ℕ → ℕ → ℕ → ℕ → ℕ → CReturn
 cutInC list M R handed room = inBuffer room (cutAnswer (cutDef list M R handed))
 
 -- ── cutlist
@@ -110,7 +110,7 @@ noTables = record { out = []; inn = [] }
 
 -- "M = 512, R = B"
 abbrev pub wholeCuts : List Segment → List Piece
-wholeCuts ss = cuts 512 (sumOf ss) ss
+wholeCuts ss = cuts (upTo 512) (sumOf ss) ss
 
 -- a command that look takes: ""fetch" only, ahead of 10"
 abbrev pub cutlistOf : Command → List ℕ → List ℕ

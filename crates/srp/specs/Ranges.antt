@@ -3,33 +3,37 @@ use mathlib.Core.Path.{_≡_}
 use mathlib.Core.Logic.{_⊎_}
 use mathlib.Core.Bool.{true, false}
 use mathlib.Core.List.{List}
-use Prim.Native.Nat.{ℕ, _+_, _-_, _^_, _≤_, _<_, min}
+use Prim.Native.Nat.{ℕ, _+_, _^_, _≤_, _<_, min}
 use lib.ListN.{length}
 use Rattle.srp.specs.Limits.{mostBuffers, largestPiece}
 use Rattle.srp.specs.Messages.{tag}
 use Rattle.srp.specs.Lists.{All}
 use Rattle.srp.specs.Descriptors.{sumOf, reachable}
-use Rattle.srp.specs.Credit.{Side, Open, Port, closedPort}
+use Rattle.srp.specs.Both.{Each}
+use Rattle.srp.specs.Credit.{Extent, Side, Open, Port, closedPort}
 use Rattle.srp.specs.Take.{Tables, takeDef}
 use Rattle.srp.specs.Calls.{planDef, stepDef, finishDef, addDef, withdrawDef, grantDef, closeDef}
-use Rattle.srp.specs.Login.{Settings, loginDef}
+use Rattle.srp.specs.Login.{loginDef}
+use Rattle.srp.specs.declared.Settings.{Settings}
 use Rattle.srp.specs.declared.Direction.{Direction}
 use Rattle.srp.specs.Bytes.{Bytes}
 
 -- one direction: its segments end by 2^64, `total` is B
+pub record ExtentRanges (e : Extent) : Type 0 where
+  pub reach : reachable (e .segs) ≡ true
+  pub sum : e .total ≡ sumOf (e .segs)
+  pub small : e .total < 2 ^ 32
+
 pub record SideRanges (s : Side) : Type 0 where
-  pub reach : reachable (s .segs) ≡ true
-  pub sum : s .total ≡ sumOf (s .segs)
-  pub small : s .total < 2 ^ 32
-  pub handed : s .handed ≤ min (s .required) (s .total)
-  pub required : s .required < 2 ^ 32
+  pub extent : ExtentRanges (s .extent)
+  pub handed : s .transfer .handed ≤ min (s .transfer .required) (s .extent .total)
+  pub required : s .transfer .required < 2 ^ 32
 
 -- an open command: its tag has 8 bytes, and R is 0 until it is planned
 pub record OpenRanges (c : Open) : Type 0 where
-  pub tag : c .tag < 2 ^ 64
-  pub out : SideRanges (c .out)
-  pub inn : SideRanges (c .inn)
-  pub unplanned : c .planned ≡ false → (c .out .required ≡ 0) × (c .inn .required ≡ 0)
+  pub tag : c .request .tag < 2 ^ 64
+  pub sides : Each SideRanges (c .sides)
+  pub unplanned : c .planned ≡ false → Each (λ s. s .transfer .required ≡ 0) (c .sides)
 
 -- a port that is open: W, A + H, M and its commands
 pub record Ranges (p : Port) : Type 0 where
@@ -37,13 +41,13 @@ pub record Ranges (p : Port) : Type 0 where
   pub least : 1 ≤ p .wanted
   pub most : p .wanted ≤ mostBuffers
   pub room : p .announced + length (p .held) ≤ mostBuffers
-  pub smallest : 1 ≤ p .maximum
-  pub largest : p .maximum ≤ largestPiece
+  pub smallest : 1 ≤ p .terms .maximum
+  pub largest : p .terms .maximum ≤ largestPiece
   pub commands : All OpenRanges (p .held)
 
 -- the ports that a login made, accepted or not, and calls changed, whatever they answered; a message is bytes, and R below 2^32
 pub data Reached : Port → Type 0 where
-  logged-in : (c : Settings) (room : ℕ) (s : List ℕ) → Reached (loginDef c room s .port)
+  logged-in : (c : Settings) (own : List ℕ) (room : ℕ) (s : List ℕ) → Reached (loginDef c own room s .port)
   took : {p : Port} → Reached p → (room : ℕ) (s : List ℕ) (t : Tables) → Bytes s → Reached (takeDef p room s t .port)
   planned : {p : Port} → Reached p → (tag out inn : ℕ) → out < 2 ^ 32 → inn < 2 ^ 32 → Reached (planDef p tag out inn .port)
   stepped : {p : Port} → Reached p → (tag : ℕ) (d : Direction) → Reached (stepDef p tag d .port)
@@ -54,5 +58,5 @@ pub data Reached : Port → Type 0 where
   hung-up : {p : Port} → Reached p → (room reason : ℕ) → Reached (closeDef p room reason .port)
 
 -- closed, as the one value, or open with the ranges
-abbrev pub Kept : Port → Type 0
-Kept p = (p ≡ closedPort) ⊎ Ranges p
+abbrev pub Ranged : Port → Type 0
+Ranged p = (p ≡ closedPort) ⊎ Ranges p

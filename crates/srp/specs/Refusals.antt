@@ -1,37 +1,64 @@
--- Document 01, "From the message or the caller" and "From what went before": the refusals' numbers, and which check comes first.
-use mathlib.Core.Bool.{Bool, cond, _&&_, _||_}
+-- Document 01, "From the message or the caller" and "From what went before": the refusals' numbers, what take does at each, and which check
+-- comes first.
+use mathlib.Core.Bool.{Bool, cond}
 use mathlib.Core.List.{List, [], _∷_}
 use mathlib.Core.Option.{Option, none, some}
-use Prim.Native.Nat.{ℕ, _+_}
-use lib.Dec.{ltb, leb, eqb}
+use Prim.Native.Nat.{ℕ}
+use lib.Dec.{ltb}
 use Rattle.srp.specs.Limits.{bufferSize}
 use Rattle.srp.specs.declared.Refusal.{Refusal}
 use Rattle.srp.specs.declared.Refusal.the-variants.{ShortBuffer, Setting, Length, OtherType, OutFormat, InFormat, OutCount, InCount, TableLength, Fields, Argument, Closed, NoCredit, TagOpen, TagNotOpen, CreditResponse, Unanswered, NotOwed, Wanted, Unplanned, Planned}
 
-abbrev pub numberOf : Refusal → ℕ
+-- what take does that draws a refusal
+pub data Conduct : Type 0 where
+  -- "write SRP_T_LOGOUT, drop all commands and close"
+  hangsUp : (reason : ℕ) → Conduct
+  -- "is taken and answered in the same call"
+  answered : Conduct
+  -- "returns its number and alters nothing"; and "the message stays there", in its queue
+  stays : Conduct
+  -- the same, but the message leaves its queue
+  altersNothing : Conduct
+
+-- each refusal's number, and what take does that draws it: "Take's 3 to 8, 22, 23 and 25 write SRP_T_LOGOUT ..; reasons 0, but 6, 7, 8, 9 for
+-- 5, 6, 7, 8. Refusal 10 is taken and answered"; "On refusals 1 and 9 the message stays there, else it leaves"
+abbrev pub entry : Refusal → ℕ × Conduct
 -- from the message or the caller
-numberOf ShortBuffer = 1
-numberOf Setting = 2
-numberOf Argument = 11
-numberOf Length = 3
-numberOf OtherType = 4
-numberOf OutFormat = 5
-numberOf InFormat = 6
-numberOf OutCount = 7
-numberOf InCount = 8
-numberOf TableLength = 9
-numberOf Fields = 10
+entry ShortBuffer = (1, stays)
+entry Setting = (2, altersNothing)
+entry Argument = (11, altersNothing)
+entry Length = (3, hangsUp 0)
+entry OtherType = (4, hangsUp 0)
+entry OutFormat = (5, hangsUp 6)
+entry InFormat = (6, hangsUp 7)
+entry OutCount = (7, hangsUp 8)
+entry InCount = (8, hangsUp 9)
+entry TableLength = (9, stays)
+entry Fields = (10, answered)
 -- from what went before
-numberOf Closed = 21
-numberOf NoCredit = 22
-numberOf TagOpen = 23
-numberOf TagNotOpen = 24
-numberOf CreditResponse = 25
-numberOf Unanswered = 26
-numberOf NotOwed = 27
-numberOf Wanted = 28
-numberOf Unplanned = 29
-numberOf Planned = 30
+entry Closed = (21, altersNothing)
+entry NoCredit = (22, hangsUp 0)
+entry TagOpen = (23, hangsUp 0)
+entry TagNotOpen = (24, altersNothing)
+entry CreditResponse = (25, hangsUp 0)
+entry Unanswered = (26, altersNothing)
+entry NotOwed = (27, altersNothing)
+entry Wanted = (28, altersNothing)
+entry Unplanned = (29, altersNothing)
+entry Planned = (30, altersNothing)
+
+abbrev pub numberOf : Refusal → ℕ
+numberOf r = entry r .0
+
+abbrev pub conductOf : Refusal → Conduct
+conductOf r = entry r .1
+
+-- the reason of a hang-up, 0 where there is none
+abbrev pub reasonIn : Conduct → ℕ
+reasonIn (hangsUp reason) = reason
+reasonIn answered = 0
+reasonIn stays = 0
+reasonIn altersNothing = 0
 
 -- a test, and the refusal where it hits
 abbrev pub Check : Type 0
@@ -41,14 +68,6 @@ Check = Bool × Refusal
 abbrev pub firstOf : {A : Type 0} → List (Bool × A) → Option A
 firstOf [] = none
 firstOf (c ∷ cs) = cond (c .0) (some (c .1)) (firstOf cs)
-
--- "Take's 3 to 8, 22, 23 and 25 write SRP_T_LOGOUT, drop all commands and close"
-abbrev pub hangsUp : ℕ → Bool
-hangsUp n = (leb 3 n && leb n 8) || (eqb n 22 || (eqb n 23 || eqb n 25))
-
--- "reasons 0, but 6, 7, 8, 9 for 5, 6, 7, 8"
-abbrev pub reasonOf : ℕ → ℕ
-reasonOf n = cond (leb 5 n && leb n 8) (n + 1) 0
 
 abbrev pub short : ℕ → Check
 short room = (ltb room bufferSize, ShortBuffer)

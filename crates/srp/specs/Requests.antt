@@ -15,6 +15,7 @@ use Rattle.srp.specs.declared.Direction.the-variants.{Out, In}
 use Rattle.srp.specs.declared.Refusal.{Refusal}
 use Rattle.srp.specs.declared.Refusal.the-variants.{Setting, Length, OtherType, OutFormat, InFormat, OutCount, InCount}
 use Rattle.srp.specs.declared.Descriptor.{Descriptor}
+use Rattle.srp.specs.declared.Request.{Request}
 use Rattle.srp.specs.declared.Command.{Command}
 use Rattle.srp.specs.declared.TaskRequest.{TaskRequest}
 use Rattle.srp.specs.declared.Message.{Message}
@@ -31,6 +32,9 @@ isRequest s = isRequestType (typeOf s)
 
 abbrev pub flag : ℕ → Bool
 flag n = eqb n 1
+
+abbrev pub requestOf : List ℕ → Request
+requestOf s = record { tag = get tag s; lun = get lun s; ucsolnt = flag (get ucsolnt s); scsolnt = flag (get scsolnt s) }
 
 -- ── SRP_CMD
 
@@ -56,16 +60,7 @@ abbrev pub inDescriptor : List ℕ → Descriptor
 inDescriptor s = descriptorOf (get inFormat s) (get inCount s) (inAt s) s
 
 abbrev pub commandOf : List ℕ → Command
-commandOf s =
-    record {
-      tag = get tag s;
-      lun = get lun s;
-      ucsolnt = flag (get ucsolnt s);
-      scsolnt = flag (get scsolnt s);
-      cdb = cdbLength s;
-      out = outDescriptor s;
-      inn = inDescriptor s;
-    }
+commandOf s = record { request = requestOf s; cdb = cdbLength s; out = outDescriptor s; inn = inDescriptor s }
 
 -- "3 (48 for a command), 5, 6, 3 (exact), 7, 8"
 abbrev pub commandChecks : ℕ → List ℕ → List Check
@@ -81,15 +76,7 @@ commandChecks formats s =
 -- ── SRP_TSK_MGMT
 
 abbrev pub taskOf : List ℕ → TaskRequest
-taskOf s =
-    record {
-      tag = get tag s;
-      lun = get lun s;
-      ucsolnt = flag (get ucsolnt s);
-      scsolnt = flag (get scsolnt s);
-      function = get taskFunction s;
-      managed = get taskTag s;
-    }
+taskOf s = record { request = requestOf s; function = get taskFunction s; managed = get taskTag s }
 
 -- ── any message
 

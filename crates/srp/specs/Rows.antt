@@ -2,7 +2,7 @@
 -- layouts. The rows are specs/Table.antt.
 use mathlib.Core.Bool.{Bool, true, false, cond}
 use mathlib.Core.List.{List, [], _∷_, _++_, map}
-use Prim.Native.Nat.{ℕ, zero, suc, _+_}
+use Prim.Native.Nat.{ℕ, zero, suc}
 use lib.IntN.{ℤ}
 use lib.ListN.{length, replicate}
 use Rattle.srp.specs.Bytes.{bytesOf}
@@ -11,8 +11,9 @@ use Rattle.srp.specs.Requests.{cdbDef, segmentsDef}
 use Rattle.srp.specs.Credit.{Port, closedPort}
 use Rattle.srp.specs.Take.{Outcome, Tables, takeDef}
 use Rattle.srp.specs.Calls.{planDef, stepDef, finishDef, addDef, withdrawDef, grantDef, closeDef, countersDef, listDef, listing}
-use Rattle.srp.specs.Login.{Settings, loginDef}
-use Rattle.srp.specs.Outside.{Answer, lookInC, cutInC, cutlist, noTables}
+use Rattle.srp.specs.Login.{loginDef}
+use Rattle.srp.specs.declared.Settings.{Settings}
+use Rattle.srp.specs.Outside.{CReturn, lookInC, cutInC, cutlist, noTables}
 use Rattle.srp.specs.declared.Direction.{Direction}
 use Rattle.srp.specs.declared.Direction.the-variants.{In}
 use Rattle.srp.specs.declared.Kind.{Kind}
@@ -81,8 +82,8 @@ seenOf p (Rejected n) = rejected n
 seenOf p (Counts c) = counters (c .wanted) (c .announced) (c .held) (c .owed)
 seenOf p (Listed n) = records n (map row (listing p))
 
-abbrev pub answered : Port → Answer → Outcome × Seen
-answered p a = (record { reply = Performed; port = p; wrote = a .wrote }, cond (isZero (a .returns)) performed (refused (a .returns)))
+abbrev pub returnedC : Port → CReturn → Outcome × Seen
+returnedC p a = (record { reply = Performed; port = p; wrote = a .wrote }, cond (isZero (a .returns)) performed (refused (a .returns)))
   where
     isZero : ℕ → Bool
     isZero zero = true
@@ -91,11 +92,15 @@ answered p a = (record { reply = Performed; port = p; wrote = a .wrote }, cond (
 abbrev pub called : Outcome → Outcome × Seen
 called o = (o, seenOf (o .port) (o .reply))
 
-abbrev pub shown : Port → Seen → Outcome × Seen
-shown p s = (record { reply = Performed; port = p; wrote = [] }, s)
+abbrev pub asked : Port → Seen → Outcome × Seen
+asked p s = (record { reply = Performed; port = p; wrote = [] }, s)
+
+-- the port's own identifier
+abbrev pub own : List ℕ
+own = replicate 15 7 ++ (8 ∷ [])
 
 abbrev pub act : Port → Act → Outcome × Seen
-act p (logs-in c room s) = called (loginDef c room s)
+act p (logs-in c room s) = called (loginDef c own room s)
 act p (takes room s t) = called (takeDef p room s t)
 act p (plans tag out inn) = called (planDef p tag out inn)
 act p (steps tag d) = called (stepDef p tag d)
@@ -106,11 +111,11 @@ act p (grants room) = called (grantDef p room)
 act p (closes room reason) = called (closeDef p room reason)
 act p counts = called (countersDef p)
 act p (lists n) = called (listDef p n)
-act p (looks agreed formats s room) = answered p (lookInC agreed formats s room)
-act p (cuts list M R handed room) = answered p (cutInC list M R handed room)
-act p (cdbs s) = shown p (text (cdbDef 1364 6 s))
-act p (parts d s table) = shown p (text (segmentsDef d 1364 6 s table))
-act p (prints s) = shown p (text (cutlist s))
+act p (looks agreed formats s room) = returnedC p (lookInC agreed formats s room)
+act p (cuts list M R handed room) = returnedC p (cutInC list M R handed room)
+act p (cdbs s) = asked p (text (cdbDef 1364 6 s))
+act p (parts d s table) = asked p (text (segmentsDef d 1364 6 s table))
+act p (prints s) = asked p (text (cutlist s))
 
 -- each act's reply, then its message
 abbrev pub shows : Port → List Act → List Seen
@@ -125,12 +130,12 @@ abbrev pub segment : ℕ → ℕ → ℕ → List ℕ
 segment a h n = bytesOf 8 a ++ bytesOf 4 h ++ bytesOf 4 n
 
 -- byte 1, byte 5, the counts, the tag, the LUN, byte 31, and what follows byte 47
-abbrev pub cmd : ℕ → ℕ → ℕ → ℕ → ℕ → ℕ → ℕ → List ℕ → List ℕ
-cmd solnt formats outs ins tag lun n rest =
+abbrev pub cmd-bytes : ℕ → ℕ → ℕ → ℕ → ℕ → ℕ → ℕ → List ℕ → List ℕ
+cmd-bytes solnt formats outs ins tag lun n rest =
     2 ∷ solnt ∷ 0 ∷ 0 ∷ 0 ∷ formats ∷ outs ∷ ins ∷ bytesOf 8 tag ++ (replicate 4 0 ++ (bytesOf 8 lun ++ (0 ∷ 0 ∷ 0 ∷ n ∷ replicate 16 0xcd ++ rest)))
 
 abbrev pub no-data : ℕ → List ℕ
-no-data tag = cmd 0 0 0 0 tag 0 0 []
+no-data tag = cmd-bytes 0 0 0 0 tag 0 0 []
 
 -- byte 1, the tag, the LUN, the function, the tag of the command to abort
 abbrev pub tsk-mgmt : ℕ → ℕ → ℕ → ℕ → ℕ → List ℕ
@@ -141,16 +146,13 @@ tsk-mgmt solnt tag lun function managed =
 abbrev pub tag-only : ℕ → ℕ → List ℕ
 tag-only type tag = type ∷ replicate 7 0 ++ bytesOf 8 tag
 
-abbrev pub own : List ℕ
-own = replicate 15 7 ++ (8 ∷ [])
-
 -- the requested length, the required formats, byte 26, the target identifier
 abbrev pub login-req : ℕ → ℕ → ℕ → List ℕ → List ℕ
 login-req n formats flags target =
     0 ∷ replicate 7 0 ++ (bytesOf 8 77 ++ (bytesOf 4 n ++ (replicate 4 0 ++ (bytesOf 2 formats ++ (flags ∷ replicate 5 0 ++ (replicate 16 5 ++ target))))))
 
 abbrev pub settings : ℕ → ℕ → ℕ → Bool → Bool → Settings
-settings n m x indirect solicited = record { buffers = n; maximum = m; longest = x; indirect = indirect; solicited = solicited; own = own }
+settings n m x indirect solicited = record { buffers = n; maximum = m; longest = x; indirect = indirect; solicited = solicited }
 
 -- a port with N buffers and M = 512, both formats agreed, CRSOLNT and LOSOLNT as byte 26 says
 abbrev pub logs-in-with : ℕ → ℕ → Act
@@ -159,17 +161,17 @@ logs-in-with n flags = logs-in (settings n 512 1364 true true) 132 (login-req 13
 -- ── messages from the port
 
 -- byte 1, the delta, the tag, the flags, the status, both residuals, the lengths of sense and of response bytes, and what follows byte 35
-abbrev pub rsp : ℕ → ℕ → ℕ → ℕ → ℕ → ℕ → ℕ → ℕ → ℕ → List ℕ → Seen
-rsp solnt delta tag flags status out inn sense response rest =
+abbrev pub rsp-bytes : ℕ → ℕ → ℕ → ℕ → ℕ → ℕ → ℕ → ℕ → ℕ → List ℕ → Seen
+rsp-bytes solnt delta tag flags status out inn sense response rest =
     message
     (0xc1 ∷ solnt ∷ 0 ∷ 0 ∷ bytesOf 4 delta ++ (bytesOf 8 tag ++ (0 ∷ 0 ∷ flags ∷ status ∷ bytesOf 4 out ++ (bytesOf 4 inn ++ (bytesOf 4 sense ++ (bytesOf 4 response ++ rest))))))
 
 -- a command's response with status 0, and one with an RSP_CODE
 abbrev pub rsp-good : ℕ → ℕ → ℕ → ℕ → ℕ → Seen
-rsp-good delta tag flags out inn = rsp 0 delta tag flags 0 out inn 0 0 []
+rsp-good delta tag flags out inn = rsp-bytes 0 delta tag flags 0 out inn 0 0 []
 
 abbrev pub rsp-code : ℕ → ℕ → ℕ → ℕ → Seen
-rsp-code solnt delta tag n = rsp solnt delta tag 1 0 0 0 0 4 (0 ∷ 0 ∷ 0 ∷ n ∷ [])
+rsp-code solnt delta tag n = rsp-bytes solnt delta tag 1 0 0 0 0 4 (0 ∷ 0 ∷ 0 ∷ n ∷ [])
 
 abbrev pub t-logout : ℕ → ℕ → Seen
 t-logout solnt reason = message (0x80 ∷ solnt ∷ 0 ∷ 0 ∷ bytesOf 4 reason ++ replicate 8 0)

@@ -60,5 +60,5 @@ changed [] s = s
 changed (c ∷ cs) s = put (c .0) (c .1) (changed cs s)
 
 -- a change of one of the fields us, inside n bytes and below the field's bound
-abbrev pub Within : List Field → ℕ → Field × ℕ → Type 0
-Within us n c = List·Memᴰ (c .0) us × (inside n (c .0) ≡ true) × (c .1 < bound (c .0))
+abbrev pub ChangeOf : List Field → ℕ → Field × ℕ → Type 0
+ChangeOf us n c = List·Memᴰ (c .0) us × (inside n (c .0) ≡ true) × (c .1 < bound (c .0))

@@ -5,18 +5,21 @@ use mathlib.Core.Option.{Option, none, some}
 use Prim.Native.Nat.{ℕ, _-_}
 use lib.Dec.{ltb, eqb}
 use lib.ListN.{length, drop}
+use Rattle.srp.specs.Limits.{creditTag}
 use Rattle.srp.specs.Bytes.{bit, write}
 use Rattle.srp.specs.Messages.{rsp, credReq, tLogout}
 use Rattle.srp.specs.Lists.{isSome}
 use Rattle.srp.specs.Credit.{Side}
+use Rattle.srp.specs.declared.Request.{Request}
 use Rattle.srp.specs.declared.Residual.{Residual}
 use Rattle.srp.specs.declared.Residual.the-variants.{Even, Over, Under}
 
 -- "Residual per direction. R > B: over, R - B. Else moved < B: under, B - moved, moved being the bytes handed out. Else no flag, count 0"
 abbrev pub residualOf : Side → Residual
 residualOf s =
-    cond (ltb (s .total) (s .required)) (Over (s .required - s .total))
-    (cond (ltb (s .handed) (s .total)) (Under (s .total - s .handed)) Even)
+    let B : ℕ = s .extent .total in
+    cond (ltb B (s .transfer .required)) (Over (s .transfer .required - B))
+    (cond (ltb (s .transfer .handed) B) (Under (B - s .transfer .handed)) Even)
 
 abbrev pub isOver : Residual → Bool
 isOver Even = false
@@ -77,15 +80,15 @@ answer solnt tag code delta =
 
 -- "Grant writes an SRP_CRED_REQ with tag 1"
 abbrev pub creditRequest : Bool → ℕ → List ℕ
-creditRequest crsolnt delta = write credReq (bit crsolnt ∷ delta ∷ 1 ∷ [])
+creditRequest crsolnt delta = write credReq (bit crsolnt ∷ delta ∷ creditTag ∷ [])
 
 -- SRP_T_LOGOUT: "4-7 reason, tag 0"
 abbrev pub targetLogout : Bool → ℕ → List ℕ
 targetLogout losolnt reason = write tLogout (bit losolnt ∷ reason ∷ 0 ∷ [])
 
 -- "SOLNT is UCSOLNT if status or RSP_CODE is non-zero, else SCSOLNT"
-abbrev pub solicited : Bool → Bool → ℕ → Bool
-solicited ucsolnt scsolnt code = cond (eqb code 0) scsolnt ucsolnt
+abbrev pub solicited : Request → ℕ → Bool
+solicited r code = cond (eqb code 0) (r .scsolnt) (r .ucsolnt)
 
 -- "Messages go to a lent buffer of at least 132 bytes; bytes past the message keep their content"
 abbrev pub placed : List (List ℕ) → List ℕ → List ℕ

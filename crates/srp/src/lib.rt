@@ -48,12 +48,41 @@ pub struct Descriptor {
     pub total: u32,
 }
 
-// An SRP_CMD. Its CDB is the cdb bytes of the message from byte 32 on.
-pub struct Command {
+// What a request, an SRP_CMD or SRP_TSK_MGMT, is known by and how its answer is to be notified.
+pub struct Request {
     pub tag: u64,
     pub lun: u64,
     pub ucsolnt: bool,
     pub scsolnt: bool,
+}
+
+// What the owner sets before a login: N, M, X, and whether indirect tables and solicited events are supported.
+pub struct Settings {
+    pub buffers: u32,
+    pub maximum: u32,
+    pub longest: u32,
+    pub indirect: bool,
+    pub solicited: bool,
+}
+
+// What a login settled: M, the agreed length and formats, CRSOLNT and LOSOLNT.
+pub struct Terms {
+    pub maximum: u32,
+    pub agreed: u32,
+    pub formats: u32,
+    pub crsolnt: bool,
+    pub losolnt: bool,
+}
+
+// What moves of a command's data in a direction: R, which is 0 until it is planned, and the bytes handed out.
+pub struct Transfer {
+    pub required: u32,
+    pub handed: u32,
+}
+
+// An SRP_CMD. Its CDB is the cdb bytes of the message from byte 32 on.
+pub struct Command {
+    pub request: Request,
     pub cdb: usize,
     pub out: Descriptor,
     pub inn: Descriptor,
@@ -61,10 +90,7 @@ pub struct Command {
 
 // An SRP_TSK_MGMT. The function 01h is about the command with the tag managed.
 pub struct TaskRequest {
-    pub tag: u64,
-    pub lun: u64,
-    pub ucsolnt: bool,
-    pub scsolnt: bool,
+    pub request: Request,
     pub function: u8,
     pub managed: u64,
 }

@@ -28,6 +28,9 @@ pub const MOST_COPIES: u8 = 32;
 
 pub const LONGEST_SENSE: usize = 96;
 
+// the tag of a credit request and of its response
+pub const CREDIT_TAG: u64 = 1;
+
 // formats as login bits: direct alone, and direct and indirect
 pub const DIRECT_ONLY: u32 = 0x0002;
 

@@ -4,9 +4,9 @@ use mathlib.Core.Path.{_≡_, refl}
 use mathlib.Core.Bool.{Bool, true, false}
 use mathlib.Core.List.{List}
 use Prim.Native.Nat.{ℕ, _^_, _<_}
 use Rattle.srp.specs.Writing.{Response, response, answer, creditRequest, targetLogout}
-use Rattle.srp.specs.Machine.{deltaOf, isCreditRequest, isTargetLogout}
+use Rattle.machine.specs.Machine.{deltaOf, isCreditRequest, isTargetLogout}
 use Rattle.srp.proofs.Numbers.{number-read}
 
 -- a message that carries the delta d, and is a credit request or not as b says
 pub record Carries (d : ℕ) (b : Bool) (s : List ℕ) : Type 0 where

@@ -1,0 +1,7 @@
+pub mod Tags
+pub mod Deltas
+pub mod Invariant
+pub mod Taking
+pub mod Steps
+pub mod Demand
+pub mod Itself

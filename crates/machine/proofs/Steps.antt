@@ -1,0 +1,291 @@
+-- Plan, step, finish, add, withdraw and grant, sending and delivery do what demand 3 says of them; steps hand out a command's own cuts in order.
+-- Assumes nothing.
+use mathlib.Core.Path.{_≡_, refl, ap, sym, _∙_, subst}
+use mathlib.Core.Bool.{Bool, true, false, cond, true≢false, or-true}
+use mathlib.Core.List.{List, [], _∷_, _++_, map}
+use mathlib.Core.Option.{Option, none, some, Option·map, Option·none-ne-some}
+use Prim.Native.Nat.{ℕ, suc, _+_, _-_, _≤_, min}
+use native.Mathlib.Omega.{arith}
+use lib.ListN.{length, take, getElem?, length-append}
+use lib.Seq.{take-all}
+use borrow.Author.Tests.{ltb-false, leb-false, not-false}
+use Rattle.srp.specs.Bytes.{typeOf}
+use Rattle.srp.specs.Lists.{find, change, without, All, isSome}
+use Rattle.srp.specs.Refusals.{firstOf}
+use Rattle.srp.specs.Descriptors.{sumOf}
+use Rattle.srp.specs.Requests.{isRequest}
+use Rattle.srp.specs.Cutting.{bytesIn, next}
+use Rattle.srp.specs.Both.{of}
+use Rattle.srp.specs.Credit.{withSides, Open, ruleOf, Port, due, withHeld}
+use Rattle.srp.specs.declared.Terms.{Terms}
+use Rattle.srp.specs.Writing.{creditRequest}
+use Rattle.srp.specs.Take.{Outcome, silent, answering, hasTag, isOpen}
+use Rattle.srp.specs.Calls.{unless, isPlanned, planned, planChecks, planDef, kindOf, handing, advanced, nextIn, nextOf, wrapped, handOut, stepChecks, stepDef, finalOf, finalResponse, finishChecks, finishDef, addChecks, addDef, withdrawChecks, withdrawDef, grantChecks, grantDef}
+use Rattle.srp.specs.Answers.{refusalIn}
+use Rattle.machine.specs.Machine.{deltas, requests, Progress, Track, plannedFor, withOperation, given, Work, Machine, tracked, withWork, withTracks, Login}
+use Rattle.machine.specs.Actions.{Owners, byOwner, atFront, between}
+use Rattle.machine.specs.Events.{sending, delivered, delivering, planning, wholeOf, saidOf, Right, stepping, finishing, adding, withdrawing, granting}
+use Rattle.machine.specs.Demand.{Prefix}
+use Rattle.srp.specs.declared.Refusal.{Refusal}
+use Rattle.srp.specs.declared.Direction.{Direction}
+use Rattle.srp.specs.declared.Piece.{Piece}
+use Rattle.srp.specs.declared.Reply.the-variants.{Refused, Performed, Operation, Done}
+use Rattle.srp.proofs.Checks.{passes}
+use Rattle.srp.proofs.ListLaws.{length-change, without-map, change-map, all-without, all-find, all-change}
+use Rattle.srp.proofs.BothLaws.{of-each, alter-each, each-of, each-altered}
+use Rattle.machine.proofs.Tags.{distinct-without, distinct-change, one-goes}
+use Rattle.srp.proofs.CutLaws.{Lawful, next-at, take-more, some-below, none-above}
+use Rattle.srp.proofs.Pieces.{wrapped-same}
+use Rattle.machine.proofs.Deltas.{response-carries, request-carries}
+use Rattle.srp.proofs.Refusing.{unrefused, unless-iff}
+use Rattle.machine.proofs.Invariant.{sideIn, openIn, side-more, Reach, Sound, Follows, Ok, find-same, open-same, lacks, wanted-same, with-work, with-wire, with-wanted, Fine, Obeys, obeying, quiet, few, pays, responds}
+
+-- ── a command's own cuts
+
+module _ (T : Terms) (g : Progress) (c : Lawful (ruleOf T)) (q : Prefix T g) where
+  abbrev coming : Option Piece
+  coming = nextIn T (sideIn g)
+
+  -- what the port hands out next is the next of the command's own list
+  turn : getElem? (wholeOf T g) (length (g .operations)) ≡ coming
+  turn =
+      next-at (ruleOf T) 0 (min (g .required) (sumOf (g .segs))) (g .segs) (length (g .operations)) c
+      ∙ ap (λ (l : List Piece). next (ruleOf T) (bytesIn l) (min (g .required) (sumOf (g .segs))) (g .segs)) (sym q)
+
+  module _ (o : Piece) (e : coming ≡ some o) where
+    next-take : take (suc (length (g .operations))) (wholeOf T g) ≡ g .operations ++ (o ∷ [])
+    next-take = take-more (wholeOf T g) (length (g .operations)) o (turn ∙ e) ∙ ap (λ (l : List Piece). l ++ (o ∷ [])) (sym q)
+
+    next-prefix : Prefix T (withOperation o g)
+    next-prefix =
+        let n : length (g .operations ++ (o ∷ [])) ≡ suc (length (g .operations)) = omega (arith, length-append (g .operations) (o ∷ [])) in
+        rw n (sym next-take)
+
+    next-right : (d : Direction) → Right T d g (Operation (kindOf d) o)
+    next-right d =
+        record {
+          in-turn = sym (ap (saidOf d) (turn ∙ e));
+          done-iff = ((λ f. let z : _≡_ {A = ℕ} 0 1 = cc in absurd (omega arith)), λ f. absurd (omega (arith, ap length f, some-below (wholeOf T g) (length (g .operations)) o (turn ∙ e))));
+        }
+
+  last-right : (d : Direction) → coming ≡ none → Right T d g Done
+  last-right d e =
+      record {
+        in-turn = sym (ap (saidOf d) (turn ∙ e));
+        done-iff = (λ f. q ∙ take-all (length (g .operations)) (wholeOf T g) (none-above (wholeOf T g) (length (g .operations)) (turn ∙ e)), λ f. refl);
+      }
+
+-- the port's command moves on as the machine's does
+moves : (d : Direction) (o : Piece) (t : Track) → advanced d (o .len) (openIn t) ≡ openIn (given d o t)
+moves d o t = ap (withSides t (t .planned)) (alter-each d sideIn (t .sides) (handing (o .len)) (withOperation o) (side-more (of d (t .sides)) o))
+
+sound-given : (T : Terms) (d : Direction) (o : Piece) (t : Track) → Sound T t → t .planned ≡ true → Prefix T (withOperation o (of d (t .sides))) → Sound T (given d o t)
+sound-given T d o t s e q =
+    record {
+      unplanned = λ f. absurd (true≢false (sym e ∙ f));
+      order = each-altered (Prefix T) d (t .sides) (withOperation o) (s .order) q;
+      reach = each-altered Reach d (t .sides) (withOperation o) (s .reach) (each-of Reach d (t .sides) (s .reach));
+    }
+
+-- before the plan nothing was handed out, so that the plan may state any lengths
+sound-plan : (T : Terms) (a b : ℕ) (t : Track) → Sound T t → t .planned ≡ false → Sound T (plannedFor a b t)
+sound-plan T a b t s e =
+    let u = s .unplanned e in
+    record { unplanned = λ q. absurd (true≢false q); order = (rw (u .0), rw (u .1)); reach = s .reach }
+
+-- ── sending and delivery
+
+requests-snoc : (ss : List (List ℕ)) (s : List ℕ) → requests (ss ++ (s ∷ [])) ≡ requests ss + cond (isRequest s) 1 0
+requests-snoc [] s = omega arith
+requests-snoc (x ∷ ss) s = omega (arith, requests-snoc ss s)
+
+affordable : (b : Bool) (l : ℕ) → (b ≡ true → 1 ≤ l) → cond b 1 0 ≤ l
+affordable true l a = a refl
+affordable false l a = omega arith
+
+-- an event without a call leaves the port, and what it does to the machine obeying the invariant
+without-call : {L : Login} {p : Port} (m : Machine) (A : Machine → Type 0) (f : Machine → Machine) → Ok L (f m) p → Obeys L m (between A f) (silent p Performed)
+without-call m A f o =
+    obeying m (between A f) (silent _ Performed) (quiet o Performed) refl
+    (λ r. ((λ g. absurd (unrefused Performed r refl g)), λ g. absurd (Option·none-ne-some r g))) tt
+
+module _ {L : Login} {m : Machine} {p : Port} (h : Ok L m p) where
+  pub send-obeys : (s : List ℕ) → sending s .allowed m → Obeys L m (sending s) (silent p Performed)
+  send-obeys s a =
+      without-call m _ _
+      (with-wire h (sending s .effect m Performed .wire) (p .announced) (p .unanswered)
+      (omega (arith, h .credit, requests-snoc (m .wire .toPort) s, affordable (isRequest s) (m .wire .limit) a)) (h .unanswered))
+
+  pub deliver-obeys : Obeys L m delivering (silent p Performed)
+  deliver-obeys = without-call m _ _ (go (m .wire .toInitiator) refl)
+    where
+      go : (q : List (List ℕ)) → m .wire .toInitiator ≡ q → Ok L (atFront q m (delivered m)) p
+      go [] e = h
+      go (s ∷ ss) e = with-wire h (delivered m s ss .wire) (p .announced) (p .unanswered) (omega (arith, h .credit, ap deltas e)) (h .unanswered)
+
+  -- ── the owner's calls
+
+  -- what an owner's call c does that is not refused
+  record Unrefused (c : Owners) (x : Outcome) : Type 0 where
+    fine : Fine L (c .effect m (x .reply)) false x
+    wrote : map typeOf (x .wrote) ≡ c .writes
+    answer : c .answer m (x .reply)
+
+  -- a call that its first check v refuses, and that otherwise comes to x
+  owned : (c : Owners) (v : Option Refusal) (x : Outcome) → v ≡ firstOf (c .checks m) → refusalIn (x .reply) ≡ none
+      → (v ≡ none → Unrefused c x) → Obeys L m (byOwner c) (unless v p x)
+  owned c none x e u f =
+      let g = f refl in
+      obeying m (byOwner c) x (rw u (g .fine)) (rw u (g .wrote)) (unless-iff p none _ x e u) (λ _. g .answer)
+  owned c (some r) x e u f =
+      obeying m (byOwner c) (silent p (Refused r)) (quiet h (Refused r)) refl (unless-iff p (some r) _ x e u) (λ z. absurd (Option·none-ne-some r (sym z)))
+
+  -- the invariant at other commands, with other counts of requests
+  recast : (cs : List Open) (w : Work) → Follows (L .terms) w cs → Ok L (withWork m w) (withHeld p (p .announced) cs)
+  recast cs w f = with-work h (p .announced) cs (m .wire .toPort) w (h .credit) f
+
+  -- the first command with the tag changes as g in the port and as g′ in the machine
+  changes : (tag : ℕ) (g : Open → Open) (g′ : Track → Track) → ((t : Track) → g′ t .request ≡ t .request)
+      → ((t : Track) → find (hasTag tag) (m .work .tracks) ≡ some t → g (openIn t) ≡ openIn (g′ t))
+      → ((t : Track) → find (hasTag tag) (m .work .tracks) ≡ some t → Sound (L .terms) t → Sound (L .terms) (g′ t))
+      → Ok L (withTracks m (change (hasTag tag) g′ (m .work .tracks))) (withHeld p (p .announced) (change (hasTag tag) g (p .held)))
+  changes tag g g′ same agree keep =
+      recast (change (hasTag tag) g (p .held)) (withTracks m (change (hasTag tag) g′ (m .work .tracks)) .work)
+      (record {
+        counts = omega (arith, h .work .counts, length-change (hasTag tag) g′ (m .work .tracks));
+        commands = rw (h .work .commands) (change-map openIn (hasTag tag) g g′ (m .work .tracks) agree);
+        sound = all-change (Sound (L .terms)) (hasTag tag) g′ (m .work .tracks) (h .work .sound) keep;
+        distinct = distinct-change (hasTag tag) g′ same (m .work .tracks) (h .work .distinct);
+      })
+
+  pub add-obeys : (k : ℕ) → Obeys L m (byOwner (adding L k)) (addDef p k)
+  add-obeys k =
+      owned (adding L k) (firstOf (addChecks p k)) _ (rw (h .live, wanted-same h)) refl λ z.
+      let c = passes (addChecks p k) z in
+      record {
+        fine = quiet (with-wanted h (p .wanted + k) (m .added + k) (m .withdrawn) (ltb-false 16 (p .wanted + k) (c .1 .1 .0)) (omega (arith, h .wanted))) Performed;
+        wrote = refl;
+        answer = tt;
+      }
+
+  pub withdraw-obeys : (k : ℕ) → Obeys L m (byOwner (withdrawing L k)) (withdrawDef p k)
+  withdraw-obeys k =
+      owned (withdrawing L k) (firstOf (withdrawChecks p k)) _ (rw (h .live, wanted-same h)) refl λ z.
+      let c = passes (withdrawChecks p k) z in
+      let e : p .wanted - k + (m .withdrawn + k) ≡ L .buffers + m .added = omega (arith, h .wanted, leb-false (p .wanted) k (c .1 .1 .0)) in
+      record { fine = quiet (with-wanted h (p .wanted - k) (m .added) (m .withdrawn + k) (omega (arith, h .small)) e) Performed; wrote = refl; answer = tt }
+
+  pub grant-obeys : (room : ℕ) → Obeys L m (byOwner (granting L room)) (grantDef p room)
+  grant-obeys room =
+      owned (granting L room) (firstOf (grantChecks p room)) _ (rw (h .live, h .unanswered, lacks h)) refl λ z.
+      let solnt = p .terms .crsolnt in
+      record {
+        fine = pays h true true Performed (creditRequest solnt) (request-carries solnt (due p) (few h)) (sym (or-true (m .wire .waiting)));
+        wrote = refl;
+        answer = tt;
+      }
+
+  pub finish-obeys : (room tag st : ℕ) (se : List ℕ) → Obeys L m (byOwner (finishing room tag st se)) (finishDef p room tag st se)
+  finish-obeys room tag st se =
+      owned (finishing room tag st se) (firstOf (finishChecks p room tag st se)) _ (rw (h .live, open-same h tag)) refl λ z.
+      let is-open = not-false (isOpen p tag) (passes (finishChecks p room tag st se) z .1 .1 .1 .0) in
+      let o = recast (p′ .held) w
+      (record {
+        counts = omega (arith, h .work .counts, one-goes tag (m .work .tracks) (h .work .distinct) (sym (open-same h tag) ∙ is-open));
+        commands = rw (h .work .commands) (without-map openIn (hasTag tag) (m .work .tracks));
+        sound = all-without (Sound (L .terms)) (hasTag tag) (m .work .tracks) (h .work .sound);
+        distinct = distinct-without (hasTag tag) (m .work .tracks) (h .work .distinct);
+      }) in
+      ends (find (hasTag tag) (p .held)) is-open o
+    where
+      p′ : Port
+      p′ = withHeld p (p .announced) (without (hasTag tag) (p .held))
+
+      w : Work
+      w = finishing room tag st se .effect m Performed .work
+
+      ends : (c : Option Open) → isSome c ≡ true → Ok L (withWork m w) p′ → Unrefused (finishing room tag st se) (answering p′ Performed (finalResponse c st se))
+      ends none e o = absurd (true≢false (sym e))
+      ends (some c) e o = record { fine = responds o Performed (finalResponse (some c) st se) (response-carries (finalOf c st se (due p′)) (few o)); wrote = refl; answer = tt }
+
+  -- the port's command is the machine's
+  found : (tag : ℕ) (t : Track) → tracked m tag ≡ some t → find (hasTag tag) (p .held) ≡ some (openIn t)
+  found tag t f = find-same h tag ∙ ap (Option·map openIn) f
+
+  plan-same : (tag : ℕ) → isPlanned (find (hasTag tag) (p .held)) ≡ isPlanned (tracked m tag)
+  plan-same tag = ap isPlanned (find-same h tag) ∙ by-case (tracked m tag)
+    where
+      by-case : (o : Option Track) → isPlanned (Option·map openIn o) ≡ isPlanned o
+      by-case none = refl
+      by-case (some t) = refl
+
+  pub plan-obeys : (tag a b : ℕ) → Obeys L m (byOwner (planning tag a b)) (planDef p tag a b)
+  plan-obeys tag a b =
+      owned (planning tag a b) (firstOf (planChecks p tag)) _ (rw (h .live, open-same h tag, plan-same tag)) refl λ z.
+      let c = passes (planChecks p tag) z in
+      record {
+        fine =
+            quiet
+            (changes tag (planned a b) (plannedFor a b) (λ t. refl) (λ t f. refl) (λ t f s. sound-plan (L .terms) a b t s (sym (ap isPlanned (found tag t f)) ∙ c .1 .1 .0)))
+            Performed;
+        wrote = refl;
+        answer = tt;
+      }
+
+  module _ (cut : Lawful (ruleOf (L .terms))) (tag : ℕ) (d : Direction) where
+    abbrev offered : Option Piece
+    offered = nextOf (p .terms) d (find (hasTag tag) (p .held))
+
+    module _ (t : Track) (f : tracked m tag ≡ some t) where
+      abbrev here : Progress
+      here = of d (t .sides)
+
+      -- a command's next piece, in the port and in the machine
+      next-of : (v : Option Piece) → offered ≡ v → nextIn (L .terms) (sideIn here) ≡ v
+      next-of v e =
+          sym (ap (nextIn (L .terms)) (of-each d sideIn (t .sides))) ∙ sym (ap (nextOf (L .terms) d) (found tag t f)) ∙ rw (h .terms) at e
+
+      sound-of : Sound (L .terms) t
+      sound-of = all-find (Sound (L .terms)) (hasTag tag) (m .work .tracks) t (h .work .sound) f
+
+      in-order : Prefix (L .terms) here
+      in-order = each-of (Prefix (L .terms)) d (t .sides) (sound-of .order)
+
+      -- its address is the segment's, and wraps nowhere
+      unwrapped : (o : Piece) → offered ≡ some o → wrapped o ≡ o
+      unwrapped o e =
+          wrapped-same (ruleOf (L .terms)) (bytesIn (here .operations)) (min (here .required) (sumOf (here .segs))) (here .segs) o
+          (each-of Reach d (t .sides) (sound-of .reach)) cut (next-of (some o) e)
+
+      one-more : (o : Piece) → offered ≡ some o → Prefix (L .terms) (withOperation (wrapped o) here)
+      one-more o e =
+          subst (λ (x : Piece). Prefix (L .terms) (withOperation x here)) (sym (unwrapped o e)) (next-prefix (L .terms) here cut in-order o (next-of (some o) e))
+
+      -- a step hands out the next of the command's own cuts, or says done when there is none
+      right : (v : Option Piece) → offered ≡ v → Right (L .terms) d here (handOut p tag d v .reply)
+      right none e = last-right (L .terms) here cut in-order d (next-of none e)
+      right (some o) e =
+          subst (λ (x : Piece). Right (L .terms) d here (Operation (kindOf d) x)) (sym (unwrapped o e))
+          (next-right (L .terms) here cut in-order o (next-of (some o) e) d)
+
+    hand-unrefused : (v : Option Piece) → refusalIn (handOut p tag d v .reply) ≡ none
+    hand-unrefused none = refl
+    hand-unrefused (some o) = refl
+
+    pub step-obeys : Obeys L m (byOwner (stepping L tag d)) (stepDef p tag d)
+    step-obeys =
+        owned (stepping L tag d) (firstOf (stepChecks p tag)) (handOut p tag d offered) (rw (h .live, open-same h tag, plan-same tag)) (hand-unrefused offered) λ z.
+        hands (passes (stepChecks p tag) z) offered refl
+      where
+        hands : All (λ c. c .0 ≡ false) (stepChecks p tag) → (v : Option Piece) → offered ≡ v → Unrefused (stepping L tag d) (handOut p tag d v)
+        hands c none e = record { fine = quiet h Done; wrote = refl; answer = λ t f. right t f none e }
+        hands c (some o) e =
+            record {
+              fine =
+                  quiet
+                  (changes tag (advanced d (o .len)) (given d (wrapped o)) (λ t. refl) (λ t f. moves d (wrapped o) t) (λ t f s.
+                  sound-given (L .terms) d (wrapped o) t s (sym (ap isPlanned (found tag t f)) ∙ not-false _ (c .1 .1 .0)) (one-more t f o e)))
+                  (Operation (kindOf d) (wrapped o));
+              wrote = refl;
+              answer = λ t f. right t f (some o) e;
+            }

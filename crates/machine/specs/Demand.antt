@@ -1,0 +1,121 @@
+-- Demand 3, of lists of events: what holds at the start and after every event, and of each event with its call's reply and message. The customer's
+-- words stand beside each part. The theorem is proofs/Demand.antt.
+use mathlib.Core.Path.{_≡_}
+use mathlib.Core.Logic.{_↔_}
+use mathlib.Core.Bool.{Bool, true, false, _||_}
+use mathlib.Core.List.{List, [], _∷_, map}
+use mathlib.Core.Option.{some}
+use Prim.Native.Nat.{ℕ, _+_}
+use lib.IntN.{ℤ, pos, subℕ, _+ℤ_}
+use lib.ListN.{length, take}
+use Rattle.srp.specs.Limits.{mostBuffers}
+use Rattle.srp.specs.Bytes.{typeOf}
+use Rattle.srp.specs.Refusals.{firstOf}
+use Rattle.srp.specs.Lists.{find, All, isSome}
+use Rattle.srp.specs.Both.{Each}
+use Rattle.srp.specs.Credit.{Port, owed}
+use Rattle.srp.specs.declared.Terms.{Terms}
+use Rattle.srp.specs.Take.{hasTag}
+use Rattle.srp.specs.Calls.{listing, listDef, countersDef}
+use Rattle.srp.specs.declared.Refusal.{Refusal}
+use Rattle.srp.specs.declared.Reply.{Reply}
+use Rattle.srp.specs.declared.Reply.the-variants.{Refused, Counts, Listed}
+use Rattle.srp.specs.declared.Counters.{Counters}
+use Rattle.machine.specs.Machine.{isResponse, isCreditRequest, deltaOf, deltas, Progress, Track, shownAs, Machine, requestsHeld, four, lack, unused, wantedBy, join, Login}
+use Rattle.machine.specs.Actions.{Action}
+use Rattle.machine.specs.Events.{wholeOf, Event, actionOf, after, closes}
+
+-- what holds until the channel closes: "Closing ends the list"
+abbrev pub Until : Bool → Type 0 → Type 0
+Until true X = Unit {0}
+Until false X = X
+
+-- ── of a track
+
+-- no command of these has the tag; no two have one tag
+abbrev pub Absent : ℕ → List Track → Type 0
+Absent tag ts = isSome (find (hasTag tag) ts) ≡ false
+
+abbrev pub Distinct : List Track → Type 0
+Distinct [] = Unit {0}
+Distinct (t ∷ ts) = Absent (t .request .tag) ts × Distinct ts
+
+-- "Each command's operations in a direction are, in order, the first of those"
+abbrev pub Prefix : Terms → Progress → Type 0
+Prefix T g = g .operations ≡ take (length (g .operations)) (wholeOf T g)
+
+abbrev pub InOrder : Terms → Track → Type 0
+InOrder T t = Each (Prefix T) (t .sides)
+
+module _ (L : Login) where
+  -- "limit + requests on the way + requests held + deltas on the way + owed = N + added - withdrawn", in the integers
+  abbrev pub Sum : Machine → ℤ → Type 0
+  Sum m d = pos (four m) +ℤ d ≡ subℕ (L .buffers + m .added) (m .withdrawn)
+
+  -- "Each response or credit request that is written lifts the first four together by exactly what they lack of the right side, by 0 if
+  -- nothing"; m is the machine after the call's endings, ss what the call wrote
+  abbrev pub ByLack : Machine → List ℕ → Type 0
+  ByLack m s = (isResponse s || isCreditRequest s) ≡ true → deltaOf s ≡ lack (L .buffers) m
+
+  -- `by-lack` asks it of the port; `rises` says that the four do rise by the deltas written
+  pub record Lift (m : Machine) (ss : List (List ℕ)) : Type 0 where
+    pub by-lack : All (ByLack m) ss
+    pub rises : four (join m ss) ≡ four m + deltas ss
+
+  -- what the owner reads: W, A and H as the machine has counted them, and D
+  abbrev pub counted : Machine → ℤ → Counters
+  counted m d = record { wanted = wantedBy (L .buffers) m; announced = unused m; held = requestsHeld m; owed = d }
+
+  -- what holds at the start and after every event, while the channel is open. "Owed is the D that the port reports"; "Requests held = taken -
+  -- ended = commands open; H says so, and as many are listed after each call"
+  pub record Now (m : Machine) (p : Port) : Type 0 where
+    pub sum : Sum m (owed p)
+    pub reports : countersDef p .reply ≡ Counts (counted m (owed p))
+    pub commands : m .work .taken ≡ m .work .ended + length (m .work .tracks)
+    pub lists : listDef p mostBuffers .reply ≡ Listed (requestsHeld m)
+    pub listed : listing p ≡ map shownAs (m .work .tracks)
+    pub distinct : Distinct (m .work .tracks)
+    pub in-order : All (InOrder (L .terms)) (m .work .tracks)
+
+  -- what holds of an event whose call gave the reply r and wrote ss
+  pub record Then (m : Machine) (a : Action) (r : Reply) (ss : List (List ℕ)) : Type 0 where
+    pub lift : Lift (a .effect m r) ss
+    -- so a finished command, a task and refusal 10 have their response, a grant its request, and the channel closes just where document 01 has it
+    pub wrote : map typeOf ss ≡ a .writes m r
+    -- "Calls are refused just where document 01 has it"
+    pub refuses : (f : Refusal) → (r ≡ Refused f) ↔ (firstOf (a .checks m) ≡ some f)
+    pub answer : a .answer m r
+
+  -- S is what the code keeps of a port, and Call s m e r ss s′ says that the event's call, made on s, gave r, wrote ss and left s′
+  module _ {S : Type 0} (view : S → Port) (Call : S → Machine → Event → Reply → List (List ℕ) → S → Type 0) where
+    -- an event's call on s: its reply, what it wrote and what it left, and how the list goes on from there
+    pub record Going (s : S) (m : Machine) (e : Event) (Rest : S → Machine → Type 0) : Type 0 where
+      pub reply : Reply
+      pub wrote : List (List ℕ)
+      pub left : S
+      pub made : Call s m e reply wrote left
+      pub rest : Rest left (after L m e reply wrote)
+
+    -- "Each call gets the port that the last one returned, refused or not"
+    abbrev pub Run : S → Machine → List Event → Type 0
+    Run s m [] = Unit {0}
+    Run s m (e ∷ es) = Going s m e (λ s′ m′. Run s′ m′ es)
+
+    abbrev pub Fair : (s : S) (m : Machine) (es : List Event) → Run s m es → Type 0
+    Fair s m [] run = Unit {0}
+    Fair s m (e ∷ es) run =
+        actionOf L e .allowed m
+        × Until (closes L m e (run .reply) (run .wrote)) (Fair (run .left) (after L m e (run .reply) (run .wrote)) es (run .rest))
+
+    -- demand 3, "claimed once, of the whole list"
+    abbrev pub Demand : (s : S) (m : Machine) (es : List Event) → Run s m es → Type 0
+    Demand s m [] run = Now m (view s)
+    Demand s m (e ∷ es) run =
+        Now m (view s)
+        × Then m (actionOf L e) (run .reply) (run .wrote)
+        × Until (closes L m e (run .reply) (run .wrote)) (Demand (run .left) (after L m e (run .reply) (run .wrote)) es (run .rest))
+
+    -- each call is equal to its definition
+    abbrev pub Meets : Type 0
+    Meets = (s : S) (m : Machine) (e : Event) (r : Reply) (ss : List (List ℕ)) (s′ : S)
+        → Call s m e r ss s′ → actionOf L e .call (view s) m ≡ record { reply = r; port = view s′; wrote = ss }

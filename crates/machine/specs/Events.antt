@@ -1,0 +1,253 @@
+-- Document 01, "Credit": the events of demand 3, each in one definition (specs/Actions.antt has what an event is).
+use mathlib.Core.Path.{_≡_}
+use mathlib.Core.Logic.{_↔_}
+use mathlib.Core.Bool.{Bool, true, false, cond, not, _&&_, _||_}
+use mathlib.Core.List.{List, [], _∷_, _++_}
+use mathlib.Core.Option.{Option, none, some}
+use Prim.Native.Nat.{ℕ, _+_, _-_, _≤_}
+use lib.Dec.{eqb, ltb, leb}
+use lib.ListN.{length, getElem?}
+use Rattle.srp.specs.Limits.{mostBuffers, creditTag}
+use Rattle.srp.specs.Messages.{rsp, credReq, tLogout}
+use Rattle.srp.specs.Refusals.{Conduct, hangsUp, answered, stays, altersNothing, conductOf, Check, short}
+use Rattle.srp.specs.Lists.{change, without, isSome}
+use Rattle.srp.specs.Both.{of}
+use Rattle.srp.specs.Requests.{isRequest}
+use Rattle.srp.specs.Cutting.{cuts}
+use Rattle.srp.specs.Credit.{ruleOf}
+use Rattle.srp.specs.declared.Terms.{Terms}
+use Rattle.srp.specs.Take.{silent, hasTag, Tables, tablesFit, fieldsFit, aborted, takeDef}
+use Rattle.srp.specs.Calls.{isPlanned, kindOf, badSense, planDef, stepDef, finishDef, addDef, withdrawDef, grantDef}
+use Rattle.srp.specs.Answers.{refusalIn, operationIn}
+use Rattle.machine.specs.Actions.{Action, always, anything, atFront, between, Owners, byOwner}
+use Rattle.machine.specs.Machine.{deltaOf, Progress, Track, newTrack, plannedFor, given, Machine, lack, unused, wantedBy, tracked, withWire, withWork, withBuffers, withQueue, withTracks, tookRequest, saysLogout, join, Login, read}
+use Rattle.srp.specs.declared.Refusal.{Refusal}
+use Rattle.srp.specs.declared.Refusal.the-variants.{TableLength, Fields, Argument, NoCredit, TagOpen, TagNotOpen, CreditResponse, Unanswered, NotOwed, Wanted, Unplanned, Planned}
+use Rattle.srp.specs.declared.Direction.{Direction}
+use Rattle.srp.specs.declared.Piece.{Piece}
+use Rattle.srp.specs.declared.Message.{Message}
+use Rattle.srp.specs.declared.Message.the-variants.{Bad, Cmd, TskMgmt, CredRsp, ILogout}
+use Rattle.srp.specs.declared.Reply.{Reply}
+use Rattle.srp.specs.declared.Reply.the-variants.{Refused, Performed, Operation, Done}
+
+-- ── send, delivery
+
+-- "a message of any content joins the queue to the port. A request, known by its type byte, takes 1 off the limit".
+-- "Let the initiator send a request only with a limit of at least 1". That it answers each credit request at most once is not needed: an
+-- answer too many draws 25 and closes the channel, which ends the list
+abbrev pub sending : List ℕ → Action
+sending s =
+    between (λ m. isRequest s ≡ true → 1 ≤ m .wire .limit) λ m.
+    withWire m
+    (record {
+      limit = m .wire .limit - cond (isRequest s) 1 0;
+      toPort = m .wire .toPort ++ (s ∷ []);
+      toInitiator = m .wire .toInitiator;
+      waiting = m .wire .waiting;
+    })
+
+-- "Delivery takes off its front; the limit rises by its delta, if any"
+abbrev pub delivered : Machine → List ℕ → List (List ℕ) → Machine
+delivered m s ss =
+    withWire m (record { limit = m .wire .limit + deltaOf s; toPort = m .wire .toPort; toInitiator = ss; waiting = m .wire .waiting })
+
+abbrev pub delivering : Action
+delivering = between always λ m. atFront (m .wire .toInitiator) m (delivered m)
+
+-- ── take
+
+-- a message as it is read: its checks behind 1; and if it draws none, the machine after it, the types of what is written for it, and whether it
+-- closes the channel
+pub record Reading : Type 0 where
+  pub checks : Machine → List Check
+  pub effect : Machine → Machine
+  pub writes : List ℕ
+  pub closes : Bool
+
+abbrev pub reading : List ℕ → Tables → Message → Reading
+reading s t (Bad r) = record { checks = λ m. (true, r) ∷ []; effect = λ m. m; writes = []; closes = false }
+-- "A command taken is open until it ends"
+reading s t (Cmd c) =
+    record {
+      checks = λ m.
+          (eqb (unused m) 0, NoCredit)
+          ∷ (isSome (tracked m (c .request .tag)), TagOpen)
+          ∷ (not (tablesFit c t), TableLength)
+          ∷ (not (fieldsFit c s t), Fields)
+          ∷ [];
+      effect = λ m. withWork m (tookRequest (m .work) (m .work .tracks ++ (newTrack c s t ∷ [])) 0);
+      writes = [];
+      closes = false;
+    }
+-- "A task request ends in the same call, as do the open commands that it aborts"
+reading s t (TskMgmt k) =
+    record {
+      checks = λ m. (eqb (unused m) 0, NoCredit) ∷ (isSome (tracked m (k .request .tag)), TagOpen) ∷ [];
+      effect = λ m.
+          let left : List Track = without (aborted k) (m .work .tracks) in
+          withWork m (tookRequest (m .work) left (1 + (length (m .work .tracks) - length left)));
+      writes = rsp .code ∷ [];
+      closes = false;
+    }
+reading s t (CredRsp g) =
+    record {
+      checks = λ m. (not (m .wire .waiting && eqb g creditTag), CreditResponse) ∷ [];
+      effect = λ m.
+          withWire m (record { limit = m .wire .limit; toPort = m .wire .toPort; toInitiator = m .wire .toInitiator; waiting = false });
+      writes = [];
+      closes = false;
+    }
+reading s t ILogout = record { checks = λ m. []; effect = λ m. withTracks m []; writes = []; closes = true }
+
+-- a refusal: "On refusals 1 and 9 the message stays there, else it leaves"; "any command that draws 10" was taken, and has ended
+abbrev pub afterRefusal : Conduct → Machine → List (List ℕ) → Machine
+afterRefusal (hangsUp reason) m queue = withQueue m queue
+afterRefusal answered m queue = withWork (withQueue m queue) (tookRequest (m .work) (m .work .tracks) 1)
+afterRefusal stays m queue = m
+afterRefusal altersNothing m queue = withQueue m queue
+
+abbrev pub refusalWrites : Conduct → List ℕ
+refusalWrites (hangsUp reason) = tLogout .code ∷ []
+refusalWrites answered = rsp .code ∷ []
+refusalWrites stays = []
+refusalWrites altersNothing = []
+
+-- take of the queue's front s, read as d, where ss is the rest of the queue
+module _ (s : List ℕ) (ss : List (List ℕ)) (t : Tables) (d : Message) where
+  abbrev pub frontEffect : Machine → Option Refusal → Machine
+  frontEffect m none = reading s t d .effect (withQueue m ss)
+  frontEffect m (some f) = afterRefusal (conductOf f) m ss
+
+  abbrev pub frontWrites : Option Refusal → List ℕ
+  frontWrites none = reading s t d .writes
+  frontWrites (some f) = refusalWrites (conductOf f)
+
+  abbrev pub frontCloses : Option Refusal → Bool
+  frontCloses none = reading s t d .closes
+  frontCloses (some f) = false
+
+-- "Take gets that queue's front, with any tables". "Calls are refused just where document 01 has it, no request of that initiator for credit"
+abbrev pub taking : Login → ℕ → Tables → Action
+taking L room t =
+    record {
+      allowed = always;
+      call = λ p m. atFront (m .wire .toPort) (silent p Performed) (λ s ss. takeDef p room s t);
+      checks = λ m. atFront (m .wire .toPort) [] (λ s ss. short room ∷ reading s t (read L s) .checks m);
+      effect = λ m r. atFront (m .wire .toPort) m (λ s ss. frontEffect s ss t (read L s) m (refusalIn r));
+      writes = λ m r. atFront (m .wire .toPort) [] (λ s ss. frontWrites s ss t (read L s) (refusalIn r));
+      closes = λ m r. atFront (m .wire .toPort) false (λ s ss. frontCloses s ss t (read L s) (refusalIn r));
+      answer = λ m r. r ≡ Refused NoCredit → ⊥;
+    }
+
+-- ── the owner's calls
+
+abbrev pub planning : ℕ → ℕ → ℕ → Owners
+planning tag out inn =
+    record {
+      call = λ p. planDef p tag out inn;
+      checks = λ m. (not (isSome (tracked m tag)), TagNotOpen) ∷ (isPlanned (tracked m tag), Planned) ∷ [];
+      effect = λ m r. withTracks m (change (hasTag tag) (plannedFor out inn) (m .work .tracks));
+      writes = [];
+      answer = anything;
+    }
+
+-- "those that document 01 cuts from its own segments"
+abbrev pub wholeOf : Terms → Progress → List Piece
+wholeOf T g = cuts (ruleOf T) (g .required) (g .segs)
+
+-- what a step says of the piece whose turn it is
+abbrev pub saidOf : Direction → Option Piece → Reply
+saidOf d none = Done
+saidOf d (some o) = Operation (kindOf d) o
+
+-- an unrefused step's reply r is the next of them, in its direction's kind; and it "says done exactly when all those of its command and
+-- direction were handed out before it"
+pub record Right (T : Terms) (d : Direction) (g : Progress) (r : Reply) : Type 0 where
+  pub in-turn : r ≡ saidOf d (getElem? (wholeOf T g) (length (g .operations)))
+  pub done-iff : (r ≡ Done) ↔ (g .operations ≡ wholeOf T g)
+
+abbrev pub stepping : Login → ℕ → Direction → Owners
+stepping L tag d =
+    record {
+      call = λ p. stepDef p tag d;
+      checks = λ m. (not (isSome (tracked m tag)), TagNotOpen) ∷ (not (isPlanned (tracked m tag)), Unplanned) ∷ [];
+      effect = λ m r. elim (operationIn r) [ none ↦ m | some o ↦ withTracks m (change (hasTag tag) (given d o) (m .work .tracks)) ];
+      writes = [];
+      answer = λ m r. (t : Track) → tracked m tag ≡ some t → Right (L .terms) d (of d (t .sides)) r;
+    }
+
+-- "Unrefused, finish ends its command"
+abbrev pub finishing : ℕ → ℕ → ℕ → List ℕ → Owners
+finishing room tag status sense =
+    record {
+      call = λ p. finishDef p room tag status sense;
+      checks = λ m. short room ∷ (badSense status sense, Argument) ∷ (not (isSome (tracked m tag)), TagNotOpen) ∷ [];
+      effect = λ m r.
+          withWork m (record { tracks = without (hasTag tag) (m .work .tracks); taken = m .work .taken; ended = m .work .ended + 1 });
+      writes = rsp .code ∷ [];
+      answer = anything;
+    }
+
+-- "add k gives added + k"
+abbrev pub adding : Login → ℕ → Owners
+adding L k =
+    record {
+      call = λ p. addDef p k;
+      checks = λ m. (eqb k 0, Argument) ∷ (ltb mostBuffers (wantedBy (L .buffers) m + k), Wanted) ∷ [];
+      effect = λ m r. withBuffers m (m .added + k) (m .withdrawn);
+      writes = [];
+      answer = anything;
+    }
+
+-- "withdraw k withdrawn + k"
+abbrev pub withdrawing : Login → ℕ → Owners
+withdrawing L k =
+    record {
+      call = λ p. withdrawDef p k;
+      checks = λ m. (eqb k 0, Argument) ∷ (leb (wantedBy (L .buffers) m) k, Wanted) ∷ [];
+      effect = λ m r. withBuffers m (m .added) (m .withdrawn + k);
+      writes = [];
+      answer = anything;
+    }
+
+abbrev pub granting : Login → ℕ → Owners
+granting L room =
+    record {
+      call = λ p. grantDef p room;
+      checks = λ m. short room ∷ (m .wire .waiting, Unanswered) ∷ (eqb (lack (L .buffers) m) 0, NotOwed) ∷ [];
+      effect = λ m r. m;
+      writes = credReq .code ∷ [];
+      answer = anything;
+    }
+
+-- ── all of them
+
+pub data Event : Type 0 where
+  sends : List ℕ → Event
+  delivers : Event
+  takes : (room : ℕ) → Tables → Event
+  plans : (tag out inn : ℕ) → Event
+  steps : (tag : ℕ) → Direction → Event
+  finishes : (room tag status : ℕ) (sense : List ℕ) → Event
+  adds : ℕ → Event
+  withdraws : ℕ → Event
+  grants : (room : ℕ) → Event
+
+abbrev pub actionOf : Login → Event → Action
+actionOf L (sends s) = sending s
+actionOf L delivers = delivering
+actionOf L (takes room t) = taking L room t
+actionOf L (plans tag out inn) = byOwner (planning tag out inn)
+actionOf L (steps tag d) = byOwner (stepping L tag d)
+actionOf L (finishes room tag status sense) = byOwner (finishing room tag status sense)
+actionOf L (adds k) = byOwner (adding L k)
+actionOf L (withdraws k) = byOwner (withdrawing L k)
+actionOf L (grants room) = byOwner (granting L room)
+
+-- the machine after an event whose call gave the reply r and wrote ss
+abbrev pub after : Login → Machine → Event → Reply → List (List ℕ) → Machine
+after L m e r ss = join (actionOf L e .effect m r) ss
+
+-- "Closing ends the list"
+abbrev pub closes : Login → Machine → Event → Reply → List (List ℕ) → Bool
+closes L m e r ss = actionOf L e .closes m r || saysLogout ss

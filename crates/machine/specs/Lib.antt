@@ -1,0 +1,4 @@
+pub mod Machine
+pub mod Actions
+pub mod Events
+pub mod Demand

@@ -1,0 +1,195 @@
+-- Document 01, "Credit", from "The two-ended machine" on: the initiator, two queues and the port, fed the events' arguments, the calls' replies
+-- and the messages written, as bytes. Of the port's state the machine is given nothing here, and D alone where specs/Demand.antt states the sum.
+-- What each event does to it is specs/Events.antt.
+use mathlib.Core.Bool.{Bool, true, false, cond, _||_}
+use mathlib.Core.List.{List, [], _∷_, _++_}
+use mathlib.Core.Option.{Option}
+use Prim.Native.Nat.{ℕ, _+_, _-_}
+use lib.Dec.{eqb}
+use Rattle.srp.specs.Bytes.{get, typeOf}
+use Rattle.srp.specs.Messages.{delta, rsp, credReq, tLogout}
+use Rattle.srp.specs.Lists.{find}
+use Rattle.srp.specs.Both.{alter, along}
+use Rattle.srp.specs.Descriptors.{Segment}
+use Rattle.srp.specs.Requests.{isRequest, readMessage}
+use Rattle.srp.specs.Cutting.{bytesIn}
+use Rattle.srp.specs.Credit.{Held, withSides}
+use Rattle.srp.specs.declared.Terms.{Terms}
+use Rattle.srp.specs.Take.{hasTag, Tables, newlyHeld}
+use Rattle.srp.specs.Login.{termsOf}
+use Rattle.srp.specs.declared.Settings.{Settings}
+use Rattle.srp.specs.declared.Direction.{Direction}
+use Rattle.srp.specs.declared.Piece.{Piece}
+use Rattle.srp.specs.declared.Command.{Command}
+use Rattle.srp.specs.declared.Message.{Message}
+use Rattle.srp.specs.declared.Record.{Record}
+
+-- ── what the initiator reads of a message from the port
+
+abbrev pub isResponse : List ℕ → Bool
+isResponse s = eqb (typeOf s) (rsp .code)
+
+abbrev pub isCreditRequest : List ℕ → Bool
+isCreditRequest s = eqb (typeOf s) (credReq .code)
+
+abbrev pub isTargetLogout : List ℕ → Bool
+isTargetLogout s = eqb (typeOf s) (tLogout .code)
+
+-- "the limit rises by its delta, if any"
+abbrev pub deltaOf : List ℕ → ℕ
+deltaOf s = cond (isResponse s || isCreditRequest s) (get delta s) 0
+
+-- "deltas summed"
+abbrev pub deltas : List (List ℕ) → ℕ
+deltas [] = 0
+deltas (s ∷ ss) = deltaOf s + deltas ss
+
+-- "A request, known by its type byte"
+abbrev pub requests : List (List ℕ) → ℕ
+requests [] = 0
+requests (s ∷ ss) = cond (isRequest s) 1 0 + requests ss
+
+-- ── a command that was taken and has not ended
+
+-- one direction: its segments, R, and the operations handed out so far
+pub record Progress : Type 0 where
+  pub segs : List Segment
+  pub required : ℕ
+  pub operations : List Piece
+
+-- the request is followed whole so that the port's command can be told from this record alone
+abbrev pub Track : Type 0
+Track = Held Progress
+
+abbrev pub fresh : List Segment → Progress
+fresh ss = record { segs = ss; required = 0; operations = [] }
+
+-- "its segments those of its message or the tables lent for it"
+abbrev pub newTrack : Command → List ℕ → Tables → Track
+newTrack c s t = newlyHeld fresh c s t
+
+abbrev pub needing : ℕ → Progress → Progress
+needing r g = record { segs = g .segs; required = r; operations = g .operations }
+
+abbrev pub plannedFor : ℕ → ℕ → Track → Track
+plannedFor out inn t = withSides t true (along needing (record { out = out; inn = inn }) (t .sides))
+
+abbrev pub withOperation : Piece → Progress → Progress
+withOperation o g = record { segs = g .segs; required = g .required; operations = g .operations ++ (o ∷ []) }
+
+abbrev pub given : Direction → Piece → Track → Track
+given d o t = withSides t (t .planned) (alter d (withOperation o) (t .sides))
+
+-- the listing's record of it
+abbrev pub shownAs : Track → Record
+shownAs t =
+    record { tag = t .request .tag; lun = t .request .lun; out = bytesIn (t .sides .out .operations); inn = bytesIn (t .sides .inn .operations) }
+
+-- ── the machine
+
+-- the initiator's limit, the queues each way, and whether a credit request is unanswered
+pub record Wire : Type 0 where
+  pub limit : ℕ
+  pub toPort : List (List ℕ)
+  pub toInitiator : List (List ℕ)
+  pub waiting : Bool
+
+-- the open commands, and how many requests were taken and ended
+pub record Work : Type 0 where
+  pub tracks : List Track
+  pub taken : ℕ
+  pub ended : ℕ
+
+pub record Machine : Type 0 where
+  pub wire : Wire
+  pub work : Work
+  pub added : ℕ
+  pub withdrawn : ℕ
+
+-- "limit N, no command open, added = withdrawn = 0, two empty queues"
+abbrev pub start : ℕ → Machine
+start n =
+    record {
+      wire = record { limit = n; toPort = []; toInitiator = []; waiting = false };
+      work = record { tracks = []; taken = 0; ended = 0 };
+      added = 0;
+      withdrawn = 0;
+    }
+
+-- "Requests held = taken - ended"
+abbrev pub requestsHeld : Machine → ℕ
+requestsHeld m = m .work .taken - m .work .ended
+
+-- "limit + requests on the way + requests held + deltas on the way"
+abbrev pub four : Machine → ℕ
+four m = m .wire .limit + requests (m .wire .toPort) + requestsHeld m + deltas (m .wire .toInitiator)
+
+-- what the first four lack of the right side, 0 if nothing
+abbrev pub lack : ℕ → Machine → ℕ
+lack N m = N + m .added - (m .withdrawn + four m)
+
+-- A and W, by the machine's counts
+abbrev pub unused : Machine → ℕ
+unused m = m .wire .limit + requests (m .wire .toPort) + deltas (m .wire .toInitiator)
+
+abbrev pub wantedBy : ℕ → Machine → ℕ
+wantedBy N m = N + m .added - m .withdrawn
+
+-- the open command with the tag
+abbrev pub tracked : Machine → ℕ → Option Track
+tracked m tag = find (hasTag tag) (m .work .tracks)
+
+-- ── the machine with other parts
+
+abbrev pub withWire : Machine → Wire → Machine
+withWire m w = record { wire = w; work = m .work; added = m .added; withdrawn = m .withdrawn }
+
+abbrev pub withWork : Machine → Work → Machine
+withWork m w = record { wire = m .wire; work = w; added = m .added; withdrawn = m .withdrawn }
+
+abbrev pub withBuffers : Machine → ℕ → ℕ → Machine
+withBuffers m added withdrawn = record { wire = m .wire; work = m .work; added = added; withdrawn = withdrawn }
+
+-- another queue to the port
+abbrev pub withQueue : Machine → List (List ℕ) → Machine
+withQueue m queue =
+    withWire m (record { limit = m .wire .limit; toPort = queue; toInitiator = m .wire .toInitiator; waiting = m .wire .waiting })
+
+-- other open commands, and as many requests taken and ended as before
+abbrev pub withTracks : Machine → List Track → Machine
+withTracks m ts = withWork m (record { tracks = ts; taken = m .work .taken; ended = m .work .ended })
+
+-- a request more was taken, and n ended
+abbrev pub tookRequest : Work → List Track → ℕ → Work
+tookRequest w ts n = record { tracks = ts; taken = w .taken + 1; ended = w .ended + n }
+
+-- "Each message written joins the queue to the initiator"
+abbrev pub joined : Machine → List ℕ → Machine
+joined m s =
+    withWire m
+    (record {
+      limit = m .wire .limit;
+      toPort = m .wire .toPort;
+      toInitiator = m .wire .toInitiator ++ (s ∷ []);
+      waiting = m .wire .waiting || isCreditRequest s;
+    })
+
+abbrev pub join : Machine → List (List ℕ) → Machine
+join m [] = m
+join m (s ∷ ss) = join (joined m s) ss
+
+-- a target's logout is among them
+abbrev pub saysLogout : List (List ℕ) → Bool
+saysLogout [] = false
+saysLogout (s ∷ ss) = isTargetLogout s || saysLogout ss
+
+-- what an accepted login left: N, and what it settled
+pub record Login : Type 0 where
+  pub buffers : ℕ
+  pub terms : Terms
+
+abbrev pub loginOf : Settings → List ℕ → Login
+loginOf c s = record { buffers = c .buffers; terms = termsOf c s }
+
+abbrev pub read : Login → List ℕ → Message
+read L s = readMessage (L .terms .agreed) (L .terms .formats) s
