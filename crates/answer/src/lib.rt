@@ -5,12 +5,12 @@ use srp::Kind;
 use srp::Piece;
 use srp::Refusal;
 use srp::Reply;
+use wire::layout::CDB;
 ghost use mathlib.Core.Path.{_≡_};
 ghost use Prim.Native.Nat.{ℕ};
-ghost use Rattle.srp.specs.Refusals.{numberOf, reasonOf};
-ghost use Rattle.srp.specs.Writing;
+ghost use Rattle.srp.specs.Refusals.{numberOf, conductOf, reasonIn};
 ghost use Rattle.srp.specs.Answers.{refusing, kindNumber};
-ghost use Rattle.srp.specs.declared.Reply.the-variants.{Operation, Counts};
+ghost use Rattle.srp.specs.declared.Reply.the-variants.{NewCommand, Operation, Counts};
 ghost use Rattle.answer.specs.Words.{answerWords};
 
 // The kind of message taken, in take's answer.
@@ -21,9 +21,6 @@ const TASK: u64 = 2;
 const CREDIT_RESPONSE: u64 = 3;
 
 const LOGOUT: u64 = 4;
-
-// the CDB's place in a command
-const CDB: u64 = 32;
 
 const ALL_BITS: u64 = 18446744073709551615;
 
@@ -58,23 +55,15 @@ pub fn number_of(refusal: Refusal) -> u32
 
 // The reason in the SRP_T_LOGOUT of a hang-up.
 pub fn reason_of(r: Refusal) -> u32
-    ensures { λ n. ⌜ n ≡ reasonOf (numberOf r) ⌝ }
+    ensures { λ n. ⌜ n ≡ reasonIn (conductOf r) ⌝ }
 {
-    let n = number_of(r);
-    if n < 5 {
-        return 0;
+    match r {
+        Refusal::OutFormat => 6,
+        Refusal::InFormat => 7,
+        Refusal::OutCount => 8,
+        Refusal::InCount => 9,
+        _ => 0,
     }
-    if 8 < n {
-        return 0;
-    }
-    n + 1
-}
-
-// SOLNT of a response, by its status or its RSP_CODE.
-pub fn solicited(ucsolnt: bool, scsolnt: bool, code: u8) -> bool
-    ensures { λ b. ⌜ b ≡ Writing.solicited ucsolnt scsolnt code ⌝ }
-{
-    if code == 0 { scsolnt } else { ucsolnt }
 }
 
 // A refusal without a message.
@@ -98,7 +87,7 @@ pub fn returned(reply: Reply) -> u32
 }
 
 // A number as 64 bits, a negative one in two's complement.
-fn word(d: i64) -> u64
+pub fn word(d: i64) -> u64
     ensures { λ r. ⌜ r ≡ Rattle.answer.specs.Words.word d ⌝ }
 {
     if d < 0 {
@@ -117,7 +106,7 @@ fn kind_number(k: Kind) -> u64
     }
 }
 
-// Those of an operation.
+// The eight words that a call from C answers: those of an operation.
 pub fn operation_words(k: Kind, p: Piece) -> [u64; 8]
     ensures { λ r. ⌜ ((wrote : ℕ) → r ≡ answerWords (record { reply = Operation k p; wrote = wrote })) ⌝ }
 {
@@ -133,7 +122,8 @@ pub fn operation_words(k: Kind, p: Piece) -> [u64; 8]
     ]
 }
 
-fn counter_words(c: Counters) -> [u64; 8]
+// Those of the counters.
+pub fn counter_words(c: Counters) -> [u64; 8]
     ensures { λ r. ⌜ ((wrote : ℕ) → r ≡ answerWords (record { reply = Counts c; wrote = wrote })) ⌝ }
 {
     [
@@ -148,7 +138,23 @@ fn counter_words(c: Counters) -> [u64; 8]
     ]
 }
 
-// The eight words that a call from C answers.
+// Those of a command.
+pub fn command_words(wrote: usize, tag: u64, lun: u64, cdb: usize) -> [u64; 8]
+    ensures { λ r. ⌜ r ≡ answerWords (record { reply = NewCommand tag lun cdb; wrote = wrote }) ⌝ }
+{
+    [
+        wrote as u64,
+        COMMAND,
+        tag,
+        lun,
+        CDB as u64,
+        cdb as u64,
+        0,
+        0,
+    ]
+}
+
+// Those of any answer.
 pub fn words_of(a: Answer) -> [u64; 8]
     ensures { λ r. ⌜ r ≡ answerWords a ⌝ }
 {
@@ -157,7 +163,7 @@ pub fn words_of(a: Answer) -> [u64; 8]
     match reply {
         Reply::Refused(_) => [wrote, 0, 0, 0, 0, 0, 0, 0],
         Reply::Performed => [wrote, 0, 0, 0, 0, 0, 0, 0],
-        Reply::NewCommand { tag, lun, cdb } => [wrote, COMMAND, tag, lun, CDB, cdb as u64, 0, 0],
+        Reply::NewCommand { tag, lun, cdb } => command_words(a.wrote, tag, lun, cdb),
         Reply::TaskAnswered { tag, lun } => [wrote, TASK, tag, lun, 0, 0, 0, 0],
         Reply::CreditSettled => [wrote, CREDIT_RESPONSE, 0, 0, 0, 0, 0, 0],
         Reply::LoggedOut => [wrote, LOGOUT, 0, 0, 0, 0, 0, 0],

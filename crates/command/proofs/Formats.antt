@@ -12,9 +12,9 @@ use lib.ListN.{length}
 use Rattle.srp.specs.Bytes.{get, behind}
 use Rattle.srp.specs.Messages.{segmentLength}
 use Rattle.srp.specs.Descriptors.{agrees, descriptorSize, descriptorOf, badCount}
-use Rattle.command.specs.Reading.{agreedOf, withTotal, Within}
-use Rattle.command.specs.declared.Format.{Format}
-use Rattle.command.specs.declared.Format.the-variants.{Agreed, NotAgreed}
+use Rattle.command.specs.Reading.{agreedOf, withTotal, LiesIn}
+use Rattle.command.specs.declared.descriptors.Format.{Format}
+use Rattle.command.specs.declared.descriptors.Format.the-variants.{Agreed, NotAgreed}
 
 -- ── whether a format is agreed
 
@@ -92,7 +92,7 @@ few false c n e = (omega arith, omega arith)
 
 -- what passed the checks, read but for its total length, lies within the message
 pub within : (formats f c at : ℕ) (s : List ℕ) → agrees formats f ≡ true → at + descriptorSize f c ≤ length s → badCount (descriptorOf f c at s) ≡ false
-    → Within s (withTotal 0 (descriptorOf f c at s))
+    → LiesIn s (withTotal 0 (descriptorOf f c at s))
 within formats f c at s a h e =
     let n = get (behind at segmentLength) s in
     record {

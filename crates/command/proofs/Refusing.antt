@@ -2,61 +2,66 @@
 -- Assumes nothing.
 use mathlib.Core.Path.{_≡_, refl, sym, ap, subst, _∙_}
 use mathlib.Core.Bool.{true, false, _||_}
-use mathlib.Core.List.{List}
+use mathlib.Core.List.{List, [], _∷_}
 use mathlib.Core.Option.{Option, none, some}
 use Prim.Native.Nat.{ℕ, _+_, _*_, _%_, _≤_, _<_}
 use native.Mathlib.Omega.{arith}
 use borrow.Author.Tests.{eq-eqb, ne-eqb, lt-ltb, le-ltb}
+use denote.Enum.Declared.{tagOf}
+use types.Run.{OneOf, miss}
 use lib.Dec.{eqb}
 use lib.ListN.{length}
+use Rattle.srp.specs.Limits.{shortestCommand}
 use Rattle.srp.specs.Bytes.{get, typeOf}
 use Rattle.srp.specs.Messages.{tag, lun, ucsolnt, scsolnt, outFormat, inFormat, outCount, inCount, additional}
 use Rattle.srp.specs.Refusals.{firstOf}
 use Rattle.srp.specs.Descriptors.{descriptorSize, agrees, descriptorOf, badCount}
-use Rattle.srp.specs.Requests.{exactLength, outAt, inAt, outDescriptor, inDescriptor, commandOf, commandChecks, badLength, otherFormats, lookChecks}
+use Rattle.srp.specs.Requests.{exactLength, outAt, inAt, outDescriptor, inDescriptor, requestOf, commandOf, commandChecks, unlessBad, badLength, otherFormats, lookChecks}
 use Rattle.srp.specs.declared.Descriptor.{Descriptor}
 use Rattle.srp.specs.declared.Command.{Command}
+use Rattle.srp.specs.declared.Request.{Request}
+use Rattle.srp.specs.declared.Message.{Message}
+use Rattle.srp.specs.declared.Message.the-variants.{Bad, Cmd}
 use Rattle.srp.specs.declared.Refusal.{Refusal}
 use Rattle.srp.specs.declared.Refusal.the-variants.{Setting, Length, OtherType, OutFormat, InFormat, OutCount, InCount}
-use Rattle.command.specs.Reading.{withTotal, decodedBy, Within, FitsIn, Fits, shapeOf, shapedBy, FitsShape, FitsShaped}
-use Rattle.command.specs.declared.Decoded.{Decoded}
-use Rattle.command.specs.declared.Decoded.the-variants.{Read, Bad}
-use Rattle.command.specs.declared.Shape.{Shape}
-use Rattle.command.specs.declared.Shaped.{Shaped}
-use Rattle.command.specs.declared.Shaped.the-variants.{Fit, Unfit}
+use Rattle.srp.proofs.Message.{the-type}
+use Rattle.command.specs.Reading.{withTotal, LiesIn, FitsIn, Fits, shapeOf, shapedBy, FitsShape, FitsShaped}
+use Rattle.command.specs.declared.shape.Shape.{Shape}
+use Rattle.command.specs.declared.shape.Shaped.{Shaped}
+use Rattle.command.specs.declared.shape.Shaped.the-variants.{Fit, Unfit}
 use Rattle.command.proofs.Formats.{within}
 
 -- ── reading a command
 
 module _ (formats : ℕ) (s : List ℕ) where
-  abbrev read : Decoded
-  read = decodedBy (firstOf (commandChecks formats s)) (commandOf s)
+  abbrev read : Shaped
+  read = shapedBy (firstOf (commandChecks formats s)) (commandOf s)
 
-  pub short : length s < 48 → Bad Length ≡ read
+  pub short : length s < 48 → Unfit Length ≡ read
   short h = rw (lt-ltb (length s) 48 h)
 
   module _ (h : 48 ≤ length s) where
-    pub out-format : agrees formats (get outFormat s) ≡ false → Bad OutFormat ≡ read
+    pub out-format : agrees formats (get outFormat s) ≡ false → Unfit OutFormat ≡ read
     out-format e = rw (le-ltb (length s) 48 h, e)
 
     module _ (o : agrees formats (get outFormat s) ≡ true) where
-      pub in-format : agrees formats (get inFormat s) ≡ false → Bad InFormat ≡ read
+      pub in-format : agrees formats (get inFormat s) ≡ false → Unfit InFormat ≡ read
       in-format e = rw (le-ltb (length s) 48 h, o, e)
 
       module _ (i : agrees formats (get inFormat s) ≡ true) where
-        pub not-exact : (length s ≡ exactLength s → ⊥) → Bad Length ≡ read
+        pub not-exact : (length s ≡ exactLength s → ⊥) → Unfit Length ≡ read
         not-exact ne = rw (le-ltb (length s) 48 h, o, i, ne-eqb (length s) (exactLength s) ne)
 
         module _ (x : length s ≡ exactLength s) where
-          pub out-count : badCount (outDescriptor s) ≡ true → Bad OutCount ≡ read
+          pub out-count : badCount (outDescriptor s) ≡ true → Unfit OutCount ≡ read
           out-count e = rw (le-ltb (length s) 48 h, o, i, eq-eqb (length s) (exactLength s) x, e)
 
           module _ (f : badCount (outDescriptor s) ≡ false) where
-            pub in-count : badCount (inDescriptor s) ≡ true → Bad InCount ≡ read
+            pub in-count : badCount (inDescriptor s) ≡ true → Unfit InCount ≡ read
             in-count e = rw (le-ltb (length s) 48 h, o, i, eq-eqb (length s) (exactLength s) x, f, e)
 
             module _ (g : badCount (inDescriptor s) ≡ false) where
-              all-clear : Read (commandOf s) ≡ read
+              all-clear : Fit (shapeOf (commandOf s)) ≡ read
               all-clear = rw (le-ltb (length s) 48 h, o, i, eq-eqb (length s) (exactLength s) x, f, g)
 
               fits : FitsShape s (shapeOf (commandOf s))
@@ -67,8 +72,8 @@ module _ (formats : ℕ) (s : List ℕ) where
                     inn = within formats (get inFormat s) (get inCount s) (inAt s) s i (omega arith) g;
                   }
 
-              pub shape-read : {y : Shape} → y ≡ shapeOf (commandOf s) → (Fit y ≡ shapedBy read) × FitsShape s y
-              shape-read e = (ap Fit e ∙ ap shapedBy all-clear, subst (FitsShape s) (sym e) fits)
+              pub shape-read : {y : Shape} → y ≡ shapeOf (commandOf s) → (Fit y ≡ read) × FitsShape s y
+              shape-read e = (ap Fit e ∙ all-clear, subst (FitsShape s) (sym e) fits)
 
 -- ── what the code has at hand is what the definitions name
 
@@ -91,10 +96,18 @@ pub shape-is : (s : List ℕ) {n : ℕ} {o i : Descriptor} → n ≡ get additio
     → shape n o i ≡ shapeOf (commandOf s)
 shape-is s en eo ei = rw (en, eo, ei)
 
+-- ── a request, from the fields that the code reads
+
+abbrev request : ℕ → ℕ → ℕ → ℕ → Request
+request t l u v = record { tag = t; lun = l; ucsolnt = eqb u 1; scsolnt = eqb v 1 }
+
+pub request-is : (s : List ℕ) {t l u v : ℕ} → t ≡ get tag s → l ≡ get lun s → u ≡ get ucsolnt s → v ≡ get scsolnt s → request t l u v ≡ requestOf s
+request-is s et el eu ev = rw (et, el, eu, ev)
+
 -- ── a command of which the shape was read
 
 -- where a descriptor lies does not depend on its total length
-with-any-total : (s : List ℕ) (d : Descriptor) → Within s (withTotal 0 d) → Within s d
+with-any-total : (s : List ℕ) (d : Descriptor) → LiesIn s (withTotal 0 d) → LiesIn s d
 with-any-total s d w = record { format = w .format; count = w .count; inside = w .inside; table = w .table }
 
 module _ (s : List ℕ) {x : Shape} (e : x ≡ shapeOf (commandOf s)) where
@@ -112,76 +125,90 @@ module _ (s : List ℕ) {x : Shape} (e : x ≡ shapeOf (commandOf s)) where
       let f : FitsIn s (commandOf s) = record { cdb = g .cdb; out = with-any-total s (outDescriptor s) (g .out); inn = with-any-total s (inDescriptor s) (g .inn) } in
       subst (FitsIn s) (sym ec) f
 
-  -- the command, from the shape and the fields that the code reads
-  abbrev command : ℕ → ℕ → ℕ → ℕ → Descriptor → Descriptor → Command
-  command t l u v o i = record { tag = t; lun = l; ucsolnt = eqb u 1; scsolnt = eqb v 1; cdb = x .cdb; out = o; inn = i }
+  -- the command, from the shape and what else the code reads
+  abbrev command : Request → Descriptor → Descriptor → Command
+  command q o i = record { request = q; cdb = x .cdb; out = o; inn = i }
 
-  pub command-is : {t l u v : ℕ} {o i : Descriptor} → t ≡ get tag s → l ≡ get lun s → u ≡ get ucsolnt s → v ≡ get scsolnt s → o ≡ outDescriptor s → i ≡ inDescriptor s
-      → command t l u v o i ≡ commandOf s
-  command-is et el eu ev eo ei = rw (et, el, eu, ev, eo, ei, e)
+  pub command-is : {q : Request} {o i : Descriptor} → q ≡ requestOf s → o ≡ outDescriptor s → i ≡ inDescriptor s → command q o i ≡ commandOf s
+  command-is eq eo ei = rw (eq, eo, ei, e)
+
+  -- a CDB has 16 bytes at least
+  pub long-enough : FitsShape s x → shortestCommand ≤ length s
+  long-enough h = omega (arith, subst (FitsShape s) e h .cdb)
 
 -- ── looking at a message
 
 module _ (agreed formats : ℕ) (s : List ℕ) where
-  abbrev looked : Decoded
-  looked = decodedBy (firstOf (lookChecks agreed formats s)) (commandOf s)
+  abbrev looked : Shaped
+  looked = shapedBy (firstOf (lookChecks agreed formats s)) (commandOf s)
 
-  pub low-length : agreed < 64 → Bad Setting ≡ looked
+  pub low-length : agreed < 64 → Unfit Setting ≡ looked
   low-length h = rw (lt-ltb agreed 64 h)
 
   module _ (h₁ : 64 ≤ agreed) where
-    pub high-length : 1364 < agreed → Bad Setting ≡ looked
+    pub high-length : 1364 < agreed → Unfit Setting ≡ looked
     high-length h = rw (le-ltb agreed 64 h₁, lt-ltb 1364 agreed h)
 
     module _ (h₂ : agreed ≤ 1364) where
-      pub bit-zero : formats % 2 ≡ 1 → Bad Setting ≡ looked
+      pub bit-zero : formats % 2 ≡ 1 → Unfit Setting ≡ looked
       bit-zero e = rw (le-ltb agreed 64 h₁, le-ltb 1364 agreed h₂, eq-eqb (formats % 2) 1 e)
 
       module _ (h₃ : formats % 2 ≡ 1 → ⊥) where
-        pub high-bits : 7 < formats → Bad Setting ≡ looked
+        pub high-bits : 7 < formats → Unfit Setting ≡ looked
         high-bits h = rw (le-ltb agreed 64 h₁, le-ltb 1364 agreed h₂, ne-eqb (formats % 2) 1 h₃, lt-ltb 7 formats h)
 
         module _ (h₄ : formats ≤ 7) where
           set : (badLength agreed || otherFormats 6 formats) ≡ false
           set = rw (le-ltb agreed 64 h₁, le-ltb 1364 agreed h₂, ne-eqb (formats % 2) 1 h₃, le-ltb 7 formats h₄)
 
-          pub message-short : length s < 16 → Bad Length ≡ looked
+          pub message-short : length s < 16 → Unfit Length ≡ looked
           message-short h = rw (set, lt-ltb (length s) 16 h)
 
           module _ (h₅ : 16 ≤ length s) where
-            pub message-long : agreed < length s → Bad Length ≡ looked
+            pub message-long : agreed < length s → Unfit Length ≡ looked
             message-long h = rw (set, le-ltb (length s) 16 h₅, lt-ltb agreed (length s) h)
 
             module _ (h₆ : length s ≤ agreed) {k : ℕ} (e : k ≡ typeOf s) where
-              pub other-type : (k ≡ 2 → ⊥) → Bad OtherType ≡ looked
+              pub other-type : (k ≡ 2 → ⊥) → Unfit OtherType ≡ looked
               other-type ne = rw (set, le-ltb (length s) 16 h₅, le-ltb agreed (length s) h₆, ne-eqb (typeOf s) 2 (λ z. ne (e ∙ z)))
 
-              pub is-command : k ≡ 2 → decodedBy (firstOf (commandChecks formats s)) (commandOf s) ≡ looked
+              pub is-command : k ≡ 2 → shapedBy (firstOf (commandChecks formats s)) (commandOf s) ≡ looked
               is-command z = rw (set, le-ltb (length s) 16 h₅, le-ltb agreed (length s) h₆, eq-eqb (typeOf s) 2 (sym e ∙ z))
 
 -- ── what was read, or refused, tells which check hit
 
 -- a shape was refused as the command is
-pub when-unfit : (d : Decoded) {r : Refusal} → shapedBy d ≡ Unfit r → Bad r ≡ d
-when-unfit (Read c) e = let z : _≡_ {A = ℕ} 0 1 = cc in let q : ⊥ = omega arith in absurd q
-when-unfit (Bad r) e = ap Bad (cc)
+pub when-unfit : (o : Option Refusal) (m : Command) {r : Refusal} → shapedBy o m ≡ Unfit r → Bad r ≡ unlessBad o (Cmd m)
+when-unfit none m e = let z : _≡_ {A = ℕ} 0 1 = cc in let q : ⊥ = omega arith in absurd q
+when-unfit (some r) m e = ap Bad (cc)
 
 -- a shape was read, so the command is, and the shape is its
-pub when-fit : (o : Option Refusal) (m : Command) {x : Shape} → shapedBy (decodedBy o m) ≡ Fit x → (x ≡ shapeOf m) × (Read m ≡ decodedBy o m)
+pub when-fit : (o : Option Refusal) (m : Command) {x : Shape} → shapedBy o m ≡ Fit x → (x ≡ shapeOf m) × (Cmd m ≡ unlessBad o (Cmd m))
 when-fit none m e = (cc, refl)
 when-fit (some r) m e = let z : _≡_ {A = ℕ} 0 1 = cc in let q : ⊥ = omega arith in absurd q
 
 pub fits-shape : {s : List ℕ} {r : Shaped} {x : Shape} → r ≡ Fit x → FitsShaped s r → FitsShape s x
 fits-shape e h = rw e at h
 
-pub when-bad : {A : Type 0} (o : Option Refusal) (m : Command) (x : A) (f : Refusal → A) {r : Refusal} → decodedBy o m ≡ Bad r → f r ≡ elim o [ none ↦ x | some r ↦ f r ]
+pub when-bad : {A : Type 0} (o : Option Refusal) (m : Command) (x : A) (f : Refusal → A) {r : Refusal} → unlessBad o (Cmd m) ≡ Bad r
+    → f r ≡ elim o [ none ↦ x | some r ↦ f r ]
 when-bad none m x f e = let z : _≡_ {A = ℕ} 0 1 = cc in let q : ⊥ = omega arith in absurd q
 when-bad (some r) m x f e = ap f (cc)
 
-pub when-read : {A : Type 0} (o : Option Refusal) (m : Command) (x : A) (f : Refusal → A) {c : Command} → decodedBy o m ≡ Read c
+-- the messages other than a command, by their place in the enum
+abbrev pub others : List ℕ
+others = 0 ∷ 2 ∷ 3 ∷ 4 ∷ []
+
+-- no command was read, so a check hit
+pub when-other : {A : Type 0} (o : Option Refusal) (m : Command) (x y : A) {r : Message} → r ≡ unlessBad o (Cmd m) → OneOf others (tagOf the-type r)
+    → y ≡ elim o [ none ↦ x | some f ↦ y ]
+when-other none m x y e k = absurd (miss others 1 tt (subst (λ (z : Message). OneOf others (tagOf the-type z)) e k))
+when-other (some f) m x y e k = refl
+
+pub when-read : {A : Type 0} (o : Option Refusal) (m : Command) (x : A) (f : Refusal → A) {c : Command} → unlessBad o (Cmd m) ≡ Cmd c
     → (x ≡ elim o [ none ↦ x | some r ↦ f r ]) × (c ≡ m)
 when-read none m x f e = (refl, cc)
 when-read (some r) m x f e = let z : _≡_ {A = ℕ} 0 1 = cc in let q : ⊥ = omega arith in absurd q
 
-pub fits-in : {s : List ℕ} {r : Decoded} {c : Command} → r ≡ Read c → Fits s r → FitsIn s c
+pub fits-in : {s : List ℕ} {r : Message} {c : Command} → r ≡ Cmd c → Fits s r → FitsIn s c
 fits-in e h = rw e at h

@@ -14,11 +14,11 @@ use Rattle.cut.specs.Walk.{totalOf, Bounded}
 use Rattle.cut.specs.declared.Total.{Total}
 use Rattle.cut.specs.declared.Total.the-variants.{Sum, Wrong}
 use Rattle.cut.proofs.Refusing.{no-sum, is-sum}
-use Rattle.command.specs.Reading.{Within, fieldsOf, Listed}
+use Rattle.command.specs.Reading.{LiesIn, fieldsOf, ListFits}
 use Rattle.command.proofs.Tables.{good-is, fetched-table, table-room, segment-room, list-direct, list-other, list-copies, list-table, part-length}
 
 -- a sum of up to one segment
-listed : (l : List ℕ) (r : Total) → length l ≤ 16 → length l % 16 ≡ 0 → Bounded (length l / 16) r → Listed l r
+listed : (l : List ℕ) (r : Total) → length l ≤ 16 → length l % 16 ≡ 0 → Bounded (length l / 16) r → ListFits l r
 listed l (Sum n) a b h = (omega arith, b, omega arith)
 listed l Wrong a b h = tt
 
@@ -31,7 +31,7 @@ module _ (d : Descriptor) (s table : List ℕ) where
 
   -- ── a direct descriptor, or none
 
-  module _ (other : d .format ≡ 2 → ⊥) (w : Within s d) where
+  module _ (other : d .format ≡ 2 → ⊥) (w : LiesIn s d) where
     short : (b : Bool) → eqb (d .format) 1 ≡ b → (length list ≤ 16) × (length list % 16 ≡ 0)
     short true e =
         let one = eqb-true (d .format) 1 e in
@@ -46,7 +46,7 @@ module _ (d : Descriptor) (s table : List ℕ) where
       pub direct-length : length l ≤ 512
       direct-length = rw el (omega (arith, short (eqb (d .format) 1) refl .0))
 
-      pub direct-fields : (r : Total) → (r ≡ totalOf (segmentsOf l)) × Bounded (length l / 16) r → (r ≡ fieldsOf d s table) × Listed list r
+      pub direct-fields : (r : Total) → (r ≡ totalOf (segmentsOf l)) × Bounded (length l / 16) r → (r ≡ fieldsOf d s table) × ListFits list r
       direct-fields r h =
           let k = short (eqb (d .format) 1) refl in
           let b = (rw el at h) in
@@ -66,7 +66,7 @@ module _ (d : Descriptor) (s table : List ℕ) where
       bad-copies e = rw (is, good, e)
 
       -- its segments are as long as its table
-      module _ (w : Within s d) (fetch : length table ≡ fetched d) where
+      module _ (w : LiesIn s d) (fetch : length table ≡ fetched d) where
         not-one : d .format ≡ 1 → ⊥
         not-one e = omega arith
 
@@ -101,7 +101,7 @@ module _ (d : Descriptor) (s table : List ℕ) where
               pub bad-total : (n ≡ d .total → ⊥) → Wrong ≡ fieldsOf d s table
               bad-total ne = rw (ne-eqb (d .total) (sumOf ss) (λ z. ne (sum .1 ∙ sym z)), is, good, agree)
 
-              pub all-right : n ≡ d .total → n < 2 ^ 32 → (Sum n ≡ fieldsOf d s table) × Listed list (Sum n)
+              pub all-right : n ≡ d .total → n < 2 ^ 32 → (Sum n ≡ fieldsOf d s table) × ListFits list (Sum n)
               all-right z h = (
                 ap Sum (sum .1) ∙ rw (eq-eqb (d .total) (sumOf ss) (sym z ∙ sum .1), sum .0, is, good, agree),
                 (table-lengths .0, table-lengths .1, h),

@@ -14,7 +14,7 @@ use Rattle.srp.specs.Messages.{address, handle}
 use Rattle.srp.specs.Descriptors.{goodTable, whole, fetched, fetchOf, copies, copiesAgree, segmentBytes, sameBytes}
 use Rattle.srp.specs.declared.Descriptor.{Descriptor}
 use Rattle.srp.specs.declared.Fetch.{Fetch}
-use Rattle.command.specs.Reading.{Within}
+use Rattle.command.specs.Reading.{LiesIn}
 use Rattle.command.proofs.Formats.{indirect, direct}
 
 -- ── parts and lengths
@@ -61,10 +61,10 @@ module _ (d : Descriptor) where
   fetched-indirect e ne = eqb-true (d .format) 2 (must-be (eqb (d .format) 2) (goodTable (d .len)) (whole d) (d .len) (λ z. ne (e ∙ z)))
 
   -- an indirect descriptor's end
-  pub table-room : (s : List ℕ) → Within s d → d .format ≡ 2 → d .at + (20 + 16 * d .count) ≤ length s
+  pub table-room : (s : List ℕ) → LiesIn s d → d .format ≡ 2 → d .at + (20 + 16 * d .count) ≤ length s
   table-room s w e = indirect (d .at) (d .count) e (w .inside)
 
-  pub segment-room : (s : List ℕ) → Within s d → d .format ≡ 1 → d .at + 16 ≤ length s
+  pub segment-room : (s : List ℕ) → LiesIn s d → d .format ≡ 1 → d .at + 16 ≤ length s
   segment-room s w e = direct (d .at) (d .count) e (w .inside)
 
 -- ── what look names
@@ -101,7 +101,7 @@ module _ (d : Descriptor) (s table : List ℕ) (two : d .format ≡ 2) (good : g
     agree-same = rw (some-not (whole d) refl some)
 
     -- the copies, as a part of the message, begin the table just where they agree
-    module _ (w : Within s d) where
+    module _ (w : LiesIn s d) where
       abbrev at : ℕ
       at = d .at + 20
 

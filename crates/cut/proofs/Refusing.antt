@@ -12,12 +12,13 @@ use lib.ListN.{length}
 use Rattle.srp.specs.Limits.{largestPiece, longestTable}
 use Rattle.srp.specs.Descriptors.{Segment, segmentsOf, sumOf, reachable}
 use Rattle.srp.specs.Refusals.{firstOf}
-use Rattle.srp.specs.Cutting.{next, badMaximum, cutNext, cutDef}
+use Rattle.srp.specs.Cutting.{upTo, next, badMaximum, cutNext, cutDef}
 use Rattle.srp.specs.declared.Piece.{Piece}
 use Rattle.srp.specs.declared.Cut.{Cut}
 use Rattle.srp.specs.declared.Cut.the-variants.{CutRefused, CutPiece}
 use Rattle.srp.specs.declared.Refusal.the-variants.{Setting, Fields, Argument}
 use Rattle.srp.proofs.Checks.{first-hits, second-hits, neither}
+use Rattle.srp.proofs.CutLaws.{up-to}
 use Rattle.srp.proofs.Pieces.{wrapped-same}
 use Rattle.cut.specs.Walk.{totalOf, nextWrapped}
 use Rattle.cut.specs.declared.Total.the-variants.{Sum, Wrong}
@@ -69,7 +70,7 @@ module _ (list : List ℕ) (M R handed : ℕ) where
   beyond = ltb (min R (sumOf ss)) handed
 
   abbrev found : Option Piece
-  found = next M handed (min R (sumOf ss)) ss
+  found = next (upTo M) handed (min R (sumOf ss)) ss
 
   abbrev is : Cut → Type 0
   is o = o ≡ cutDef list M R handed
@@ -127,12 +128,12 @@ module _ (list : List ℕ) (M R handed : ℕ) where
               pub too-many : to < handed → is (CutRefused Argument)
               too-many h = hit-4 (badMaximum M) badList badSegments beyond found maximum-fine list-fine segments-fine (rw to-is at (lt-ltb to handed h))
 
-              pub next-is : handed ≤ to → is (nextWrapped (next M handed to ss))
+              pub next-is : handed ≤ to → is (nextWrapped (next (upTo M) handed to ss))
               next-is h =
-                  ap (λ (k : ℕ). nextWrapped (next M handed k ss)) to-is
+                  ap (λ (k : ℕ). nextWrapped (next (upTo M) handed k ss)) to-is
                   ∙ go found refl
                   ∙ clear (badMaximum M) badList badSegments beyond found maximum-fine list-fine segments-fine (rw to-is at (le-ltb to handed h))
                 where
                   go : (o : Option Piece) → found ≡ o → nextWrapped o ≡ cutNext o
                   go none z = refl
-                  go (some x) z = ap CutPiece (wrapped-same M handed (min R (sumOf ss)) ss x (told .0) (omega arith) z)
+                  go (some x) z = ap CutPiece (wrapped-same (upTo M) handed (min R (sumOf ss)) ss x (told .0) (up-to M (omega arith)) z)

@@ -9,6 +9,7 @@ use native.Mathlib.Omega.{arith}
 use borrow.Author.Tests.{le-leb, lt-leb, ltb-true, ltb-false, not-true, not-false}
 use lib.Dec.{ltb, leb}
 use lib.ListN.{length, drop}
+use Rattle.srp.specs.Limits.{longestTable}
 use Rattle.srp.specs.Bytes.{bytes, get}
 use Rattle.srp.specs.Descriptors.{Segment, segmentsIn, segmentsOf, sumOf, reachable}
 use Rattle.cut.specs.Walk.{totalOf}
@@ -37,11 +38,11 @@ from n ss = cond (reachable ss) (Sum (n + sumOf ss)) Wrong
 
 pub record Summing (list : List ℕ) (at rest n : ℕ) : Type 0 where
   pub room : at + 16 * rest ≤ length list
-  pub few : length list ≤ 512
+  pub few : length list ≤ longestTable
   pub bounded : n + 4294967295 * rest ≤ 4294967295 * (length list / 16)
   pub same : from n (segmentsIn rest (drop at list)) ≡ totalOf (segmentsOf list)
 
-pub start : (list : List ℕ) → length list ≤ 512 → Summing list 0 (length list / 16) 0
+pub start : (list : List ℕ) → length list ≤ longestTable → Summing list 0 (length list / 16) 0
 start list h = record { room = omega arith; few = h; bounded = omega arith; same = rw (zero-add (sumOf (segmentsOf list))) }
 
 module _ {list : List ℕ} {at rest n : ℕ} (w : Summing list at rest n) where

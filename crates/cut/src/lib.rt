@@ -10,11 +10,12 @@ use wire::layout::SEGMENT;
 use wire::layout::SEGMENT_LENGTH;
 ghost use mathlib.Core.Path.{_≡_};
 ghost use mathlib.Core.Bool.{not};
-ghost use Prim.Native.Nat.{_+_, _/_, _≤_, _^_, min};
+ghost use Prim.Native.Nat.{_+_, _/_, _≤_, _^_};
 ghost use lib.Dec.{leb};
 ghost use lib.ListN.{length};
+ghost use Rattle.srp.specs.Limits.{longestTable};
 ghost use Rattle.srp.specs.Descriptors.{segmentsOf};
-ghost use Rattle.srp.specs.Cutting.{next, cutDef};
+ghost use Rattle.srp.specs.Cutting.{upTo, next, cutDef};
 ghost use Rattle.cut.specs.Walk.{totalOf, Bounded, nextWrapped};
 
 const LARGEST_TOTAL: u64 = 0xffff_ffff;
@@ -39,7 +40,7 @@ fn past(address: u64, len: u32) -> bool
 
 // The sum of up to 32 segments, in 64 bits: 32 lengths can pass 2^32.
 pub fn sum(list: &[u8]) -> Total
-    requires { ⌜ length (now list) ≤ 512 ⌝ }
+    requires { ⌜ length (now list) ≤ longestTable ⌝ }
     ensures { λ r. ⌜ (r ≡ totalOf (segmentsOf (now (list .entry)))) × Bounded (length (now (list .entry)) / 16) r ⌝ }
 {
     let mut at: usize = 0;
@@ -58,17 +59,10 @@ pub fn sum(list: &[u8]) -> Total
     Total::Sum(so_far)
 }
 
-// The smaller of two numbers.
-pub fn least(a: u32, b: u32) -> u32
-    ensures { λ r. ⌜ r ≡ min a b ⌝ }
-{
-    if a < b { a } else { b }
-}
-
 // The piece at `from` of the bytes up to `to`, at most `most` long. An address counts modulo 2^64.
 // A segment that is passed over ends before `to`, so `to` is only asked first and where the piece stands.
 pub fn next_piece(list: &[u8], most: u32, from: u32, to: u32) -> Cut
-    ensures { λ r. ⌜ r ≡ nextWrapped (next most from to (segmentsOf (now (list .entry)))) ⌝ }
+    ensures { λ r. ⌜ r ≡ nextWrapped (next (upTo most) from to (segmentsOf (now (list .entry)))) ⌝ }
 {
     if to <= from {
         return Cut::CutDone;
@@ -80,10 +74,12 @@ pub fn next_piece(list: &[u8], most: u32, from: u32, to: u32) -> Cut
         let n = wire::read32(list, at + SEGMENT_LENGTH);
         if skip < n {
             let address = wire::read64(list, at + ADDRESS);
+            let left = wire::least((n - skip) as u64, (to - from) as u64);
+            let len = wire::least(most as u64, left) as u32;
             return Cut::CutPiece(Piece {
                 address: std::num::wrapping_add_u64(address, skip as u64),
                 handle: wire::read32(list, at + HANDLE),
-                len: least(most, least(n - skip, to - from)),
+                len: len,
                 offset: from,
             });
         }
@@ -116,7 +112,7 @@ pub fn cut(list: &[u8], most: u32, required: u32, handed: u32) -> Cut
     if LARGEST_TOTAL < total {
         return Cut::CutRefused(Refusal::Fields);
     }
-    let to = least(required, total as u32);
+    let to = wire::least(required as u64, total) as u32;
     if to < handed {
         return Cut::CutRefused(Refusal::Argument);
     }

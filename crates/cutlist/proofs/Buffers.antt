@@ -1,46 +1,59 @@
 -- What a command comes to, check by check, and what is then known of its buffers.
 -- Assumes nothing.
-use mathlib.Core.Path.{_≡_, refl, sym, ap, _∙_}
+use mathlib.Core.Path.{_≡_, refl, sym, ap, subst, _∙_}
 use mathlib.Core.Bool.{Bool, true, false, cond, not, _||_, _&&_}
-use mathlib.Core.List.{List, []}
+use mathlib.Core.List.{List, [], _∷_}
 use mathlib.Core.Option.{Option, none, some}
 use Prim.Native.Nat.{ℕ}
 use native.Mathlib.Omega.{arith}
 use borrow.Author.Tests.{eq-eqb, ne-eqb}
+use denote.Enum.Declared.{tagOf}
+use types.Run.{OneOf, miss}
 use lib.Dec.{eqb}
 use Rattle.srp.specs.Descriptors.{segments, sumOf, reachable, fetched, goodFormat, goodFields}
+use Rattle.srp.specs.Requests.{unlessBad}
 use Rattle.srp.specs.declared.Refusal.{Refusal}
 use Rattle.srp.specs.declared.Refusal.the-variants.{Fields}
 use Rattle.srp.specs.declared.Command.{Command}
 use Rattle.srp.specs.declared.Descriptor.{Descriptor}
-use Rattle.srp.proofs.Fields.{both}
+use Rattle.srp.specs.declared.Message.{Message}
+use Rattle.srp.specs.declared.Message.the-variants.{Bad, Cmd}
+use Rattle.srp.proofs.Message.{the-type}
+use Rattle.srp.proofs.FieldLaws.{both}
 use Rattle.cut.specs.declared.Total.the-variants.{Sum, Wrong}
 use Rattle.cut.proofs.Refusing.{no-sum, is-sum}
-use Rattle.command.specs.Reading.{decodedBy, Within, fieldsOf}
-use Rattle.command.specs.declared.Decoded.the-variants.{Read, Bad}
-use Rattle.cutlist.specs.Listings.{operationsOf, Ready}
-use Rattle.cutlist.specs.declared.list.Buffer.{Buffer}
-use Rattle.cutlist.specs.declared.list.Listing.{Listing}
-use Rattle.cutlist.specs.declared.list.Listing.the-variants.{Refused, Fetch, Operations}
+use Rattle.command.specs.Reading.{LiesIn, fieldsOf}
+use Rattle.cutlist.specs.Outputs.{operationsOf, Ready}
+use Rattle.cutlist.specs.declared.output.Buffer.{Buffer}
+use Rattle.cutlist.specs.declared.output.Output.{Output}
+use Rattle.cutlist.specs.declared.output.Output.the-variants.{Refused, Fetch, Operations}
 
 -- ── a message that look refuses, or takes
 
 module _ (v : Option Refusal) (c : Command) (s : List ℕ) where
-  abbrev outcome : Listing
+  abbrev outcome : Output
   outcome = elim v [ none ↦ operationsOf c s | some r ↦ Refused r ]
 
-pub refused : (v : Option Refusal) (c : Command) (s : List ℕ) {r : Refusal} → decodedBy v c ≡ Bad r → Refused r ≡ outcome v c s
+pub refused : (v : Option Refusal) (c : Command) (s : List ℕ) {r : Refusal} → unlessBad v (Cmd c) ≡ Bad r → Refused r ≡ outcome v c s
 refused none c s {r} e = let z : _≡_ {A = ℕ} 0 1 = cc in absurd (omega arith)
 refused (some q) c s {r} e = let z : r ≡ q = cc in ap Refused z
 
-pub taken : (v : Option Refusal) (c : Command) (s : List ℕ) {d : Command} → decodedBy v c ≡ Read d → operationsOf d s ≡ outcome v c s
+pub taken : (v : Option Refusal) (c : Command) (s : List ℕ) {d : Command} → unlessBad v (Cmd c) ≡ Cmd d → operationsOf d s ≡ outcome v c s
 taken none c s {d} e = let z : d ≡ c = cc in ap (λ (x : Command). operationsOf x s) z
 taken (some q) c s {d} e = let z : _≡_ {A = ℕ} 0 1 = cc in absurd (omega arith)
+
+-- look reads no message of the other types
+abbrev others : List ℕ
+others = 2 ∷ 3 ∷ 4 ∷ []
+
+pub no-other : (v : Option Refusal) (c : Command) {m : Message} → m ≡ unlessBad v (Cmd c) → OneOf others (tagOf the-type m) → ⊥
+no-other none c e k = miss others 1 tt (subst (λ (x : Message). OneOf others (tagOf the-type x)) e k)
+no-other (some r) c e k = miss others 0 tt (subst (λ (x : Message). OneOf others (tagOf the-type x)) e k)
 
 -- ── a command
 
 -- its tests: no table to fetch, out and in; good fields, out and in
-abbrev byTests : Bool → Bool → Bool → Bool → Buffer → Buffer → Listing
+abbrev byTests : Bool → Bool → Bool → Bool → Buffer → Buffer → Output
 byTests f g x y out inn = cond (not f || not g) Fetch (cond (not (x && y)) (Refused Fields) (Operations out inn))
 
 good : (d : Descriptor) (s : List ℕ) {n : ℕ} → fieldsOf d s [] ≡ Sum n → (goodFields d s [] ≡ true) × (n ≡ sumOf (segments d s []))
@@ -53,13 +66,13 @@ abbrev pub buffer : Descriptor → ℕ → Buffer
 buffer d n = record { descriptor = d; total = n }
 
 -- a sum tells that the segments end by 2^64
-pub ready : {d : Descriptor} {s : List ℕ} {n : ℕ} → Within s d → fieldsOf d s [] ≡ Sum n → Ready s (buffer d n)
+pub ready : {d : Descriptor} {s : List ℕ} {n : ℕ} → LiesIn s d → fieldsOf d s [] ≡ Sum n → Ready s (buffer d n)
 ready {d} {s} {n} w e =
     let g = good d s e in
     record { within = w; reach = both (goodFormat d s []) (reachable (segments d s [])) (g .0) .1; total = g .1 }
 
 module _ (c : Command) (s : List ℕ) where
-  abbrev outcomeBy : Bool → Bool → Bool → Bool → Listing
+  abbrev outcomeBy : Bool → Bool → Bool → Bool → Output
   outcomeBy f g x y = byTests f g x y (buffer (c .out) (sumOf (segments (c .out) s []))) (buffer (c .inn) (sumOf (segments (c .inn) s [])))
 
   is : {f g x y : Bool} → eqb (fetched (c .out)) 0 ≡ f → eqb (fetched (c .inn)) 0 ≡ g → goodFields (c .out) s [] ≡ x → goodFields (c .inn) s [] ≡ y

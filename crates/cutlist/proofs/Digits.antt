@@ -11,9 +11,6 @@ use lib.Bits.{bitAnd, and-mask}
 use lib.Dec.{ltb}
 use lib.ListN.{length, take, set, length-set}
 use lib.Pow.{pow-add}
-use Rattle.srp.specs.Refusals.{numberOf}
-use Rattle.srp.specs.declared.Refusal.{Refusal}
-use Rattle.srp.specs.declared.Refusal.the-variants.{ShortBuffer, Setting, Length, OtherType, OutFormat, InFormat, OutCount, InCount, TableLength, Fields, Argument, Closed, NoCredit, TagOpen, TagNotOpen, CreditResponse, Unanswered, NotOwed, Wanted, Unplanned, Planned}
 use Rattle.srp.specs.Outside.{hexDigit, hex, digits, decimal}
 use Rattle.cutlist.specs.Lines.{Appends}
 use Rattle.cutlist.proofs.Texts.{take-stored}
@@ -112,27 +109,3 @@ decimal-short n h = go (ltb n 10) refl
     go : (b : Bool) → ltb n 10 ≡ b → length (decimal n) ≤ 3
     go true e = rw (← one-digit n (ltb-true n 10 e)) (omega arith)
     go false e = later (ltb-false n 10 e) (ltb n 100) refl
-
--- a refusal's number is one
-pub number-small : (r : Refusal) → numberOf r < 1000
-number-small ShortBuffer = omega arith
-number-small Setting = omega arith
-number-small Length = omega arith
-number-small OtherType = omega arith
-number-small OutFormat = omega arith
-number-small InFormat = omega arith
-number-small OutCount = omega arith
-number-small InCount = omega arith
-number-small TableLength = omega arith
-number-small Fields = omega arith
-number-small Argument = omega arith
-number-small Closed = omega arith
-number-small NoCredit = omega arith
-number-small TagOpen = omega arith
-number-small TagNotOpen = omega arith
-number-small CreditResponse = omega arith
-number-small Unanswered = omega arith
-number-small NotOwed = omega arith
-number-small Wanted = omega arith
-number-small Unplanned = omega arith
-number-small Planned = omega arith

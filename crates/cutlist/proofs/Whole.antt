@@ -16,9 +16,9 @@ use Rattle.srp.specs.declared.Refusal.{Refusal}
 use Rattle.srp.specs.declared.Refusal.the-variants.{Fields}
 use Rattle.srp.specs.declared.Kind.the-variants.{Read, Write}
 use Rattle.srp.specs.declared.Command.{Command}
-use Rattle.cutlist.specs.Listings.{bufferOf, operationsOf, listingOf, textOf}
-use Rattle.cutlist.specs.declared.list.Listing.{Listing}
-use Rattle.cutlist.specs.declared.list.Listing.the-variants.{Refused, Fetch, Operations}
+use Rattle.cutlist.specs.Outputs.{bufferOf, operationsOf, outputOf, textOf}
+use Rattle.cutlist.specs.declared.output.Output.{Output}
+use Rattle.cutlist.specs.declared.output.Output.the-variants.{Refused, Fetch, Operations}
 use Rattle.cutlist.proofs.Filling.{whole-lines}
 
 module _ (s : List ℕ) where
@@ -39,10 +39,10 @@ module _ (s : List ℕ) where
       go false true = refl
       go false false = λ i. whole-lines Read out i ++ whole-lines Write inn i
 
-  pub cutlist-text : cutlist s ≡ textOf (listingOf s) s
+  pub cutlist-text : cutlist s ≡ textOf (outputOf s) s
   cutlist-text = go (firstOf (lookChecks longestAgreed bothFormats s))
     where
       go : (v : Option Refusal) → elim v as (λ _. List ℕ) [ none ↦ cutlistOf (commandOf s) s | some r ↦ refusedLine r ]
-          ≡ textOf (elim v as (λ _. Listing) [ none ↦ operationsOf (commandOf s) s | some r ↦ Refused r ]) s
+          ≡ textOf (elim v as (λ _. Output) [ none ↦ operationsOf (commandOf s) s | some r ↦ Refused r ]) s
       go none = command-text (commandOf s)
       go (some r) = refl

@@ -4,10 +4,10 @@ use mathlib.Core.List.{List, _++_}
 use Prim.Native.Nat.{ℕ, _+_, _-_, _≤_, _<_}
 use lib.ListN.{length, take}
 use Rattle.srp.specs.Descriptors.{Segment}
-use Rattle.srp.specs.Cutting.{pieces}
+use Rattle.srp.specs.Cutting.{Rule, upTo, pieces}
 use Rattle.srp.specs.Outside.{operationLines}
 use Rattle.srp.specs.declared.Kind.{Kind}
-use Rattle.cutlist.specs.declared.list.Filled.{Filled}
+use Rattle.cutlist.specs.declared.output.Filled.{Filled}
 
 -- behind the first `at` bytes of a text stands what was added, up to `end`
 pub record Appends (before : List ℕ) (at : ℕ) (added after : List ℕ) (end : ℕ) : Type 0 where
@@ -15,9 +15,20 @@ pub record Appends (before : List ℕ) (at : ℕ) (added after : List ℕ) (end 
   pub room : end ≤ length after
   pub text : take end after ≡ take at before ++ added
 
--- the lines from byte `from` on, up to byte `to`: "M = 512"
+-- a letter, handle, address and length of an operation, a space or the line's end behind each
+abbrev pub longestLine : ℕ
+longestLine = 2 + 9 + 17 + 4
+
+-- "M = 512"
+abbrev pub maximum : ℕ
+maximum = 512
+
+abbrev pub rule : Rule
+rule = upTo maximum
+
+-- the lines from byte `from` on, up to byte `to`
 abbrev pub linesFrom : Kind → ℕ → ℕ → List Segment → List ℕ
-linesFrom k from to ss = operationLines k (pieces (to - from) 512 from to ss)
+linesFrom k from to ss = operationLines k (pieces (to - from) rule from to ss)
 
 -- the first lines from byte `from` on, one at least: with those that are left they are all
 pub record Fills (k : Kind) (from to : ℕ) (ss : List Segment) (text : List ℕ) (f : Filled) : Type 0 where

@@ -1,22 +1,23 @@
 // cutlist: reads one SRP_CMD from standard input and prints the RDMA operations that move its data, out before in.
 // Both formats agreed, messages of up to 1,364 bytes, M = 512, R = B. What is printed is `cutlist` of crate srp's specs/Outside.antt.
-mod list;
+mod output;
 mod text;
 
 use libc::STDIN_FILENO;
 use libc::STDOUT_FILENO;
-use list::Buffer;
-use list::Listing;
+use output::Buffer;
+use output::Output;
 use srp::Kind;
 use srp::Refusal;
+use srp::limits::LONGEST_AGREED;
 ghost use mathlib.Core.Path.{_≡_};
 ghost use mathlib.Core.Bool.{true};
 ghost use Prim.Native.Nat.{_≤_};
 ghost use Rattle.srp.specs.Descriptors.{segmentsOf, sumOf, reachable};
-ghost use Rattle.cutlist.specs.Listings.{Ready};
+ghost use Rattle.cutlist.specs.Outputs.{Ready};
 
 // one byte more than the longest message, so that a longer one is seen
-const INPUT: usize = 1365;
+const INPUT: usize = (LONGEST_AGREED as usize) + 1;
 
 // some 250 lines for each write
 const TEXT: usize = 8192;
@@ -28,12 +29,12 @@ fn main() {
 }
 
 fn print<'a>(msg: &'a [u8]) {
-    match list::listing_of(msg) {
-        Listing::Refused(refusal) => print_refusal(refusal),
-        Listing::Fetch => {
+    match output::output_of(msg) {
+        Output::Refused(refusal) => print_refusal(refusal),
+        Output::Fetch => {
             io::write_all(STDOUT_FILENO, b"fetch\n");
         }
-        Listing::Operations(out, inn) => {
+        Output::Operations(out, inn) => {
             print_buffer(msg, Kind::Read, out);
             print_buffer(msg, Kind::Write, inn);
         }
@@ -65,7 +66,7 @@ fn print_operations(list: &[u8], kind: Kind, total: u32)
     let mut lines = [0u8; TEXT];
     let mut from: u32 = 0;
     while from < total {
-        let filled = list::fill(&mut lines, list, kind, from, total);
+        let filled = output::fill(&mut lines, list, kind, from, total);
         let n = filled.len;
         if !io::write_all(STDOUT_FILENO, &lines[..n]) {
             return;

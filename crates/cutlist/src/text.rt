@@ -7,7 +7,7 @@ ghost use mathlib.Core.List.{[], _∷_, _++_};
 ghost use Prim.Native.Nat.{_+_, _≤_, _<_};
 ghost use lib.ListN.{length};
 ghost use Rattle.srp.specs.Outside.{hexDigit, hex, decimal, letter, operationLine, refusedLine};
-ghost use Rattle.cutlist.specs.Lines.{Appends};
+ghost use Rattle.cutlist.specs.Lines.{longestLine, Appends};
 
 const SPACE: u8 = 0x20;
 
@@ -90,7 +90,7 @@ fn put_last(text: &mut [u8], at: usize, n: u32) -> usize
 
 // The line of an operation: at most 32 bytes.
 pub fn put_operation(text: &mut [u8], at: usize, kind: Kind, p: Piece) -> usize
-    requires { ⌜ (p .len < 1000) × (at + 32 ≤ length (now text)) ⌝ }
+    requires { ⌜ (p .len < 1000) × (at + longestLine ≤ length (now text)) ⌝ }
     ensures { λ r. ⌜ Appends (now (text .entry)) at (operationLine kind p) (now (text .exit)) r ⌝ }
 {
     let handle_at = put_letter(&mut *text, at, kind);

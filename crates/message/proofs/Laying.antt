@@ -2,18 +2,21 @@
 -- Assumes nothing.
 use mathlib.Core.Path.{_≡_, refl, sym, ap, _∙_}
 use mathlib.Core.Bool.{Bool, true, false, _&&_}
-use mathlib.Core.List.{List, [], _∷_, _++_, append-assoc, append-nil}
+use mathlib.Core.List.{List, [], _∷_, _++_, append-assoc}
 use Prim.Native.Nat.{ℕ, _+_, _/_, _%_, _^_, _≤_, _<_}
 use native.Mathlib.Omega.{arith}
 use lib.Dec.{ltb, leb}
-use lib.ListN.{length, take, drop, getD, length-append, length-take, length-replicate, drop-of-length-le, List·getD-append}
+use lib.ListN.{length, take, drop, getD, length-append, length-replicate, List·getD-append}
 use lib.Seq.{take-append-le, drop-append-le, set-append-left, take-length, take-at, drop-at, drop-drop}
 use mir.Val.{boolByte}
 use borrow.Author.Tests.{ltb-true, leb-true}
 use borrow.Rule.Slice.PartMut.{putMid}
+use Rattle.wire.proofs.Stores.{part-copied}
 use Rattle.srp.specs.Bytes.{Field, bytes, bits, bytesOf, put, puts, replaced, zeros, Layout, kind, write, inside, apartFrom, sound}
+use Rattle.srp.specs.Limits.{bufferSize, longestSense}
+use Rattle.srp.specs.Messages.{rsp}
 use Rattle.srp.specs.Writing.{placed}
-use Rattle.srp.proofs.Fields.{both, length-put}
+use Rattle.srp.proofs.FieldLaws.{both, length-put}
 
 -- a test's byte is a bit
 pub bit-small : (b : Bool) → boolByte b < 2
@@ -65,6 +68,10 @@ module _ (l : Layout) (vs : List ℕ) (ok : sound (l .size) (kind ∷ l .fields)
 
 -- ── bytes behind a message
 
+-- a lent buffer has room for the longest response, an SRP_RSP with the most sense
+pub room-for-sense : {n room : ℕ} → n ≤ longestSense → bufferSize ≤ room → rsp .size + n ≤ room
+room-for-sense h g = omega arith
+
 -- a byte as a number of four bytes
 low-byte : (v : ℕ) → v < 256 → bytesOf 4 v ≡ 0 ∷ 0 ∷ 0 ∷ v ∷ []
 low-byte v h =
@@ -90,7 +97,4 @@ module _ (a b x : List ℕ) (n : ℕ) (l : length a ≡ n) (first : x ≡ placed
   -- bytes copied into the part of the buffer that is as long as they are
   pub copied-behind : (w : List ℕ) (k : ℕ) → k ≡ length w → (y : List ℕ) → y ≡ take (length w) w ++ drop (length w) (take k (drop n x))
       → putMid n k x y ≡ placed ((a ++ w) ∷ []) b
-  copied-behind w k e y q =
-      let none : drop (length w) (take k (drop n x)) ≡ [] = drop-of-length-le (take k (drop n x)) {i = length w} (rw length-take (omega arith)) in
-      let all : y ≡ w = q ∙ rw (take-length w, none, append-nil w) in
-      rw (all, e, drop-drop (length w) n x) (behind w)
+  copied-behind w k e y q = part-copied x n w k e y q ∙ rw (append-assoc, take-length w) (behind w)

@@ -1,6 +1,8 @@
 // What the port writes: each message is laid into the lent buffer field by field, every byte past it kept.
 // The fields are written from the last to the first, as the definition of a message nests them.
+use srp::Request;
 use srp::Residual;
+use srp::limits::CREDIT_TAG;
 use srp::limits::LONGEST_WRITTEN_MESSAGE;
 use wire::layout::CRED_REQ;
 use wire::layout::DELTA;
@@ -33,19 +35,20 @@ use wire::layout::SOLNTSUP_BIT;
 use wire::layout::STATUS;
 use wire::layout::T_LOGOUT;
 use wire::layout::TAG;
-use wire::layout::TARGET_IDENTIFIER;
 ghost use mathlib.Core.Path.{_≡_};
 ghost use mathlib.Core.List.{[], _∷_};
 ghost use Prim.Native.Nat.{_+_, _≤_, _<_};
 ghost use lib.ListN.{length};
-ghost use Rattle.srp.specs.Limits.{bufferSize};
-ghost use Rattle.srp.specs.Bytes.{Field, bit, put, puts, part, write};
-ghost use Rattle.srp.specs.Messages.{targetIdentifier, loginRsp, loginRej};
-ghost use Rattle.srp.specs.Descriptors.{sameBytes};
+ghost use Rattle.srp.specs.Limits.{bufferSize, longestSense};
+ghost use Rattle.srp.specs.Bytes.{Field, bit, put, puts, write};
+ghost use Rattle.srp.specs.Messages.{rsp, credReq, tLogout, loginRsp, loginRej};
 ghost use Rattle.srp.specs.Writing.{isOver, isUnder, amount, response, answer, creditRequest, targetLogout, placed};
-ghost use Rattle.message.specs.Header.{startFields, flagFields, flagValues, countFields, headerBytes, responseOf, shortBytes};
+ghost use Rattle.message.specs.Header.{answerSize, shortSize, startFields, flagFields, flagValues, countFields, headerBytes, responseOf, shortBytes};
 
 const RESPONSE_BYTES: u32 = 4;
+
+// An SRP_RSP with response bytes.
+pub const ANSWER_SIZE: usize = RSP_SIZE + (RESPONSE_BYTES as usize);
 
 // The fields of an SRP_RSP but for its response bytes and its sense.
 pub struct Header {
@@ -87,6 +90,13 @@ fn amount_of(r: Residual) -> u32
     }
 }
 
+// SOLNT of the answer to a request, by the status or the RSP_CODE.
+pub fn solicited(r: Request, code: u8) -> bool
+    ensures { λ b. ⌜ b ≡ Rattle.srp.specs.Writing.solicited r code ⌝ }
+{
+    if code == 0 { r.scsolnt } else { r.ucsolnt }
+}
+
 // One bit of a byte of the message.
 fn put_bit(buf: &mut [u8], at: usize, low: u8, on: bool)
     requires { ⌜ (at < length (now buf)) × (low < 8) ⌝ }
@@ -97,7 +107,7 @@ fn put_bit(buf: &mut [u8], at: usize, low: u8, on: bool)
 
 // How an SRP_RSP, an SRP_CRED_REQ and an SRP_T_LOGOUT begin: the type, SOLNT, a delta or a reason, the tag.
 fn put_start(buf: &mut [u8], code: u8, solnt: bool, number: u32, tag: u64)
-    requires { ⌜ 16 ≤ length (now buf) ⌝ }
+    requires { ⌜ shortSize ≤ length (now buf) ⌝ }
     ensures { λ _. ⌜ now (buf .exit) ≡ puts startFields (code ∷ bit solnt ∷ number ∷ tag ∷ []) (now (buf .entry)) ⌝ }
 {
     wire::write64(&mut *buf, TAG, tag);
@@ -108,7 +118,7 @@ fn put_start(buf: &mut [u8], code: u8, solnt: bool, number: u32, tag: u64)
 
 // Byte 18 of an SRP_RSP: whether there are response bytes, whether there is sense, and the residuals' kinds.
 fn put_flags(buf: &mut [u8], answered: bool, sensed: bool, out: Residual, inn: Residual)
-    requires { ⌜ 36 ≤ length (now buf) ⌝ }
+    requires { ⌜ rsp .size ≤ length (now buf) ⌝ }
     ensures { λ _. ⌜ now (buf .exit) ≡ puts flagFields (flagValues answered sensed out inn) (now (buf .entry)) ⌝ }
 {
     put_bit(&mut *buf, FLAGS, DIUNDER, is_under(inn));
@@ -121,7 +131,7 @@ fn put_flags(buf: &mut [u8], answered: bool, sensed: bool, out: Residual, inn: R
 
 // Bytes 20 to 35: the residuals and the two lengths.
 fn put_counts(buf: &mut [u8], out: Residual, inn: Residual, senselen: u32, resplen: u32)
-    requires { ⌜ 36 ≤ length (now buf) ⌝ }
+    requires { ⌜ rsp .size ≤ length (now buf) ⌝ }
     ensures { λ _. ⌜ now (buf .exit) ≡ puts countFields (amount out ∷ amount inn ∷ senselen ∷ resplen ∷ []) (now (buf .entry)) ⌝ }
 {
     wire::write32(&mut *buf, RESPONSE_LENGTH, resplen);
@@ -130,9 +140,9 @@ fn put_counts(buf: &mut [u8], out: Residual, inn: Residual, senselen: u32, respl
     wire::write32(buf, OUT_RESIDUAL, amount_of(out));
 }
 
-// The 36 fixed bytes of an SRP_RSP with so many response bytes and so much sense.
+// The fixed bytes of an SRP_RSP with so many response bytes and so much sense.
 fn put_header(buf: &mut [u8], h: Header, resplen: u32, senselen: u32)
-    requires { ⌜ 36 ≤ length (now buf) ⌝ }
+    requires { ⌜ rsp .size ≤ length (now buf) ⌝ }
     ensures { λ _. ⌜ now (buf .exit) ≡ placed (headerBytes h resplen senselen ∷ []) (now (buf .entry)) ⌝ }
 {
     let out = h.out;
@@ -146,7 +156,7 @@ fn put_header(buf: &mut [u8], h: Header, resplen: u32, senselen: u32)
 
 // SRP_RSP with response bytes: the answer to a task request, or to refusal 10.
 pub fn put_answer(buf: &mut [u8], solnt: bool, tag: u64, code: u8, delta: u32)
-    requires { ⌜ 40 ≤ length (now buf) ⌝ }
+    requires { ⌜ answerSize ≤ length (now buf) ⌝ }
     ensures { λ _. ⌜ now (buf .exit) ≡ placed (answer solnt tag code delta ∷ []) (now (buf .entry)) ⌝ }
 {
     let h = Header {
@@ -163,8 +173,8 @@ pub fn put_answer(buf: &mut [u8], solnt: bool, tag: u64, code: u8, delta: u32)
 
 // SRP_RSP of a command, its sense through the part of the buffer behind the fixed fields.
 pub fn put_response(buf: &mut [u8], h: Header, sense: &[u8])
-    requires { ⌜ 36 + length (now sense) ≤ length (now buf) ⌝ }
-    requires { ⌜ length (now sense) ≤ 96 ⌝ }
+    requires { ⌜ rsp .size + length (now sense) ≤ length (now buf) ⌝ }
+    requires { ⌜ length (now sense) ≤ longestSense ⌝ }
     ensures { λ _. ⌜ now (buf .exit) ≡ placed (response (responseOf h (now (sense .entry))) ∷ []) (now (buf .entry)) ⌝ }
 {
     put_header(&mut *buf, h, 0, sense.len() as u32);
@@ -172,9 +182,9 @@ pub fn put_response(buf: &mut [u8], h: Header, sense: &[u8])
     bytes::copy(sense, &mut buf[RSP_SIZE..end]);
 }
 
-// The 16 bytes of an SRP_CRED_REQ or an SRP_T_LOGOUT.
+// An SRP_CRED_REQ or an SRP_T_LOGOUT.
 fn put_short(buf: &mut [u8], code: u8, solnt: bool, number: u32, tag: u64)
-    requires { ⌜ 16 ≤ length (now buf) ⌝ }
+    requires { ⌜ shortSize ≤ length (now buf) ⌝ }
     ensures { λ _. ⌜ now (buf .exit) ≡ placed (shortBytes code solnt number tag ∷ []) (now (buf .entry)) ⌝ }
 {
     wire::clear(&mut *buf, SHORT_SIZE);
@@ -182,14 +192,14 @@ fn put_short(buf: &mut [u8], code: u8, solnt: bool, number: u32, tag: u64)
 }
 
 pub fn put_credit_request(buf: &mut [u8], crsolnt: bool, delta: u32)
-    requires { ⌜ 16 ≤ length (now buf) ⌝ }
+    requires { ⌜ credReq .size ≤ length (now buf) ⌝ }
     ensures { λ _. ⌜ now (buf .exit) ≡ placed (creditRequest crsolnt delta ∷ []) (now (buf .entry)) ⌝ }
 {
-    put_short(buf, CRED_REQ, crsolnt, delta, 1);
+    put_short(buf, CRED_REQ, crsolnt, delta, CREDIT_TAG);
 }
 
 pub fn put_logout(buf: &mut [u8], losolnt: bool, reason: u32)
-    requires { ⌜ 16 ≤ length (now buf) ⌝ }
+    requires { ⌜ tLogout .size ≤ length (now buf) ⌝ }
     ensures { λ _. ⌜ now (buf .exit) ≡ placed (targetLogout losolnt reason ∷ []) (now (buf .entry)) ⌝ }
 {
     put_short(buf, T_LOGOUT, losolnt, reason, 0);
@@ -204,7 +214,7 @@ pub fn put_login_response(
     formats: u16,
     solicited: bool,
 )
-    requires { ⌜ 52 ≤ length (now buf) ⌝ }
+    requires { ⌜ loginRsp .size ≤ length (now buf) ⌝ }
     ensures { λ _. ⌜ now (buf .exit) ≡ placed (write loginRsp (buffers ∷ tag ∷ longest ∷ bufferSize ∷ formats ∷ bit solicited ∷ []) ∷ []) (now (buf .entry)) ⌝ }
 {
     wire::clear(&mut *buf, LOGIN_RSP_SIZE);
@@ -218,7 +228,7 @@ pub fn put_login_response(
 }
 
 pub fn put_login_rejection(buf: &mut [u8], reason: u32, tag: u64, formats: u16)
-    requires { ⌜ 32 ≤ length (now buf) ⌝ }
+    requires { ⌜ loginRej .size ≤ length (now buf) ⌝ }
     ensures { λ _. ⌜ now (buf .exit) ≡ placed (write loginRej (reason ∷ tag ∷ formats ∷ []) ∷ []) (now (buf .entry)) ⌝ }
 {
     wire::clear(&mut *buf, LOGIN_REJ_SIZE);
@@ -226,13 +236,4 @@ pub fn put_login_rejection(buf: &mut [u8], reason: u32, tag: u64, formats: u16)
     wire::write64(&mut *buf, TAG, tag);
     wire::write32(&mut *buf, REASON, reason);
     wire::write8(buf, 0, LOGIN_REJ);
-}
-
-// Whether a login's target identifier is the port's own.
-pub fn names_own(msg: &[u8], own: &[u8; 16]) -> bool
-    requires { ⌜ 64 ≤ length (now msg) ⌝ }
-    ensures { λ r. ⌜ r ≡ sameBytes (part targetIdentifier (now (msg .entry))) (now (own .entry)) ⌝ }
-{
-    let end = TARGET_IDENTIFIER + 16;
-    wire::begins(&msg[TARGET_IDENTIFIER..end], own)
 }

@@ -1,36 +1,32 @@
 -- What a message is read as, under each check in turn, and that a refused one hangs up.
 -- Assumes nothing.
 use mathlib.Core.Path.{_≡_, sym, ap, subst, _∙_}
-use mathlib.Core.Bool.{true}
 use mathlib.Core.List.{List}
-use mathlib.Core.Option.{Option, none, some}
 use Prim.Native.Nat.{ℕ, _≤_, _<_}
-use native.Mathlib.Omega.{arith}
 use borrow.Author.Tests.{eq-eqb, ne-eqb, lt-ltb, le-ltb}
-use lib.Dec.{eqb}
 use lib.ListN.{length}
 use Rattle.srp.specs.Bytes.{get, typeOf}
-use Rattle.srp.specs.Messages.{tag, lun, ucsolnt, scsolnt, taskFunction, taskTag}
-use Rattle.srp.specs.Refusals.{firstOf, numberOf, hangsUp}
-use Rattle.srp.specs.Requests.{isRequest, commandChecks, commandOf, taskOf, unlessBad, byType, readMessage}
+use Rattle.srp.specs.Messages.{tag, taskFunction, taskTag}
+use Rattle.srp.specs.Refusals.{firstOf, Conduct, hangsUp, conductOf, reasonIn}
+use Rattle.srp.specs.Requests.{isRequest, requestOf, commandChecks, commandOf, taskOf, unlessBad, byType, readMessage}
 use Rattle.srp.specs.declared.Refusal.{Refusal}
 use Rattle.srp.specs.declared.Refusal.the-variants.{Length, OtherType}
-use Rattle.srp.specs.declared.Command.{Command}
+use Rattle.srp.specs.declared.Request.{Request}
 use Rattle.srp.specs.declared.TaskRequest.{TaskRequest}
+use Rattle.srp.specs.declared.Message.{Message}
 use Rattle.srp.specs.declared.Message.the-variants.{Bad, Cmd, TskMgmt, CredRsp, ILogout}
-use Rattle.srp.proofs.Reading.{ByType, read-by-type, between-hangs}
-use Rattle.command.specs.Reading.{decodedBy}
-use Rattle.command.specs.declared.Decoded.the-variants.{Read, Bad as Refused}
+use Rattle.srp.proofs.Reading.{Wrong, ByType, read-by-type}
+use Rattle.command.specs.Reading.{Fits}
+use Rattle.request.specs.Reading.{FitsMessage}
 
 -- ── a task request, from the fields that the code reads
 
-abbrev pub task : ℕ → ℕ → ℕ → ℕ → ℕ → ℕ → TaskRequest
-task t l u v f m = record { tag = t; lun = l; ucsolnt = eqb u 1; scsolnt = eqb v 1; function = f; managed = m }
+abbrev pub task : Request → ℕ → ℕ → TaskRequest
+task q f m = record { request = q; function = f; managed = m }
 
 -- it is the definition's
-pub task-is : (s : List ℕ) {t l u v f m : ℕ} → t ≡ get tag s → l ≡ get lun s → u ≡ get ucsolnt s → v ≡ get scsolnt s → f ≡ get taskFunction s
-    → m ≡ get taskTag s → task t l u v f m ≡ taskOf s
-task-is s et el eu ev ef em = rw (et, el, eu, ev, ef, em)
+pub task-is : (s : List ℕ) {q : Request} {f m : ℕ} → q ≡ requestOf s → f ≡ get taskFunction s → m ≡ get taskTag s → task q f m ≡ taskOf s
+task-is s eq ef em = rw (eq, ef, em)
 
 -- ── a message of type k that is no command: an SRP_TSK_MGMT, an SRP_I_LOGOUT, an SRP_CRED_RSP, each of its length, or one of no such type
 
@@ -61,23 +57,22 @@ module _ (s : List ℕ) {k : ℕ} where
         pub credit-read : length s ≡ 16 → {t : ℕ} → t ≡ get tag s → (f : ℕ) → (k ≡ 2 → ⊥) → CredRsp t ≡ byType k f s
         credit-read h et f c = ap CredRsp et ∙ rw (ne-eqb k 2 c, ne-eqb k 1 n₁, ne-eqb k 3 n₃, eq-eqb k 0x41 e, eq-eqb (length s) 16 h)
 
--- ── a command that was read, or refused
-
--- what is read of a command is what the message is read as
-unless-bad : (o : Option Refusal) (m : Command) {r : Refusal} → decodedBy o m ≡ Refused r → Bad r ≡ unlessBad o (Cmd m)
-unless-bad none m e = let z : _≡_ {A = ℕ} 0 1 = cc in let q : ⊥ = omega arith in absurd q
-unless-bad (some r) m e = ap Bad (cc)
-
-unless-read : (o : Option Refusal) (m : Command) {c : Command} → decodedBy o m ≡ Read c → Cmd c ≡ unlessBad o (Cmd m)
-unless-read none m e = ap Cmd (cc)
-unless-read (some r) m e = let z : _≡_ {A = ℕ} 0 1 = cc in let q : ⊥ = omega arith in absurd q
-
 -- ── any message
 
 module _ (agreed formats : ℕ) (s : List ℕ) where
   -- a message refused hangs up
-  pub hangs : {r : Refusal} → Bad r ≡ readMessage agreed formats s → hangsUp (numberOf r) ≡ true
-  hangs {r} e = between-hangs r (subst (ByType (isRequest s)) (sym e) (read-by-type agreed formats s))
+  pub hangs : {r : Refusal} → Bad r ≡ readMessage agreed formats s → conductOf r ≡ hangsUp (reasonIn (conductOf r))
+  hangs {r} e =
+      let w : Wrong r = subst (ByType (isRequest s)) (sym e) (read-by-type agreed formats s) in
+      w .hangs ∙ ap (λ (c : Conduct). hangsUp (reasonIn c)) (sym (w .hangs))
+
+  -- so what is known of a command that was read is known of the message
+  pub fits-message : (m : Message) → m ≡ readMessage agreed formats s → Fits s m → FitsMessage s m
+  fits-message (Bad r) e h = hangs e
+  fits-message (Cmd c) e h = h
+  fits-message (TskMgmt k) e h = tt
+  fits-message (CredRsp g) e h = tt
+  fits-message ILogout e h = tt
 
   -- below 16 bytes
   pub short : length s < 16 → Bad Length ≡ readMessage agreed formats s
@@ -97,11 +92,5 @@ module _ (agreed formats : ℕ) (s : List ℕ) where
       by-type = rw (le-ltb (length s) 16 h₁, le-ltb agreed (length s) h₂, e)
 
       module _ (e₂ : k ≡ 2) where
-        command : unlessBad (firstOf (commandChecks formats s)) (Cmd (commandOf s)) ≡ byType k formats s
-        command = rw (eq-eqb k 2 e₂)
-
-        pub command-bad : {r : Refusal} → decodedBy (firstOf (commandChecks formats s)) (commandOf s) ≡ Refused r → Bad r ≡ readMessage agreed formats s
-        command-bad d = unless-bad (firstOf (commandChecks formats s)) (commandOf s) d ∙ command ∙ by-type
-
-        pub command-read : {c : Command} → decodedBy (firstOf (commandChecks formats s)) (commandOf s) ≡ Read c → Cmd c ≡ readMessage agreed formats s
-        command-read d = unless-read (firstOf (commandChecks formats s)) (commandOf s) d ∙ command ∙ by-type
+        pub command : unlessBad (firstOf (commandChecks formats s)) (Cmd (commandOf s)) ≡ readMessage agreed formats s
+        command = rw (eq-eqb k 2 e₂) at by-type

@@ -1,5 +1,4 @@
 // A message to the port, read whole: a command, a task request, a credit response, the initiator's logout, or the refusal of 3 to 8 that it draws.
-use command::Decoded;
 use srp::Message;
 use srp::Refusal;
 use srp::TaskRequest;
@@ -7,33 +6,26 @@ use srp::limits::SHORTEST_MESSAGE;
 use wire::layout::COMMAND;
 use wire::layout::CRED_RSP;
 use wire::layout::I_LOGOUT;
-use wire::layout::LUN;
-use wire::layout::NOTIFICATION;
-use wire::layout::SCSOLNT;
 use wire::layout::SHORT_SIZE;
 use wire::layout::TAG;
 use wire::layout::TASK_FUNCTION;
 use wire::layout::TASK_TAG;
 use wire::layout::TSK_MGMT;
 use wire::layout::TSK_MGMT_SIZE;
-use wire::layout::UCSOLNT;
 ghost use mathlib.Core.Path.{_≡_};
 ghost use lib.ListN.{length};
 ghost use Prim.Native.Nat.{_≤_};
-ghost use Rattle.srp.specs.Requests.{taskOf, byType, readMessage};
-ghost use Rattle.request.specs.Reading.{FitsMessage};
+ghost use Rattle.srp.specs.Limits.{shortestMessage};
+ghost use Rattle.srp.specs.Messages.{tskMgmt};
+ghost use Rattle.srp.specs.Requests.{taskOf, readMessage};
+ghost use Rattle.request.specs.Reading.{FitsMessage, OtherRead};
 
 fn read_task(msg: &[u8]) -> TaskRequest
-    requires { ⌜ length (now msg) ≡ 48 ⌝ }
+    requires { ⌜ length (now msg) ≡ tskMgmt .size ⌝ }
     ensures { λ r. ⌜ r ≡ taskOf (now (msg .entry)) ⌝ }
 {
-    let uc = wire::read_bits(msg, NOTIFICATION, UCSOLNT, 1);
-    let sc = wire::read_bits(msg, NOTIFICATION, SCSOLNT, 1);
     TaskRequest {
-        tag: wire::read64(msg, TAG),
-        lun: wire::read64(msg, LUN),
-        ucsolnt: uc == 1,
-        scsolnt: sc == 1,
+        request: command::read_request(msg),
         function: wire::read8(msg, TASK_FUNCTION),
         managed: wire::read64(msg, TASK_TAG),
     }
@@ -41,8 +33,8 @@ fn read_task(msg: &[u8]) -> TaskRequest
 
 // A message that is no command.
 fn read_other(msg: &[u8], kind: u8) -> Message
-    requires { ⌜ 16 ≤ length (now msg) ⌝ }
-    ensures { λ r. ⌜ ((f : Prim.Native.Nat.ℕ) → (kind ≡ 2 → ⊥) → r ≡ byType kind f (now (msg .entry))) × FitsMessage (now (msg .entry)) r ⌝ }
+    requires { ⌜ shortestMessage ≤ length (now msg) ⌝ }
+    ensures { λ r. ⌜ OtherRead kind (now (msg .entry)) r ⌝ }
 {
     if kind == TSK_MGMT {
         if msg.len() != TSK_MGMT_SIZE {
@@ -79,8 +71,5 @@ pub fn read_message(msg: &[u8], agreed: u32, formats: u32) -> Message
     if kind != COMMAND {
         return read_other(msg, kind);
     }
-    match command::read_command(msg, formats) {
-        Decoded::Bad(refusal) => Message::Bad(refusal),
-        Decoded::Read(c) => Message::Cmd(c),
-    }
+    command::read_command(msg, formats)
 }

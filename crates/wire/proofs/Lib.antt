@@ -1,3 +1,4 @@
 pub mod Widths
 pub mod Masks
 pub mod Same
+pub mod Stores

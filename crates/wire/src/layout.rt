@@ -57,7 +57,7 @@ pub const LUN: usize = 20;
 
 pub const FORMAT_BITS: usize = 24;
 
-// SRP_CMD: the two formats, the counts, the additional CDB length in bits 7-2
+// SRP_CMD: the two formats, the counts, the additional CDB length in bits 7-2, the CDB and what it has at least
 pub const FORMATS: usize = 5;
 
 pub const OUT_COUNT: usize = 6;
@@ -67,6 +67,8 @@ pub const IN_COUNT: usize = 7;
 pub const ADDITIONAL: usize = 31;
 
 pub const CDB: usize = 32;
+
+pub const SHORTEST_CDB: usize = 16;
 
 // SRP_TSK_MGMT
 pub const TASK_FUNCTION: usize = 30;

@@ -4,7 +4,7 @@ pub mod layout;
 
 ghost use mathlib.Core.Path.{_≡_};
 ghost use mathlib.Core.List.{_++_};
-ghost use Prim.Native.Nat.{_+_, _≤_, _<_, _/_, _%_, _^_};
+ghost use Prim.Native.Nat.{_+_, _≤_, _<_, _/_, _%_, _^_, min};
 ghost use lib.ListN.{length, take, drop};
 ghost use Rattle.srp.specs.Bytes.{Field, get, put, replaced, zeros};
 ghost use Rattle.srp.specs.Descriptors.{sameBytes};
@@ -117,6 +117,15 @@ pub fn write_bits(s: &mut [u8], at: usize, low: u8, count: u8, v: u8)
     ensures { λ _. ⌜ now (s .exit) ≡ put (Field.bits at low count) v (now (s .entry)) ⌝ }
 {
     s[at] = with_bits(s[at], low, count, v);
+}
+
+// ── numbers and lists
+
+// The smaller of two numbers.
+pub fn least(a: u64, b: u64) -> u64
+    ensures { λ r. ⌜ r ≡ min a b ⌝ }
+{
+    if a < b { a } else { b }
 }
 
 // The first n bytes are set to 0.

@@ -1,5 +1,5 @@
 -- `answer::counter_words` meets its contract. Assumes nothing.
-use mathlib.Core.Path.{refl, _∙_, ap}
+use mathlib.Core.Path.{_∙_, ap}
 use lib.IntN.{ℤ}
 use mir.Syntax.{w64}
 use mir.ValLaws.{toZ-ofZ}
@@ -8,21 +8,14 @@ use borrow.Author.Needs.{needs}
 use Rattle.answer.proofs.counter_words.Statement.{statement}
 use Rattle.answer.proofs.counter_words.Tie as tie
 
-cast-t2 : tie.Need-cast-t2
-cast-t2 c = search needs
-
-cast-t3 : tie.Need-cast-t3
-cast-t3 c = search needs
-
-cast-t4 : tie.Need-cast-t4
-cast-t4 c = search needs
-
-word-requires : tie.Need-word-requires
-word-requires c κs = search needs
-
+-- D as it is kept in 64 bits and read back
 returns : tie.Need-returns
-returns c =
-    λ wrote. rw (c .word .ensures ∙ ap (λ (z : ℤ). def.word z) (toZ-ofZ w64 (c .before .before .before .before .before .args .c .owed) (record { sfits = c .before .struct-told .given .1 .1 .1 .0 .1 }))) refl
+returns c wrote =
+    let a = c .before .before .before .before .before .args in
+    let owed = toZ-ofZ w64 (a .c .owed) (record { sfits = c .before .struct-told .given .1 .1 .1 .0 .1 }) in
+    rw (c .word .ensures ∙ ap (λ (z : ℤ). def.word z) owed)
 
 pub counter-words-spec : {M : Type 1} → statement M
-counter-words-spec = tie.close (tie.spec cast-t2 cast-t3 cast-t4 word-requires returns)
+counter-words-spec =
+    tie.close
+    (tie.spec (λ c. search needs) (λ c. search needs) (λ c. search needs) (λ c κs. search needs) returns)

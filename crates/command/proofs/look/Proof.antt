@@ -6,8 +6,7 @@ use Rattle.srp.specs.Refusals.{firstOf}
 use Rattle.srp.specs.Descriptors.{fetchOf}
 use Rattle.srp.specs.Requests.{outDescriptor, inDescriptor, commandOf, lookChecks}
 use Rattle.srp.specs.declared.Look.the-variants.{LookRefused, Fetches}
-use Rattle.command.specs.Reading.{decodedBy}
-use Rattle.command.specs.declared.Shape.{Shape}
+use Rattle.command.specs.declared.shape.Shape.{Shape}
 use Rattle.command.proofs.Refusing.{when-unfit, when-fit, when-bad, when-read, fits-shape}
 use Rattle.command.proofs.look.Statement.{statement}
 use Rattle.command.proofs.look.Tie as tie
@@ -33,7 +32,7 @@ returns : tie.Need-returns
 returns c =
     let s = c .before .before .before .before .before .args .msg .now in
     let o = firstOf (lookChecks (c .before .before .before .before .before .args .agreed) (c .before .before .before .before .before .args .formats) s) in
-    let u = when-unfit (decodedBy o (commandOf s)) (sym (c .before .before .before .look-shape .ensures .0) ∙ c .before .refusal .given .1) in
+    let u = when-unfit o (commandOf s) (sym (c .before .before .before .look-shape .ensures .0) ∙ c .before .refusal .given .1) in
     when-bad o (commandOf s) (Fetches (fetchOf (outDescriptor s) s) (fetchOf (inDescriptor s) s)) LookRefused (sym u)
 
 returns-2 : tie.Need-returns-2

@@ -4,8 +4,7 @@ use borrow.Author.Needs.{needs}
 use mathlib.Core.Path.{sym, ap, _∙_}
 use Rattle.srp.specs.Refusals.{firstOf}
 use Rattle.srp.specs.Requests.{commandOf, lookChecks}
-use Rattle.command.specs.Reading.{decodedBy}
-use Rattle.command.specs.declared.Decoded.the-variants.{Read}
+use Rattle.srp.specs.declared.Message.the-variants.{Cmd}
 use Rattle.command.proofs.Refusing.{when-unfit, when-fit, fits-shape}
 use Rattle.command.proofs.look_command.Statement.{statement}
 use Rattle.command.proofs.look_command.Tie as tie
@@ -27,12 +26,12 @@ command-of-requires c κs =
 returns : tie.Need-returns
 returns c =
     let s = c .before .before .before .before .before .args .msg .now in
-    (when-unfit (decodedBy (firstOf (lookChecks (c .before .before .before .before .before .args .agreed) (c .before .before .before .before .before .args .formats) s)) (commandOf s)) (sym (c .before .before .before .look-shape .ensures .0) ∙ c .before .refusal .given .1), tt)
+    (when-unfit (firstOf (lookChecks (c .before .before .before .before .before .args .agreed) (c .before .before .before .before .before .args .formats) s)) (commandOf s) (sym (c .before .before .before .look-shape .ensures .0) ∙ c .before .refusal .given .1), tt)
 
 returns-2 : tie.Need-returns-2
 returns-2 c =
     let s = c .before .before .before .before .before .before .args .msg .now in
-    (ap Read (c .command-of .ensures .0) ∙ when-fit (firstOf (lookChecks (c .before .before .before .before .before .before .args .agreed) (c .before .before .before .before .before .before .args .formats) s)) (commandOf s) (sym (c .before .before .before .before .look-shape .ensures .0) ∙ c .before .before .shape .given .1) .1, c .command-of .ensures .1)
+    (ap Cmd (c .command-of .ensures .0) ∙ when-fit (firstOf (lookChecks (c .before .before .before .before .before .before .args .agreed) (c .before .before .before .before .before .before .args .formats) s)) (commandOf s) (sym (c .before .before .before .before .look-shape .ensures .0) ∙ c .before .before .shape .given .1) .1, c .command-of .ensures .1)
 
 pub look-command-spec : {M : Type 1} → statement M
 look-command-spec =

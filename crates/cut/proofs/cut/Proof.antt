@@ -1,8 +1,8 @@
 -- `cut::cut` meets its contract. Assumes nothing.
+use borrow.Author.Needs.{needs}
 use mathlib.Core.Path.{sym, _∙_}
 use native.Mathlib.Omega.{arith}
 use Rattle.cut.proofs.Refusing.{zero-maximum, large-maximum, broken-list, long-list, past-the-end, large-total, too-many, next-is}
-use borrow.Author.Needs.{needs}
 use Rattle.cut.proofs.cut.Statement.{statement}
 use Rattle.cut.proofs.cut.Tie as tie
 
@@ -23,13 +23,16 @@ returns-4 c =
     let a = c .before .before .before .before .before .args in long-list (a .list .now) (a .most) (a .required) (a .handed) (c .before .before .before .if1 .left) (c .before .before .if2 .left) (c .before .if3 .left) (c .if4 .taken)
 
 sum-requires : tie.Need-sum-requires
-sum-requires c κs = search needs
+sum-requires c κs =
+    search needs
 
 enum-known-total : tie.Need-enum-known-total
-enum-known-total c = search needs
+enum-known-total c =
+    search needs
 
 enum-told : tie.Need-enum-told
-enum-told c = search needs
+enum-told c =
+    search needs
 
 returns-5 : tie.Need-returns-5
 returns-5 c =
@@ -39,18 +42,21 @@ returns-6 : tie.Need-returns-6
 returns-6 c =
     let a = c .before .before .before .before .before .before .before .before .before .before .args in large-total (a .list .now) (a .most) (a .required) (a .handed) (c .before .before .before .before .before .before .before .before .if1 .left) (c .before .before .before .before .before .before .before .if2 .left) (c .before .before .before .before .before .before .if3 .left) (c .before .before .before .before .before .if4 .left) (sym (c .before .before .before .before .sum .ensures .0) ∙ c .before .before .total .given .1) (c .if5 .taken)
 
-cast-least : tie.Need-cast-least
-cast-least c = search needs
-
 least-requires : tie.Need-least-requires
-least-requires c κs = search needs
+least-requires c κs =
+    search needs
+
+cast-to : tie.Need-cast-to
+cast-to c =
+    search needs
 
 returns-7 : tie.Need-returns-7
 returns-7 c =
     let a = c .before .before .before .before .before .before .before .before .before .before .before .before .args in too-many (a .list .now) (a .most) (a .required) (a .handed) (c .before .before .before .before .before .before .before .before .before .before .if1 .left) (c .before .before .before .before .before .before .before .before .before .if2 .left) (c .before .before .before .before .before .before .before .before .if3 .left) (c .before .before .before .before .before .before .before .if4 .left) (sym (c .before .before .before .before .before .before .sum .ensures .0) ∙ c .before .before .before .before .total .given .1) (omega arith) (c .before .least .ensures) (c .if6 .taken)
 
 next-piece-requires : tie.Need-next-piece-requires
-next-piece-requires c κs = search needs
+next-piece-requires c κs =
+    search needs
 
 returns-8 : tie.Need-returns-8
 returns-8 c =
@@ -69,8 +75,8 @@ cut-spec =
     enum-told
     returns-5
     returns-6
-    cast-least
     least-requires
+    cast-to
     returns-7
     next-piece-requires
     returns-8)

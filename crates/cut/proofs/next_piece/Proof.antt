@@ -37,6 +37,34 @@ read64-requires : tie.Need-read64-requires Inv-loop μ-loop
 read64-requires c κs =
     search needs
 
+sub-least : tie.Need-sub-least Inv-loop μ-loop
+sub-least c =
+    search needs
+
+cast-least : tie.Need-cast-least Inv-loop μ-loop
+cast-least c =
+    search needs
+
+sub-least-2 : tie.Need-sub-least-2 Inv-loop μ-loop
+sub-least-2 c =
+    search needs
+
+cast-least-2 : tie.Need-cast-least-2 Inv-loop μ-loop
+cast-least-2 c =
+    search needs
+
+least-requires : tie.Need-least-requires Inv-loop μ-loop
+least-requires c κs =
+    search needs
+
+least-requires-2 : tie.Need-least-requires-2 Inv-loop μ-loop
+least-requires-2 c κs =
+    search needs
+
+cast-len : tie.Need-cast-len Inv-loop μ-loop
+cast-len c =
+    search needs
+
 cast-wrapping-add-u64 : tie.Need-cast-wrapping-add-u64 Inv-loop μ-loop
 cast-wrapping-add-u64 c =
     search needs
@@ -53,25 +81,9 @@ read32-requires-2 : tie.Need-read32-requires-2 Inv-loop μ-loop
 read32-requires-2 c κs =
     search needs
 
-sub-least : tie.Need-sub-least Inv-loop μ-loop
-sub-least c =
-    search needs
-
-sub-least-2 : tie.Need-sub-least-2 Inv-loop μ-loop
-sub-least-2 c =
-    search needs
-
-least-requires : tie.Need-least-requires Inv-loop μ-loop
-least-requires c κs =
-    search needs
-
-least-requires-2 : tie.Need-least-requires-2 Inv-loop μ-loop
-least-requires-2 c κs =
-    search needs
-
 returns-2 : tie.Need-returns-2 Inv-loop μ-loop
 returns-2 c =
-    rw (c .before .before .before .wrapping-add-u64 .ensures) (here (c .before .before .before .before .before .before .before .before .loop .inv) (c .before .before .before .before .before .before .before .loop-test .taken) (c .before .before .before .before .before .before .read32 .ensures) (c .before .before .before .before .before .if2 .taken) (c .before .before .before .before .read64 .ensures) (c .before .before .read322 .ensures) (c .before .least .ensures) (c .least2 .ensures))
+    rw (c .before .wrapping-add-u64 .ensures) (here (c .before .before .before .before .before .before .before .before .loop .inv) (c .before .before .before .before .before .before .before .loop-test .taken) (c .before .before .before .before .before .before .read32 .ensures) (c .before .before .before .before .before .if2 .taken) (c .before .before .before .before .read64 .ensures) (c .read322 .ensures) (c .before .before .before .least .ensures) (c .before .before .least2 .ensures))
 
 add-at : tie.Need-add-at Inv-loop μ-loop
 add-at c =
@@ -105,14 +117,17 @@ next-piece-spec =
     read32-requires
     add-read64
     read64-requires
+    sub-least
+    cast-least
+    sub-least-2
+    cast-least-2
+    least-requires
+    least-requires-2
+    cast-len
     cast-wrapping-add-u64
     wrapping-add-u64-requires
     add-read32-2
     read32-requires-2
-    sub-least
-    sub-least-2
-    least-requires
-    least-requires-2
     returns-2
     add-at
     sub-rest

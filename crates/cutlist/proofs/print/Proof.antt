@@ -1,11 +1,11 @@
--- `cutlist::print` meets its contract: the buffers are as `listing_of` leaves them.
+-- `cutlist::print` meets its contract: the buffers are as `output_of` leaves them.
 -- Assumes the contract of the C library's `write`, through crate io.
 use borrow.Author.Needs.{needs}
 use Rattle.cutlist.proofs.print.Statement.{statement}
 use Rattle.cutlist.proofs.print.Tie as tie
 
-listing-of-requires : tie.Need-listing-of-requires
-listing-of-requires c κs = search needs
+output-of-requires : tie.Need-output-of-requires
+output-of-requires c κs = search needs
 
 enum-known-refusal : tie.Need-enum-known-refusal
 enum-known-refusal c = search needs
@@ -27,11 +27,11 @@ enum-known-out c = search needs
 
 print-buffer-requires : tie.Need-print-buffer-requires
 print-buffer-requires c κs =
-    (rw (c .before .out .given .1) at (c .before .before .before .listing-of .ensures .1)) .0
+    (rw (c .before .out .given .1) at (c .before .before .before .output-of .ensures .1)) .0
 
 print-buffer-requires-2 : tie.Need-print-buffer-requires-2
 print-buffer-requires-2 c κs =
-    (rw (c .before .before .out .given .1) at (c .before .before .before .before .listing-of .ensures .1)) .1
+    (rw (c .before .before .out .given .1) at (c .before .before .before .before .output-of .ensures .1)) .1
 
 returns : tie.Need-returns
 returns c = search needs
@@ -46,7 +46,7 @@ pub print-spec : {M : Type 1} → statement M
 print-spec =
     tie.close
     (tie.spec
-    listing-of-requires
+    output-of-requires
     enum-known-refusal
     print-refusal-requires
     enum-told

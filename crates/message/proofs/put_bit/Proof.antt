@@ -9,8 +9,7 @@ cast-write-bits : tie.Need-cast-write-bits
 cast-write-bits c = search needs
 
 write-bits-requires : tie.Need-write-bits-requires
-write-bits-requires c κs =
-    (search needs, search needs, bit-small (c .before .before .args .on))
+write-bits-requires c κs = (search needs, search needs, bit-small (c .before .before .args .on))
 
 same-length : tie.Need-same-length
 same-length c = search needs

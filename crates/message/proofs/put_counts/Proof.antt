@@ -30,10 +30,16 @@ same-length c = search needs
 
 returns : tie.Need-returns
 returns c =
-    let a = c .before .before .before .before .before .before .before .before .before .before .before .before .before .before .before .before .before .before .before .args in
-    field outResidual (amount (a .out)) (rw (c .before .before .before .amount-of2 .ensures) at (c .before .before .write324 .ensures))
-    (field inResidual (amount (a .inn)) (rw (c .before .before .before .before .before .before .before .before .amount-of .ensures) at (c .before .before .before .before .before .before .before .write323 .ensures))
-    (field senseLength (a .senselen) (c .before .before .before .before .before .before .before .before .before .before .before .before .write322 .ensures) (c .before .before .before .before .before .before .before .before .before .before .before .before .before .before .before .before .write32 .ensures)))
+    let c6 = c .before .before in
+    let c5 = c6 .before in
+    let c4 = c5 .before .before .before .before in
+    let c3 = c4 .before in
+    let c2 = c3 .before .before .before .before in
+    let c1 = c2 .before .before .before .before in
+    let a = c1 .before .before .before .args in
+    field outResidual (amount (a .out)) (rw (c5 .amount-of2 .ensures) at (c6 .write324 .ensures))
+    (field inResidual (amount (a .inn)) (rw (c3 .amount-of .ensures) at (c4 .write323 .ensures))
+    (field senseLength (a .senselen) (c2 .write322 .ensures) (c1 .write32 .ensures)))
 
 pub put-counts-spec : {M : Type 1} → statement M
 put-counts-spec =

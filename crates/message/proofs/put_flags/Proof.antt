@@ -43,12 +43,23 @@ same-length c = search needs
 
 returns : tie.Need-returns
 returns c =
-    let a = c .before .before .before .before .before .before .before .before .before .before .before .before .before .before .before .before .before .before .before .before .before .before .before .before .before .before .before .before .before .args in
-    field rspvalid (bit (a .answered)) (c .before .before .put-bit6 .ensures)
-    (field snsvalid (bit (a .sensed)) (c .before .before .before .before .before .before .put-bit5 .ensures)
-    (field doover (bit (isOver (a .out))) (rw (c .before .before .before .before .before .before .before .before .before .before .before .is-over2 .ensures) at (c .before .before .before .before .before .before .before .before .before .before .put-bit4 .ensures))
-    (field dounder (bit (isUnder (a .out))) (rw (c .before .before .before .before .before .before .before .before .before .before .before .before .before .before .before .before .is-under2 .ensures) at (c .before .before .before .before .before .before .before .before .before .before .before .before .before .before .before .put-bit3 .ensures))
-    (field diover (bit (isOver (a .inn))) {s = put diunder (bit (isUnder (a .inn))) (a .buf .now)} (rw (c .before .before .before .before .before .before .before .before .before .before .before .before .before .before .before .before .before .before .before .before .before .is-over .ensures) at (c .before .before .before .before .before .before .before .before .before .before .before .before .before .before .before .before .before .before .before .before .put-bit2 .ensures)) (rw (c .before .before .before .before .before .before .before .before .before .before .before .before .before .before .before .before .before .before .before .before .before .before .before .before .before .before .is-under .ensures) at (c .before .before .before .before .before .before .before .before .before .before .before .before .before .before .before .before .before .before .before .before .before .before .before .before .before .put-bit .ensures))))))
+    let c10 = c .before .before in
+    let c9 = c10 .before .before .before .before in
+    let c8 = c9 .before .before .before .before in
+    let c7 = c8 .before in
+    let c6 = c7 .before .before .before .before in
+    let c5 = c6 .before in
+    let c4 = c5 .before .before .before .before in
+    let c3 = c4 .before in
+    let c2 = c3 .before .before .before .before in
+    let c1 = c2 .before in
+    let a = c1 .before .before .before .args in
+    field rspvalid (bit (a .answered)) (c10 .put-bit6 .ensures)
+    (field snsvalid (bit (a .sensed)) (c9 .put-bit5 .ensures)
+    (field doover (bit (isOver (a .out))) (rw (c7 .is-over2 .ensures) at (c8 .put-bit4 .ensures))
+    (field dounder (bit (isUnder (a .out))) (rw (c5 .is-under2 .ensures) at (c6 .put-bit3 .ensures))
+    (field diover (bit (isOver (a .inn))) {s = put diunder (bit (isUnder (a .inn))) (a .buf .now)}
+    (rw (c3 .is-over .ensures) at (c4 .put-bit2 .ensures)) (rw (c1 .is-under .ensures) at (c2 .put-bit .ensures))))))
 
 pub put-flags-spec : {M : Type 1} → statement M
 put-flags-spec =

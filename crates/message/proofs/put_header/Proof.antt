@@ -1,4 +1,4 @@
--- `message::put_header` meets its contract: 36 bytes cleared, then the counts, the status, the flags and the start, which are the fields of an SRP_RSP.
+-- `message::put_header` meets its contract: its bytes cleared, then the counts, the status, the flags and the start, which are the fields of an SRP_RSP.
 -- Assumes nothing.
 use mathlib.Core.Path.{refl}
 use mathlib.Core.Bool.{not}
@@ -33,13 +33,18 @@ same-length c = search needs
 
 returns : tie.Need-returns
 returns c =
-    let a = c .before .before .before .before .before .before .before .before .before .before .before .before .before .before .before .before .before .before .before .before .before .args in
+    let c5 = c .before .before in
+    let c4 = c5 .before .before .before .before in
+    let c3 = c4 .before .before .before .before in
+    let c2 = c3 .before .before .before .before in
+    let c1 = c2 .before .before .before .before in
+    let a = c1 .before .before .before .args in
     let h = a .h in
     laid rsp (headerValues h (a .resplen) (a .senselen)) refl (a .buf .now) _
-    (fields startFields (0xc1 ∷ bit (h .solnt) ∷ h .delta ∷ h .tag ∷ []) (c .before .before .put-start .ensures)
-    (fields flagFields (flagValues (not (eqb (a .resplen) 0)) (not (eqb (a .senselen) 0)) (h .out) (h .inn)) (c .before .before .before .before .before .before .put-flags .ensures)
-    (field status (h .status) (c .before .before .before .before .before .before .before .before .before .before .write8 .ensures)
-    (fields countFields (amount (h .out) ∷ amount (h .inn) ∷ a .senselen ∷ a .resplen ∷ []) (c .before .before .before .before .before .before .before .before .before .before .before .before .before .before .put-counts .ensures) (c .before .before .before .before .before .before .before .before .before .before .before .before .before .before .before .before .before .before .clear .ensures)))))
+    (fields startFields (rsp .code ∷ bit (h .solnt) ∷ h .delta ∷ h .tag ∷ []) (c5 .put-start .ensures)
+    (fields flagFields (flagValues (not (eqb (a .resplen) 0)) (not (eqb (a .senselen) 0)) (h .out) (h .inn)) (c4 .put-flags .ensures)
+    (field status (h .status) (c3 .write8 .ensures)
+    (fields countFields (amount (h .out) ∷ amount (h .inn) ∷ a .senselen ∷ a .resplen ∷ []) (c2 .put-counts .ensures) (c1 .clear .ensures)))))
 
 pub put-header-spec : {M : Type 1} → statement M
 put-header-spec =

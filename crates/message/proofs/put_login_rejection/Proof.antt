@@ -1,4 +1,4 @@
--- `message::put_login_rejection` meets its contract: 32 bytes cleared, then the fields, the last of them first.
+-- `message::put_login_rejection` meets its contract: its bytes cleared, then the fields, the last of them first.
 -- Assumes nothing.
 use mathlib.Core.Path.{refl}
 use mathlib.Core.List.{[], _∷_}
@@ -29,12 +29,17 @@ same-length c = search needs
 
 returns : tie.Need-returns
 returns c =
-    let a = c .before .before .before .before .before .before .before .before .before .before .before .before .before .before .before .before .before .before .before .before .before .args in
+    let c5 = c .before .before in
+    let c4 = c5 .before .before .before .before in
+    let c3 = c4 .before .before .before .before in
+    let c2 = c3 .before .before .before .before in
+    let c1 = c2 .before .before .before .before in
+    let a = c1 .before .before .before .args in
     laid loginRej (a .reason ∷ a .tag ∷ a .formats ∷ []) refl (a .buf .now) _
-    (field kind 0xc2 (c .before .before .write8 .ensures)
-    (field reason (a .reason) (c .before .before .before .before .before .before .write32 .ensures)
-    (field tag (a .tag) (c .before .before .before .before .before .before .before .before .before .before .write64 .ensures)
-    (field formatBits (a .formats) (c .before .before .before .before .before .before .before .before .before .before .before .before .before .before .write16 .ensures) (c .before .before .before .before .before .before .before .before .before .before .before .before .before .before .before .before .before .before .clear .ensures)))))
+    (field kind (loginRej .code) (c5 .write8 .ensures)
+    (field reason (a .reason) (c4 .write32 .ensures)
+    (field tag (a .tag) (c3 .write64 .ensures)
+    (field formatBits (a .formats) (c2 .write16 .ensures) (c1 .clear .ensures)))))
 
 pub put-login-rejection-spec : {M : Type 1} → statement M
 put-login-rejection-spec =

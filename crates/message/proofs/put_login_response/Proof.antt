@@ -1,4 +1,4 @@
--- `message::put_login_response` meets its contract: 52 bytes cleared, then the fields, the last of them first.
+-- `message::put_login_response` meets its contract: its bytes cleared, then the fields, the last of them first.
 -- Assumes nothing.
 use mathlib.Core.Path.{refl}
 use mathlib.Core.List.{[], _∷_}
@@ -39,15 +39,23 @@ same-length c = search needs
 
 returns : tie.Need-returns
 returns c =
-    let a = c .before .before .before .before .before .before .before .before .before .before .before .before .before .before .before .before .before .before .before .before .before .before .before .before .before .before .before .before .before .before .before .before .before .args in
+    let c8 = c .before .before in
+    let c7 = c8 .before .before .before .before in
+    let c6 = c7 .before .before .before .before in
+    let c5 = c6 .before .before .before .before in
+    let c4 = c5 .before .before .before .before in
+    let c3 = c4 .before .before .before .before in
+    let c2 = c3 .before .before .before .before in
+    let c1 = c2 .before .before .before .before in
+    let a = c1 .before .before .before .args in
     laid loginRsp (a .buffers ∷ a .tag ∷ a .longest ∷ bufferSize ∷ a .formats ∷ bit (a .solicited) ∷ []) refl (a .buf .now) _
-    (field kind 0xc0 (c .before .before .write8 .ensures)
-    (field delta (a .buffers) (c .before .before .before .before .before .before .write323 .ensures)
-    (field tag (a .tag) (c .before .before .before .before .before .before .before .before .before .before .write64 .ensures)
-    (field longestTaken (a .longest) (c .before .before .before .before .before .before .before .before .before .before .before .before .before .before .write322 .ensures)
-    (field longestWritten bufferSize (c .before .before .before .before .before .before .before .before .before .before .before .before .before .before .before .before .before .before .write32 .ensures)
-    (field formatBits (a .formats) (c .before .before .before .before .before .before .before .before .before .before .before .before .before .before .before .before .before .before .before .before .before .before .write16 .ensures)
-    (field solntsup (bit (a .solicited)) (c .before .before .before .before .before .before .before .before .before .before .before .before .before .before .before .before .before .before .before .before .before .before .before .before .before .before .put-bit .ensures) (c .before .before .before .before .before .before .before .before .before .before .before .before .before .before .before .before .before .before .before .before .before .before .before .before .before .before .before .before .before .before .clear .ensures))))))))
+    (field kind (loginRsp .code) (c8 .write8 .ensures)
+    (field delta (a .buffers) (c7 .write323 .ensures)
+    (field tag (a .tag) (c6 .write64 .ensures)
+    (field longestTaken (a .longest) (c5 .write322 .ensures)
+    (field longestWritten bufferSize (c4 .write32 .ensures)
+    (field formatBits (a .formats) (c3 .write16 .ensures)
+    (field solntsup (bit (a .solicited)) (c2 .put-bit .ensures) (c1 .clear .ensures))))))))
 
 pub put-login-response-spec : {M : Type 1} → statement M
 put-login-response-spec =

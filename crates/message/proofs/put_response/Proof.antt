@@ -37,10 +37,12 @@ same-length c = search needs
 
 returns : tie.Need-returns
 returns c =
-    let a = c .before .before .before .before .before .before .before .before .before .before .args in
+    let c2 = c .before .before in
+    let c1 = c2 .before .before .before .before in
+    let a = c1 .before .before .before .before .args in
     let s = a .sense .now in
-    let n : 36 + length s - 36 ≡ length s = omega arith in
-    copied-behind (headerBytes (a .h) 0 (length s)) (a .buf .now) _ 36 (long rsp (headerValues (a .h) 0 (length s)) refl) (c .before .before .before .before .before .before .put-header .ensures) s _ n _ (c .before .before .copy .ensures .1)
+    let n : rsp .size + length s - rsp .size ≡ length s = omega arith in
+    copied-behind (headerBytes (a .h) 0 (length s)) (a .buf .now) _ (rsp .size) (long rsp (headerValues (a .h) 0 (length s)) refl) (c1 .put-header .ensures) s _ n _ (c2 .copy .ensures .1)
 
 pub put-response-spec : {M : Type 1} → statement M
 put-response-spec =

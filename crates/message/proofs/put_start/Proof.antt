@@ -24,10 +24,14 @@ same-length c = search needs
 
 returns : tie.Need-returns
 returns c =
-    let a = c .before .before .before .before .before .before .before .before .before .before .before .before .before .before .before .before .before .args in
-    field kind (a .code) (c .before .before .write8 .ensures)
-    (field solnt (bit (a .solnt)) (c .before .before .before .before .before .before .put-bit .ensures)
-    (field delta (a .number) (c .before .before .before .before .before .before .before .before .before .before .write32 .ensures) (c .before .before .before .before .before .before .before .before .before .before .before .before .before .before .write64 .ensures)))
+    let c4 = c .before .before in
+    let c3 = c4 .before .before .before .before in
+    let c2 = c3 .before .before .before .before in
+    let c1 = c2 .before .before .before .before in
+    let a = c1 .before .before .before .args in
+    field kind (a .code) (c4 .write8 .ensures)
+    (field solnt (bit (a .solnt)) (c3 .put-bit .ensures)
+    (field delta (a .number) (c2 .write32 .ensures) (c1 .write64 .ensures)))
 
 pub put-start-spec : {M : Type 1} → statement M
 put-start-spec =

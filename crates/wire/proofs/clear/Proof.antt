@@ -1,18 +1,13 @@
 -- `wire::clear` meets its contract. Assumes nothing.
-use mathlib.Core.Path.{_≡_, refl}
-use mathlib.Core.List.{_++_}
-use Prim.Native.Nat.{_≤_, _-_}
+use Prim.Native.Nat.{_-_}
 use native.Mathlib.Omega.{arith}
-use lib.ListN.{length, drop, length-set}
-use native.Mathlib.Numerals.{add-one}
-use Rattle.srp.specs.Bytes.{zeros}
-use Rattle.srp.proofs.Fields.{zeros-more}
+use Rattle.wire.proofs.Stores.{Clearing, clear-start, clear-turn, clear-end}
 use Rattle.wire.proofs.clear.Statement.{statement}
 use Rattle.wire.proofs.clear.Tie as tie
 
 abbrev Inv-loop : tie.InvT-loop
 Inv-loop s₀ n i₀ s i =
-    (i ≤ n) × (length s ≡ length s₀) × (s ≡ zeros i ++ drop i s₀)
+    Clearing s₀ n s i
 
 abbrev μ-loop : tie.MeasureT-loop
 μ-loop s₀ n i₀ s i =
@@ -20,7 +15,7 @@ abbrev μ-loop : tie.MeasureT-loop
 
 loop-holds : tie.Need-loop-holds Inv-loop μ-loop
 loop-holds c =
-    (omega arith, refl, refl)
+    clear-start (c .args .s .now) (c .args .n) (c .pre)
 
 slice-write-s : tie.Need-slice-write-s Inv-loop μ-loop
 slice-write-s c =
@@ -36,16 +31,15 @@ loop-less c =
 
 loop-again : tie.Need-loop-again Inv-loop μ-loop
 loop-again c =
-    let at = c .before .loop in
-    let a = c .before .before .args in (omega arith, simp length-set (at .inv .1), rw (at .inv .2, add-one (at .i)) (zeros-more (at .i) (a .s .now) (omega arith)))
+    clear-turn (c .before .loop .inv) (omega arith)
 
 same-length : tie.Need-same-length Inv-loop μ-loop
 same-length c =
-    c .before .loop .inv .1
+    c .before .loop .inv .long
 
 returns : tie.Need-returns Inv-loop μ-loop
 returns c =
-    let e : c .before .loop .i ≡ c .before .before .args .n = omega arith in rw (← e) (c .before .loop .inv .2)
+    clear-end (c .before .loop .inv) (omega arith)
 
 pub clear-spec : {M : Type 1} → statement M
 clear-spec =

@@ -5,8 +5,8 @@ use mathlib.Core.List.{[], _∷_, _++_}
 use Prim.Native.Nat.{ℕ}
 use native.Mathlib.Omega.{arith}
 use Rattle.srp.specs.Outside.{decimal}
+use Rattle.srp.proofs.RefusalLaws.{number-range}
 use Rattle.cutlist.proofs.Texts.{copied, then, spelt}
-use Rattle.cutlist.proofs.Digits.{number-small}
 use borrow.Author.Needs.{needs}
 use Rattle.cutlist.proofs.text.put_refusal.Statement.{statement}
 use Rattle.cutlist.proofs.text.put_refusal.Tie as tie
@@ -22,7 +22,7 @@ number-of-requires c κs = search needs
 
 put-last-requires : tie.Need-put-last-requires
 put-last-requires c κs =
-    omega (arith, c .number-of .ensures, number-small (c .before .before .before .before .before .before .before .before .args .refusal))
+    omega (arith, c .number-of .ensures, number-range (c .before .before .before .before .before .before .before .before .args .refusal))
 
 same-length : tie.Need-same-length
 same-length c = search needs
