@@ -11,9 +11,10 @@ use Rattle.srp.specs.Writing.{placed}
 use Rattle.srp.specs.Take.{answering}
 use Rattle.srp.specs.declared.Reply.{Reply}
 use Rattle.srp.specs.declared.Answer.{Answer}
-use Rattle.words.specs.View.{headOf, view}
+use Rattle.words.specs.Head.{headOf}
+use Rattle.words.specs.View.{view}
 use Rattle.state.specs.Changes.{Settled, afterUse}
-use Rattle.state.specs.Promises.{Answers}
+use Rattle.state.specs.Promises.{AnswersAs}
 use Rattle.state.proofs.Promises.{wrote, settled-view}
 
 -- no announced buffer is used
@@ -27,7 +28,7 @@ unused p =
 module _ {l l₁ l₂ st b b′ : List ℕ} {p q : Port} {used delta : ℕ} {r : Answer} (y : Reply) (message : ℕ → List ℕ) where
   pub answered : view l₁ st ≡ p → afterUse used p ≡ q → q .live ≡ view l st .live → headOf l₁ .live ≡ true → Settled used delta l₁ l₂ → b′ ≡ placed (message delta ∷ []) b
       → r ≡ record { reply = y; wrote = length (message (due q)) } → 0 < length (message (due q))
-      → Answers l st b l₂ st b′ r (answering q y message)
+      → AnswersAs l st b l₂ st b′ r (answering q y message)
   answered e f k live S w a n =
       let v = settled-view l₁ l₂ st live S in
       let d : delta ≡ due q = v .0 ∙ ap (λ (x : Port). due (afterUse used x)) e ∙ ap due f in

@@ -4,7 +4,7 @@ use mathlib.Core.Path.{_≡_, refl, sym, _∙_, ap}
 use mathlib.Core.Bool.{Bool, true, false}
 use mathlib.Core.List.{List, [], _∷_, _++_, map, append-assoc, append-nil}
 use mathlib.Core.Option.{none, some}
-use Prim.Native.Nat.{ℕ, zero, suc, _+_, _*_, _≤_, _<_}
+use Prim.Native.Nat.{ℕ, zero, suc, _+_, _≤_, _<_}
 use native.Mathlib.Omega.{arith}
 use native.Mathlib.Nat.{add-zero}
 use native.Mathlib.Numerals.{add-one}
@@ -19,8 +19,12 @@ use Rattle.srp.specs.Take.{hasTag}
 use Rattle.srp.proofs.ListLaws.{without-map}
 use Rattle.words.specs.declared.Slot.{Slot}
 use Rattle.words.specs.declared.Head.{Head}
-use Rattle.words.specs.View.{portWords, headOf, slots, noSlot, opens, openOf, openPort, countedOf, shown, SlotMoved}
-use Rattle.words.proofs.Slots.{slots-long, slot-tag, slot-lun}
+use Rattle.srp.specs.declared.Request.{Request}
+use Rattle.words.specs.Sizes.{portWords, mostSlots}
+use Rattle.words.specs.Slots.{slotAt, slots, noSlot}
+use Rattle.words.specs.Head.{headOf, countedOf, SlotChanged, HeadChanged}
+use Rattle.words.specs.View.{opens, openOf, openPort, shown}
+use Rattle.words.proofs.Slots.{slots-long, slot-tag}
 use Rattle.words.proofs.Ports.{opens-long, tag-at}
 use Rattle.state.specs.Changes.{FoundAt, FoundIs, Alters, ends, over, NoneEnds, withoutEnded}
 use Rattle.state.specs.declared.Found.the-variants.{Nothing}
@@ -59,8 +63,8 @@ module _ {A B : Type 0} (p : B → Bool) (f : A → B) (d : A) where
 pub record Searching (l : List ℕ) (tag held i : ℕ) : Type 0 where
   pub count : held ≡ headOf l .held
   pub in-count : i ≤ held
-  pub small : held ≤ 16
-  pub others : (j : ℕ) → j < i → eqb tag (getD (opens l) j noSlot .tag) ≡ false
+  pub small : held ≤ mostSlots
+  pub others : (j : ℕ) → j < i → eqb tag (getD (opens l) j noSlot .request .tag) ≡ false
 
 -- before the first
 pub search-start : (l : List ℕ) (tag held : ℕ) → held ≡ headOf l .held → Searching l tag held 0
@@ -68,26 +72,27 @@ search-start l tag held e = record { count = e; in-count = omega arith; small = 
 
 module _ (l : List ℕ) (tag held i : ℕ) (S : Searching l tag held i) where
   -- not this one
-  pub search-more : i < held → (getD l (24 * i + 16) 0 ≡ tag → ⊥) → Searching l tag held (i + 1)
+  pub search-more : i < held → (getD l (slotAt i) 0 ≡ tag → ⊥) → Searching l tag held (i + 1)
   search-more h ne =
       record {
         count = S .count;
         in-count = omega arith;
         small = S .small;
-        others = below-more (λ (j : ℕ). eqb tag (getD (opens l) j noSlot .tag) ≡ false) i (S .others)
-            (ne-eqb tag (getD (opens l) i noSlot .tag) (λ q. ne (sym (tag-at l i (omega (arith, S .count))) ∙ sym q)));
+        others = below-more (λ (j : ℕ). eqb tag (getD (opens l) j noSlot .request .tag) ≡ false) i (S .others)
+            (ne-eqb tag (getD (opens l) i noSlot .request .tag) (λ q. ne (sym (tag-at l i (omega (arith, S .count))) ∙ sym q)));
       }
 
   -- this one
-  pub search-here : i < held → getD l (24 * i + 16) 0 ≡ tag → FoundAt l tag i
+  pub search-here : i < held → getD l (slotAt i) 0 ≡ tag → FoundAt l tag i
   search-here h eq =
       let n : i < headOf l .held = omega (arith, S .count) in
       let long : i < length (opens l) = omega (arith, opens-long l) in
-      let this : eqb tag (getD (opens l) i noSlot .tag) ≡ true = eq-eqb tag (getD (opens l) i noSlot .tag) (sym eq ∙ sym (tag-at l i n)) in
+      let this : eqb tag (getD (opens l) i noSlot .request .tag) ≡ true = eq-eqb tag (getD (opens l) i noSlot .request .tag) (sym eq ∙ sym (tag-at l i n)) in
       let slot : getD (opens l) i noSlot ≡ getD (slots l) i noSlot = getD-take (headOf l .held) (slots l) i noSlot n in
       record {
         inside = n;
         small = omega (arith, S .small);
+        tagged = slot-tag l i (omega (arith, S .small)) ∙ eq;
         others = S .others;
         first = λ st. first-there (hasTag tag) (openOf st) noSlot (opens l) i long (S .others) this ∙ ap (λ (c : Slot). some (openOf st c)) slot;
         changes = λ st g c e.
@@ -126,10 +131,6 @@ module _ {A : Type 0} where
     goes : p (getD l i d) ≡ true → without p (drop i l) ≡ without p (drop (i + 1) l)
     goes e = rw (drop-cons l i d, e, add-one) refl
 
--- whether the command in slot i ends, by the two words that are read
-abbrev readOver : Ending → List ℕ → ℕ → Bool
-readOver e l i = ends e (getD l (24 * i + 16) 0) (getD l (24 * i + 16 + 1) 0)
-
 -- of the words p, with `held` open commands, the words q are made: the first i commands are looked at, `kept` of them stay
 pub record Dropping (e : Ending) (held : ℕ) (p q : List ℕ) (i kept : ℕ) : Type 0 where
   pub count : held ≡ headOf p .held
@@ -137,7 +138,7 @@ pub record Dropping (e : Ending) (held : ℕ) (p q : List ℕ) (i kept : ℕ) : 
   pub same-long : length q ≡ length p
   pub head : headOf q ≡ headOf p
   pub in-count : i ≤ held
-  pub small : held ≤ 16
+  pub small : held ≤ mostSlots
   pub behind : kept ≤ i
   pub ahead : drop i (slots q) ≡ drop i (slots p)
   pub done : take kept (slots q) ++ without (over e) (drop i (opens p)) ≡ without (over e) (opens p)
@@ -164,21 +165,16 @@ module _ (e : Ending) (held : ℕ) (p q : List ℕ) (i kept : ℕ) (D : Dropping
       let g : i < headOf p .held = omega (arith, D .count) in
       head-same (slots q) (slots p) i noSlot (D .ahead) ∙ sym (getD-take (headOf p .held) (slots p) i noSlot g)
 
-  -- they are those of the command
-  test : {b : Bool} → readOver e q i ≡ b → over e (getD (opens p) i noSlot) ≡ b
-  test t =
-      let g : i < 16 = omega (arith, D .small) in
-      ap (over e) (sym this)
-      ∙ ap (λ (n : ℕ). ends e n (getD (slots q) i noSlot .lun)) (slot-tag q i g)
-      ∙ ap (ends e (getD q (24 * i + 16) 0)) (slot-lun q i g)
-      ∙ t
+  -- whether it ends, by the request that was read
+  test : {b : Bool} (r : Request) → r ≡ getD (slots q) i noSlot .request → ends e r ≡ b → over e (getD (opens p) i noSlot) ≡ b
+  test r is t = ap (over e) (sym this) ∙ ap (ends e) (sym is) ∙ t
 
   inside : i < length (opens p)
   inside = omega (arith, opens-long p, D .count)
 
   -- this one ends
-  pub drop-ended : readOver e q i ≡ true → Dropping e held p q (i + 1) kept
-  drop-ended t =
+  pub drop-ended : (r : Request) → r ≡ getD (slots q) i noSlot .request → ends e r ≡ true → Dropping e held p q (i + 1) kept
+  drop-ended r is t =
       record {
         count = D .count;
         long = D .long;
@@ -188,13 +184,14 @@ module _ (e : Ending) (held : ℕ) (p q : List ℕ) (i kept : ℕ) (D : Dropping
         small = D .small;
         behind = omega (arith, D .behind);
         ahead = tail-same (slots q) (slots p) i (D .ahead);
-        done = rw (← goes (over e) (opens p) i noSlot inside (test t)) (D .done);
+        done = rw (← goes (over e) (opens p) i noSlot inside (test r is t)) (D .done);
       }
 
   -- this one stays, moved up
-  pub drop-kept : readOver e q i ≡ false → (q′ : List ℕ) → length q′ ≡ length q → SlotMoved q q′ i kept → Dropping e held p q′ (i + 1) (kept + 1)
-  drop-kept t q′ lq M =
-      let k : kept < length (slots q) = omega (arith, slots-long 16 0 q, D .behind, D .small) in
+  pub drop-kept : (r : Request) → r ≡ getD (slots q) i noSlot .request → ends e r ≡ false → (q′ : List ℕ) → length q′ ≡ length q
+      → SlotChanged q q′ kept (λ _. getD (slots q) i noSlot) → Dropping e held p q′ (i + 1) (kept + 1)
+  drop-kept r is t q′ lq M =
+      let k : kept < length (slots q) = omega (arith, slots-long mostSlots 0 q, D .behind, D .small) in
       record {
         count = D .count;
         long = lq ∙ D .long;
@@ -204,14 +201,14 @@ module _ (e : Ending) (held : ℕ) (p q : List ℕ) (i kept : ℕ) (D : Dropping
         small = D .small;
         behind = omega (arith, D .behind);
         ahead = rw (M .slots) (drop-set-lt (i + 1) (slots q) kept (getD (slots q) i noSlot) (omega (arith, D .behind)) ∙ tail-same (slots q) (slots p) i (D .ahead));
-        done = rw (M .slots, add-one kept, take-suc-set (slots q) kept (getD (slots q) i noSlot) k, append-assoc, this, ← stays (over e) (opens p) i noSlot inside (test t)) (D .done);
+        done = rw (M .slots, add-one kept, take-suc-set (slots q) kept (getD (slots q) i noSlot) k, append-assoc, this, ← stays (over e) (opens p) i noSlot inside (test r is t)) (D .done);
       }
 
   -- this one stays where it is
-  pub drop-unmoved : readOver e q i ≡ false → i ≤ kept → Dropping e held p q (i + 1) (kept + 1)
-  drop-unmoved t g =
+  pub drop-unmoved : (r : Request) → r ≡ getD (slots q) i noSlot .request → ends e r ≡ false → i ≤ kept → Dropping e held p q (i + 1) (kept + 1)
+  drop-unmoved r is t g =
       let k : kept ≡ i = omega (arith, D .behind) in
-      drop-kept t q refl (record { slots = rw k (sym (set-getD (slots q) i noSlot)); head = refl })
+      drop-kept r is t q refl (record { slots = rw k (sym (set-getD (slots q) i noSlot)); head = refl })
 
 module _ (e : Ending) (held : ℕ) (p q : List ℕ) (i kept : ℕ) (D : Dropping e held p q i kept) (end : held ≤ i) where
   stay : take kept (slots q) ≡ without (over e) (opens p)
@@ -220,17 +217,18 @@ module _ (e : Ending) (held : ℕ) (p q : List ℕ) (i kept : ℕ) (D : Dropping
       rw (drop-of-length-le (opens p) o, append-nil) at (D .done)
 
   -- the port without those that ended, its other counts those of the head that was read
-  pub dropped : (h : Head) → h ≡ headOf p → (q′ : List ℕ) → slots q′ ≡ slots q
-      → headOf q′ ≡ countedOf (headOf q) kept (h .wanted) (h .announced) (h .unanswered) → Alters p q′ (withoutEnded e)
-  dropped h is q′ sq hq =
-      let hp : headOf q′ ≡ countedOf (headOf p) kept (headOf p .wanted) (headOf p .announced) (headOf p .unanswered) =
-      hq ∙ ap (λ (x : Head). countedOf x kept (h .wanted) (h .announced) (h .unanswered)) (D .head) ∙ ap (λ (x : Head). countedOf (headOf p) kept (x .wanted) (x .announced) (x .unanswered)) is in
+  pub dropped : (h : Head) → h ≡ headOf p → (q′ : List ℕ) → HeadChanged q q′ (countedOf kept (h .wanted) (h .announced) (h .unanswered)) → Alters p q′ (withoutEnded e)
+  dropped h is q′ H =
+      let hp : headOf q′ ≡ countedOf kept (headOf p .wanted) (headOf p .announced) (headOf p .unanswered) (headOf p) =
+      H .head
+      ∙ ap (countedOf kept (h .wanted) (h .announced) (h .unanswered)) (D .head)
+      ∙ ap (λ (x : Head). countedOf kept (x .wanted) (x .announced) (x .unanswered) (headOf p)) is in
       record {
         live = ap (λ (x : Head). x .live) hp;
         port = λ st.
             ap (λ (x : Head). openPort x (slots q′) st) hp
             ∙ ap (λ (cs : List Open). withHeld (shown p st) (headOf p .announced) cs)
-            (ap (λ (cs : List Slot). map (openOf st) (take kept cs)) sq
+            (ap (λ (cs : List Slot). map (openOf st) (take kept cs)) (H .slots)
             ∙ ap (map (openOf st)) stay
-            ∙ sym (without-map (openOf st) (λ (c : Open). ends e (c .tag) (c .lun)) (opens p)));
+            ∙ sym (without-map (openOf st) (λ (c : Open). ends e (c .request)) (opens p)));
       }

@@ -7,7 +7,8 @@ use Prim.Native.Nat.{ℕ}
 use lib.ListN.{length, length-map}
 use borrow.Author.Tests.{not-true, not-false}
 use Rattle.srp.specs.Credit.{Port}
-use Rattle.words.specs.View.{headOf, HeadIs, opens, openOf, view}
+use Rattle.words.specs.Head.{headOf, HeadIs}
+use Rattle.words.specs.View.{opens, openOf, view}
 use Rattle.words.specs.declared.Head.{Head}
 use Rattle.words.proofs.Ports.{while-open, view-live, opens-long}
 
@@ -47,5 +48,5 @@ module _ {l : List ℕ} {h : Head} (G : HeadIs l h) where
       unanswered-is = ap (λ (p : Port). p .unanswered) (while-open l st e) ∙ sym (ap (λ (x : Head). x .unanswered) (G .whole))
 
       -- LOSOLNT
-      pub losolnt-is : view l st .losolnt ≡ h .losolnt
-      losolnt-is = ap (λ (p : Port). p .losolnt) (while-open l st e) ∙ sym (ap (λ (x : Head). x .losolnt) (G .whole))
+      pub losolnt-is : view l st .terms .losolnt ≡ h .terms .losolnt
+      losolnt-is = ap (λ (p : Port). p .terms .losolnt) (while-open l st e) ∙ sym (ap (λ (x : Head). x .terms .losolnt) (G .whole))

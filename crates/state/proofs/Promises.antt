@@ -16,19 +16,21 @@ use Rattle.srp.specs.declared.Refusal.{Refusal}
 use Rattle.srp.specs.declared.Reply.{Reply}
 use Rattle.srp.specs.declared.Reply.the-variants.{Refused}
 use Rattle.srp.specs.declared.Answer.{Answer}
-use Rattle.words.specs.View.{headOf, slots, noSlot, SlotIs, SlotChanged, openOf, openPort, shown, view, closedWords}
+use Rattle.words.specs.Slots.{slots, noSlot, SlotIs}
+use Rattle.words.specs.Head.{headOf, SlotChanged}
+use Rattle.words.specs.View.{openOf, openPort, shown, view, closedWords}
 use Rattle.words.specs.declared.Head.{Head}
 use Rattle.words.specs.declared.Slot.{Slot}
 use Rattle.words.proofs.Ports.{while-open}
 use Rattle.state.specs.Changes.{FoundAt, FoundIs, Alters, Settled, withoutEnded, afterUse}
-use Rattle.state.specs.Promises.{Replies, Answers}
+use Rattle.state.specs.Promises.{RepliesAs, AnswersAs}
 use Rattle.state.specs.declared.Ending.{Ending}
 use Rattle.state.specs.declared.Found.the-variants.{Nothing}
 
 -- ── a call without a lent message buffer
 
 -- a refusal alters nothing
-pub refused : (l st : List ℕ) (f : Refusal) → Replies l st l st (Refused f) (silent (view l st) (Refused f))
+pub refused : (l st : List ℕ) (f : Refusal) → RepliesAs l st l st (Refused f) (silent (view l st) (Refused f))
 refused l st f = record { reply = refl; port = refl; wrote = refl; raw = λ e. (refl, refl) }
 
 -- without a refusal there is none to answer for
@@ -37,17 +39,17 @@ unrefused r n e = absurd (e (rw (n, returned) refl))
 
 module _ {l st l′ st′ : List ℕ} {r : Reply} where
   -- a definition's outcome by what it comes to
-  pub replies-by : {o o′ : Outcome} → o ≡ o′ → Replies l st l′ st′ r o′ → Replies l st l′ st′ r o
-  replies-by e R = subst (λ (x : Outcome). Replies l st l′ st′ r x) (sym e) R
+  pub replies-by : {o o′ : Outcome} → o ≡ o′ → RepliesAs l st l′ st′ r o′ → RepliesAs l st l′ st′ r o
+  replies-by e R = subst (λ (x : Outcome). RepliesAs l st l′ st′ r x) (sym e) R
 
   -- a call that refuses nothing
-  pub performed : {o : Outcome} → r ≡ o .reply → view l′ st′ ≡ o .port → o .wrote ≡ [] → refusalIn r ≡ none → Replies l st l′ st′ r o
+  pub performed : {o : Outcome} → r ≡ o .reply → view l′ st′ ≡ o .port → o .wrote ≡ [] → refusalIn r ≡ none → RepliesAs l st l′ st′ r o
   performed e p w n = record { reply = e; port = p; wrote = w; raw = λ q. unrefused r n q }
 
 -- ── a call with a lent message buffer
 
 -- a refusal without a message alters nothing
-pub unaltered : (l st b : List ℕ) (f : Refusal) (r : Answer) → r ≡ refusing f → Answers l st b l st b r (silent (view l st) (Refused f))
+pub unaltered : (l st b : List ℕ) (f : Refusal) (r : Answer) → r ≡ refusing f → AnswersAs l st b l st b r (silent (view l st) (Refused f))
 unaltered l st b f r e = record { answer = e; port = refl; buffer = refl; raw = λ x y. (refl, refl); closed = λ o c. absurd (true≢false (sym o ∙ c)) }
 
 -- a channel that is open or closed as before is not closed by the call
@@ -56,33 +58,33 @@ stays p p′ q e k t f = absurd (true≢false (sym t ∙ sym k ∙ ap (λ (x : P
 
 module _ {l st b l′ st′ b′ : List ℕ} {r : Answer} where
   -- a definition's outcome by what it comes to
-  pub answers-by : {o o′ : Outcome} → o ≡ o′ → Answers l st b l′ st′ b′ r o′ → Answers l st b l′ st′ b′ r o
-  answers-by e A = subst (λ (x : Outcome). Answers l st b l′ st′ b′ r x) (sym e) A
+  pub answers-by : {o o′ : Outcome} → o ≡ o′ → AnswersAs l st b l′ st′ b′ r o′ → AnswersAs l st b l′ st′ b′ r o
+  answers-by e A = subst (λ (x : Outcome). AnswersAs l st b l′ st′ b′ r x) (sym e) A
 
   module _ {o : Outcome} (e : r ≡ answerOf o) (p : view l′ st′ ≡ o .port) (w : b′ ≡ placed (o .wrote) b) where
-    wrote-by : 0 < sizeOf (o .wrote) → (view l st .live ≡ true → view l′ st′ .live ≡ false → l′ ≡ closedWords) → Answers l st b l′ st′ b′ r o
+    wrote-by : 0 < sizeOf (o .wrote) → (view l st .live ≡ true → view l′ st′ .live ≡ false → l′ ≡ closedWords) → AnswersAs l st b l′ st′ b′ r o
     wrote-by n k =
         let z : r .wrote ≡ sizeOf (o .wrote) = ap (λ (a : Answer). a .wrote) e in
         record { answer = e; port = p; buffer = w; raw = λ x y. let q : ⊥ = omega arith in absurd q; closed = k }
 
-    accepted-by : refusalIn (o .reply) ≡ none → (view l st .live ≡ true → view l′ st′ .live ≡ false → l′ ≡ closedWords) → Answers l st b l′ st′ b′ r o
+    accepted-by : refusalIn (o .reply) ≡ none → (view l st .live ≡ true → view l′ st′ .live ≡ false → l′ ≡ closedWords) → AnswersAs l st b l′ st′ b′ r o
     accepted-by n k =
         record { answer = e; port = p; buffer = w; raw = λ x y. unrefused (r .reply) (ap (λ (a : Answer). refusalIn (a .reply)) e ∙ n) x; closed = k }
 
     -- a call that writes a message, the channel open or closed as before
-    pub wrote : 0 < sizeOf (o .wrote) → o .port .live ≡ view l st .live → Answers l st b l′ st′ b′ r o
+    pub wrote : 0 < sizeOf (o .wrote) → o .port .live ≡ view l st .live → AnswersAs l st b l′ st′ b′ r o
     wrote n k = wrote-by n (stays (view l st) (view l′ st′) (o .port) p k)
 
     -- a call that writes a message and closes the channel
-    pub wrote-closed : 0 < sizeOf (o .wrote) → l′ ≡ closedWords → Answers l st b l′ st′ b′ r o
+    pub wrote-closed : 0 < sizeOf (o .wrote) → l′ ≡ closedWords → AnswersAs l st b l′ st′ b′ r o
     wrote-closed n k = wrote-by n (λ t f. k)
 
     -- a call that refuses nothing, the channel open or closed as before
-    pub accepted : refusalIn (o .reply) ≡ none → o .port .live ≡ view l st .live → Answers l st b l′ st′ b′ r o
+    pub accepted : refusalIn (o .reply) ≡ none → o .port .live ≡ view l st .live → AnswersAs l st b l′ st′ b′ r o
     accepted n k = accepted-by n (stays (view l st) (view l′ st′) (o .port) p k)
 
     -- a call that refuses nothing and closes the channel
-    pub accepted-closed : refusalIn (o .reply) ≡ none → l′ ≡ closedWords → Answers l st b l′ st′ b′ r o
+    pub accepted-closed : refusalIn (o .reply) ≡ none → l′ ≡ closedWords → AnswersAs l st b l′ st′ b′ r o
     accepted-closed n k = accepted-by n (λ t f. k)
 
 -- ── changes of the open port

@@ -9,7 +9,11 @@ use lib.ListN.{take, getD, set}
 use Rattle.srp.specs.Lists.{find, change, without}
 use Rattle.srp.specs.Credit.{Open, Port, due, withHeld}
 use Rattle.srp.specs.Take.{aborts, hasTag}
-use Rattle.words.specs.View.{headOf, slots, noSlot, opens, openOf, shown}
+use Rattle.srp.specs.declared.Request.{Request}
+use Rattle.words.specs.Sizes.{mostSlots}
+use Rattle.words.specs.Slots.{slots, noSlot}
+use Rattle.words.specs.Head.{headOf}
+use Rattle.words.specs.View.{opens, openOf, shown}
 use Rattle.words.specs.declared.Slot.{Slot}
 use Rattle.state.specs.declared.Found.{Found}
 use Rattle.state.specs.declared.Found.the-variants.{At, Nothing}
@@ -18,13 +22,13 @@ use Rattle.state.specs.declared.Ending.the-variants.{Finished, Aborted}
 
 -- ── commands that end
 
-abbrev pub ends : Ending → ℕ → ℕ → Bool
-ends (Finished t) tag lun = eqb t tag
-ends (Aborted t) tag lun = aborts t tag lun
+-- whether the command that came as a request ends
+abbrev pub ends : Ending → Request → Bool
+ends (Finished tag) r = eqb tag (r .tag)
+ends (Aborted t) r = aborts t r
 
--- whether the command in a slot ends
 abbrev pub over : Ending → Slot → Bool
-over e c = ends e (c .tag) (c .lun)
+over e c = ends e (c .request)
 
 -- none of the first i open commands ends
 abbrev pub NoneEnds : Ending → List ℕ → ℕ → Type 0
@@ -35,7 +39,8 @@ NoneEnds e l i = (j : ℕ) → j < i → over e (getD (opens l) j noSlot) ≡ fa
 -- slot i has the open command with the tag, whatever the store
 pub record FoundAt (l : List ℕ) (tag i : ℕ) : Type 0 where
   pub inside : i < headOf l .held
-  pub small : i < 16
+  pub small : i < mostSlots
+  pub tagged : getD (slots l) i noSlot .request .tag ≡ tag
   -- the commands before it have other tags
   pub others : NoneEnds (Finished tag) l i
   pub first : (st : List ℕ) → find (hasTag tag) (shown l st .held) ≡ some (openOf st (getD (slots l) i noSlot))
@@ -55,7 +60,7 @@ pub record Alters (l l′ : List ℕ) (f : Port → Port) : Type 0 where
   pub port : (st : List ℕ) → shown l′ st ≡ f (shown l st)
 
 abbrev pub withoutEnded : Ending → Port → Port
-withoutEnded e p = withHeld p (p .announced) (without (λ (c : Open). ends e (c .tag) (c .lun)) (p .held))
+withoutEnded e p = withHeld p (p .announced) (without (λ (c : Open). ends e (c .request)) (p .held))
 
 -- so many announced buffers less
 abbrev pub afterUse : ℕ → Port → Port

@@ -1,15 +1,18 @@
 // What changes an open port: its credit, a credit request unanswered, the commands that end; and the search for a tag.
 // Each change is said of the port that the words show, for every store: none of these touches the store.
+use srp::Request;
 use srp::TaskRequest;
 use words::HEAD;
 use words::SLOT;
+use words::commands;
 ghost use mathlib.Core.Path.{_≡_};
 ghost use mathlib.Core.Bool.{Bool};
 ghost use Prim.Native.Nat.{ℕ, _+_, _-_, _≤_, _<_};
 ghost use lib.ListN.{length};
 ghost use Rattle.srp.specs.Credit.{withWanted, withUnanswered};
-ghost use Rattle.srp.specs.Take.{wholeLun};
-ghost use Rattle.words.specs.View.{portWords, headOf};
+ghost use Rattle.srp.specs.Limits.{mostBuffers};
+ghost use Rattle.words.specs.Sizes.{portWords};
+ghost use Rattle.words.specs.Head.{headOf};
 ghost use Rattle.state.specs.Changes.{FoundIs, ends, NoneEnds, withoutEnded, Alters, Settled};
 
 // Where the open command with a tag stands.
@@ -23,15 +26,6 @@ pub enum Ending {
     Finished(u64),
     Aborted(TaskRequest),
 }
-
-// Functions of a task request: the first aborts one command, the others every command of their LUN.
-pub const ABORT_TASK: u8 = 0x01;
-
-const ABORT_TASK_SET: u8 = 0x02;
-
-const CLEAR_TASK_SET: u8 = 0x04;
-
-const LOGICAL_UNIT_RESET: u8 = 0x08;
 
 // The open command with a tag.
 pub fn find(s: &[u64], tag: u64) -> Found
@@ -50,43 +44,12 @@ pub fn find(s: &[u64], tag: u64) -> Found
     Found::Nothing
 }
 
-// Whether a function aborts every command of its LUN.
-pub fn whole_lun(function: u8) -> bool
-    ensures { λ r. ⌜ r ≡ wholeLun function ⌝ }
-{
-    if function == ABORT_TASK_SET {
-        return true;
-    }
-    if function == CLEAR_TASK_SET {
-        return true;
-    }
-    function == LOGICAL_UNIT_RESET
-}
-
-fn aborts(t: TaskRequest, tag: u64, lun: u64) -> bool
-    ensures { λ r. ⌜ r ≡ Rattle.srp.specs.Take.aborts t tag lun ⌝ }
-{
-    let of = t.lun;
-    let function = t.function;
-    let managed = t.managed;
-    if of != lun {
-        return false;
-    }
-    if whole_lun(function) {
-        return true;
-    }
-    if function != ABORT_TASK {
-        return false;
-    }
-    managed == tag
-}
-
-fn ended(which: Ending, tag: u64, lun: u64) -> bool
-    ensures { λ r. ⌜ r ≡ ends which tag lun ⌝ }
+fn ended(which: Ending, r: Request) -> bool
+    ensures { λ b. ⌜ b ≡ ends which r ⌝ }
 {
     match which {
-        Ending::Finished(of) => of == tag,
-        Ending::Aborted(t) => aborts(t, tag, lun),
+        Ending::Finished(tag) => tag == r.tag,
+        Ending::Aborted(t) => task::aborts(t, r),
     }
 }
 
@@ -103,10 +66,10 @@ pub fn drop_commands(s: &mut [u64], first: usize, which: Ending)
     let mut i = first;
     let mut kept = first;
     while i < held {
-        let at = SLOT * i + HEAD;
-        if !ended(which, s[at], s[at + 1]) {
+        let r = commands::load_request(s, i);
+        if !ended(which, r) {
             if kept < i {
-                words::move_slot(s, i, kept);
+                commands::move_slot(s, i, kept);
             }
             kept += 1;
         }
@@ -117,7 +80,7 @@ pub fn drop_commands(s: &mut [u64], first: usize, which: Ending)
 
 // D, or 0 where it is negative.
 fn due(wanted: u8, announced: u8, held: usize) -> u8
-    requires { ⌜ announced + held ≤ 16 ⌝ }
+    requires { ⌜ announced + held ≤ mostBuffers ⌝ }
     ensures { λ r. ⌜ r ≡ wanted - (announced + held) ⌝ }
 {
     let used = announced + (held as u8);
@@ -141,7 +104,7 @@ pub fn settle(s: &mut [u64], used: u8) -> u32
 pub fn set_wanted(s: &mut [u64], wanted: u8)
     requires { ⌜ length (now s) ≡ portWords ⌝ }
     requires { ⌜ 1 ≤ wanted ⌝ }
-    requires { ⌜ wanted ≤ 16 ⌝ }
+    requires { ⌜ wanted ≤ mostBuffers ⌝ }
     ensures { λ _. ⌜ Alters (now (s .entry)) (now (s .exit)) (λ p. withWanted p wanted) ⌝ }
 {
     let h = words::get_head(s);

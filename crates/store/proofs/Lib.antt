@@ -1,2 +1,2 @@
 pub mod Marks
-pub mod Lists
+pub mod Entering

@@ -11,7 +11,10 @@ use lib.ListN.{length, getD, drop, set, length-set}
 use lib.Seq.{drop-cons, getD-take, getD-set-same}
 use Rattle.srp.specs.Bytes.{bit}
 use Rattle.words.specs.declared.Slot.{Slot}
-use Rattle.words.specs.View.{headOf, slots, opens, noSlot}
+use Rattle.words.specs.Sizes.{mostSlots}
+use Rattle.words.specs.Slots.{slots, noSlot}
+use Rattle.words.specs.Head.{headOf}
+use Rattle.words.specs.View.{opens}
 use Rattle.words.proofs.Ports.{opens-long, slot-fits}
 use Rattle.store.specs.Places.{trues, Marked, Free}
 
@@ -36,7 +39,7 @@ true-stays (b ∷ bs) (suc k) (suc j) h = true-stays bs k j h
 pub record Marking (l : List ℕ) (n : ℕ) (f : List Bool) (i : ℕ) : Type 0 where
   pub count : n ≡ headOf l .held
   pub in-count : i ≤ n
-  pub long : length f ≡ 16
+  pub long : length f ≡ mostSlots
   pub few : trues f ≤ i
   pub marks : (j : ℕ) → j < i → getD f (getD (slots l) j noSlot .place) false ≡ true
 
@@ -45,7 +48,7 @@ module _ (l : List ℕ) (n : ℕ) (f : List Bool) (i : ℕ) (K : Marking l n f i
   pub mark-more : i < n → (c : Slot) → c ≡ getD (slots l) i noSlot → Marking l n (set f (c .place) true) (i + 1)
   mark-more h c e =
       let k = getD (slots l) i noSlot .place in
-      let small : k < 16 = slot-fits l i (omega (arith, K .count)) .place in
+      let small : k < mostSlots = slot-fits l i (omega (arith, K .count)) .place in
       rw e
       (record {
         count = K .count;
@@ -77,12 +80,12 @@ pub bit-is : (b : Bool) → b ≡ true → bit b ≡ 1
 bit-is b h = rw h refl
 
 -- while the first k places are all used: one place further, with that place's own mark counted
-pub trues-step : (f : List Bool) → length f ≡ 16 → (k : ℕ) → k + trues (drop k f) ≡ trues f → k < 16 → (d : Bool)
+pub trues-step : (f : List Bool) → length f ≡ mostSlots → (k : ℕ) → k + trues (drop k f) ≡ trues f → k < mostSlots → (d : Bool)
     → k + (bit (getD f k d) + trues (drop (k + 1) f)) ≡ trues f
 unfolding trues
 trues-step f long k inv h d = let g : k < length f = omega arith in rw add-one (rw (drop-cons f k d) at inv)
 
 -- a place that is not marked is free
-pub free-at : (l : List ℕ) (f : List Bool) (k : ℕ) → Marked (opens l) f → k < 16 → getD f k false ≡ false → Free (opens l) k
+pub free-at : (l : List ℕ) (f : List Bool) (k : ℕ) → Marked (opens l) f → k < mostSlots → getD f k false ≡ false → Free (opens l) k
 free-at l f k M h e =
     record { small = h; apart = λ j q u. let z : _≡_ {A = ℕ} 0 1 = ap bit (sym e ∙ ap (λ (x : ℕ). getD f x false) (sym u) ∙ M .marks j q) in omega arith }

@@ -6,10 +6,16 @@ use Prim.Native.Nat.{ℕ, _+_, _-_, _≤_, _<_, _%_}
 use lib.ListN.{length, getD}
 use Rattle.srp.specs.Bytes.{bit}
 use Rattle.srp.specs.Descriptors.{segmentsOf}
+use Rattle.srp.specs.Both.{Both}
 use Rattle.srp.specs.Credit.{Side, Open, Port, withHeld}
-use Rattle.words.specs.View.{noSlot, headOf, shown}
+use Rattle.srp.specs.Limits.{longestTable}
+use Rattle.srp.specs.declared.Request.{Request}
+use Rattle.words.specs.Sizes.{mostSlots}
+use Rattle.words.specs.Slots.{noSlot}
+use Rattle.words.specs.Head.{headOf}
+use Rattle.words.specs.View.{shown}
+use Rattle.words.specs.declared.Part.{Part}
 use Rattle.words.specs.declared.Slot.{Slot}
-use Rattle.store.specs.declared.Fresh.{Fresh}
 
 -- how many are true
 unfoldable pub trues : List Bool → ℕ
@@ -20,51 +26,38 @@ trues (b ∷ bs) = bit b + trues bs
 pub record Marked (l : List Slot) (f : List Bool) : Type 0 where
   pub marks : (j : ℕ) → j < length l → getD f (getD l j noSlot .place) false ≡ true
   pub few : trues f ≤ length l
-  pub long : length f ≡ 16
+  pub long : length f ≡ mostSlots
 
 -- no slot of l uses place k
 pub record Free (l : List Slot) (k : ℕ) : Type 0 where
-  pub small : k < 16
+  pub small : k < mostSlots
   pub apart : (j : ℕ) → j < length l → getD l j noSlot .place ≡ k → ⊥
 
 -- up to 32 memory descriptors
 pub record Segments (l : List ℕ) : Type 0 where
-  pub short : length l ≤ 512
+  pub short : length l ≤ longestTable
   pub whole : length l % 16 ≡ 0
 
-abbrev pub freshSlot : Fresh → ℕ → ℕ → ℕ → Slot
-freshSlot f place out inn =
-    record {
-      tag = f .tag;
-      lun = f .lun;
-      ucsolnt = f .ucsolnt;
-      scsolnt = f .scsolnt;
-      planned = false;
-      place = place;
-      out = record { segments = out; total = f .out; required = 0; handed = 0 };
-      inn = record { segments = inn; total = f .inn; required = 0; handed = 0 };
-    }
+-- a direction with so many segments, of which nothing was planned or handed out
+abbrev pub newPart : ℕ → ℕ → Part
+newPart segments total = record { segments = segments; total = total; transfer = record { required = 0; handed = 0 } }
 
-abbrev pub freshSide : ℕ → List ℕ → Side
-freshSide total list = record { segs = segmentsOf list; total = total; required = 0; handed = 0 }
+-- a new command at a place of the store
+abbrev pub newSlot : Request → ℕ → Part → Part → Slot
+newSlot r place out inn = record { request = r; planned = false; place = place; out = out; inn = inn }
 
--- the command, with its memory descriptors each way
-abbrev pub freshOpen : Fresh → List ℕ → List ℕ → Open
-freshOpen f out inn =
-    record {
-      tag = f .tag;
-      lun = f .lun;
-      ucsolnt = f .ucsolnt;
-      scsolnt = f .scsolnt;
-      planned = false;
-      out = freshSide (f .out) out;
-      inn = freshSide (f .inn) inn;
-    }
+-- with its memory descriptors and B each way, as the port has it
+abbrev pub enteredSide : ℕ → List ℕ → Side
+enteredSide total list = record { extent = record { segs = segmentsOf list; total = total }; transfer = record { required = 0; handed = 0 } }
+
+abbrev pub enteredOpen : Request → Both Side → Open
+enteredOpen r sides = record { request = r; planned = false; sides = sides }
 
 -- one announced buffer less, one command more
-abbrev pub oneMore : Open → Port → Port
-oneMore c p = withHeld p (p .announced - 1) (p .held ++ (c ∷ []))
+abbrev pub withOneMore : Open → Port → Port
+withOneMore c p = withHeld p (p .announced - 1) (p .held ++ (c ∷ []))
 
-pub record Entered (l st l′ st′ : List ℕ) (f : Fresh) (out inn : List ℕ) : Type 0 where
+-- the command r is entered, with B and the memory descriptors of each direction
+pub record Entered (l st l′ st′ : List ℕ) (r : Request) (outTotal : ℕ) (out : List ℕ) (inTotal : ℕ) (inn : List ℕ) : Type 0 where
   pub live : headOf l′ .live ≡ headOf l .live
-  pub port : shown l′ st′ ≡ oneMore (freshOpen f out inn) (shown l st)
+  pub port : shown l′ st′ ≡ withOneMore (enteredOpen r (record { out = enteredSide outTotal out; inn = enteredSide inTotal inn })) (shown l st)

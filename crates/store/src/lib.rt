@@ -1,38 +1,37 @@
 // A new command: a slot behind the open ones, and its memory descriptors at a place of the store that no open command uses.
+use srp::Request;
+use srp::Transfer;
 use wire::layout::SEGMENT;
 use words::LIST;
 use words::PLACE;
 use words::Part;
+use words::SLOTS;
 use words::Slot;
+use words::commands;
 ghost use mathlib.Core.Path.{_≡_};
 ghost use mathlib.Core.Bool.{Bool, false};
 ghost use Prim.Native.Nat.{ℕ, _+_, _*_, _/_, _≤_, _<_};
 ghost use lib.ListN.{length, getD};
 ghost use lib.Seq.{paste};
-ghost use Rattle.words.specs.View.{portWords, storeSize, headOf, opens};
-ghost use Rattle.store.specs.Places.{trues, Marked, Free, Segments, Entered};
+ghost use Rattle.words.specs.Sizes.{portWords, mostSlots, storeSize};
+ghost use Rattle.words.specs.Head.{headOf};
+ghost use Rattle.words.specs.View.{opens};
+ghost use Rattle.store.specs.Places.{trues, Marked, Free, Segments, newPart, newSlot, Entered};
 
-// What a message says of a new command; B of each direction.
-pub struct Fresh {
-    pub tag: u64,
-    pub lun: u64,
-    pub ucsolnt: bool,
-    pub scsolnt: bool,
-    pub out: u32,
-    pub inn: u32,
-}
+// The last place.
+const LAST: usize = SLOTS - 1;
 
 // Which places the open commands use.
-fn places(s: &[u64]) -> [bool; 16]
+fn places(s: &[u64]) -> [bool; SLOTS]
     requires { ⌜ length (now s) ≡ portWords ⌝ }
     ensures { λ r. ⌜ Marked (opens (now (s .entry))) r ⌝ }
 {
     let h = words::get_head(s);
     let held = h.held;
-    let mut used = [false; 16];
+    let mut used = [false; SLOTS];
     let mut i: usize = 0;
     while i < held {
-        let c = words::load(s, i);
+        let c = commands::load(s, i);
         let k = c.place as usize;
         used[k] = true;
         i += 1;
@@ -41,12 +40,12 @@ fn places(s: &[u64]) -> [bool; 16]
 }
 
 // The first place that is not used.
-fn first_free(used: [bool; 16]) -> usize
-    requires { ⌜ trues used < 16 ⌝ }
-    ensures { λ r. ⌜ (r < 16) × (getD used r false ≡ false) ⌝ }
+fn first_free(used: [bool; SLOTS]) -> usize
+    requires { ⌜ trues used < mostSlots ⌝ }
+    ensures { λ r. ⌜ (r < mostSlots) × (getD used r false ≡ false) ⌝ }
 {
     let mut k: usize = 0;
-    while k < 15 {
+    while k < LAST {
         if !used[k] {
             return k;
         }
@@ -58,7 +57,7 @@ fn first_free(used: [bool; 16]) -> usize
 // A place that no open command uses.
 fn free_place(s: &[u64]) -> usize
     requires { ⌜ length (now s) ≡ portWords ⌝ }
-    requires { ⌜ headOf (now s) .held < 16 ⌝ }
+    requires { ⌜ headOf (now s) .held < mostSlots ⌝ }
     ensures { λ r. ⌜ Free (opens (now (s .entry))) r ⌝ }
 {
     let used = places(s);
@@ -70,62 +69,56 @@ fn put_bytes(to: &mut [u8], at: usize, from: &[u8])
     requires { ⌜ at + length (now from) ≤ length (now to) ⌝ }
     ensures { λ _. ⌜ now (to .exit) ≡ paste (now (to .entry)) at (now (from .entry)) (length (now (from .entry))) ⌝ }
 {
-    let mut j: usize = 0;
-    while j < from.len() {
-        to[at + j] = from[j];
-        j += 1;
-    }
+    let end = at + from.len();
+    bytes::copy(from, &mut to[at..end]);
 }
 
-// A direction of which nothing was planned or handed out.
-fn fresh_part(total: u32, segments: u8) -> Part
-    ensures { λ r. ⌜ r ≡ record { segments = segments; total = total; required = 0; handed = 0 } ⌝ }
+// A direction with so many segments, of which nothing was planned or handed out.
+fn new_part(segments: u8, total: u32) -> Part
+    ensures { λ r. ⌜ r ≡ newPart segments total ⌝ }
 {
+    let none = Transfer {
+        required: 0,
+        handed: 0,
+    };
     Part {
         segments: segments,
         total: total,
-        required: 0,
-        handed: 0,
-    }
-}
-
-// The slot of a new command.
-fn fresh_slot(f: Fresh, place: u8, out: u8, inn: u8) -> Slot
-    ensures { λ r. ⌜ r ≡ Rattle.store.specs.Places.freshSlot f place out inn ⌝ }
-{
-    let o = fresh_part(f.out, out);
-    let i = fresh_part(f.inn, inn);
-    Slot {
-        tag: f.tag,
-        lun: f.lun,
-        ucsolnt: f.ucsolnt,
-        scsolnt: f.scsolnt,
-        planned: false,
-        place: place,
-        out: o,
-        inn: i,
+        transfer: none,
     }
 }
 
 // One command more, one announced buffer less.
-pub fn enter(s: &mut [u64], store: &mut [u8], f: Fresh, out: &[u8], inn: &[u8])
+pub fn enter(
+    s: &mut [u64],
+    store: &mut [u8],
+    r: Request,
+    out_total: u32,
+    in_total: u32,
+    out: &[u8],
+    inn: &[u8],
+)
     requires { ⌜ length (now s) ≡ portWords ⌝ }
     requires { ⌜ length (now store) ≡ storeSize ⌝ }
     requires { ⌜ 0 < headOf (now s) .announced ⌝ }
     requires { ⌜ Segments (now out) × Segments (now inn) ⌝ }
-    ensures { λ _. ⌜ Entered (now (s .entry)) (now (store .entry)) (now (s .exit)) (now (store .exit)) f (now (out .entry)) (now (inn .entry)) ⌝ }
+    ensures { λ _. ⌜ Entered (now (s .entry)) (now (store .entry)) (now (s .exit)) (now (store .exit)) r
+        «out_total» (now (out .entry)) «in_total» (now (inn .entry)) ⌝ }
 {
     let h = words::get_head(s);
     let held = h.held;
     let k = free_place(s);
     put_bytes(&mut *store, k * PLACE, out);
     put_bytes(store, k * PLACE + LIST, inn);
-    let c = fresh_slot(
-        f,
-        k as u8,
-        (out.len() / SEGMENT) as u8,
-        (inn.len() / SEGMENT) as u8,
-    );
-    words::save(&mut *s, held, c);
+    let o = new_part((out.len() / SEGMENT) as u8, out_total);
+    let i = new_part((inn.len() / SEGMENT) as u8, in_total);
+    let c = Slot {
+        request: r,
+        planned: false,
+        place: k as u8,
+        out: o,
+        inn: i,
+    };
+    commands::save(&mut *s, held, c);
     words::set_counts(s, held + 1, h.wanted, h.announced - 1, h.unanswered);
 }

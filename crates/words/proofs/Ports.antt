@@ -4,13 +4,16 @@ use mathlib.Core.Path.{_≡_, refl, _∙_, ap}
 use mathlib.Core.Bool.{Bool, true, false, cond}
 use mathlib.Core.List.{List}
 use mathlib.Core.Logic.{_⊎_, inl, inr}
-use Prim.Native.Nat.{ℕ, zero, suc, _+_, _*_, _<_}
+use Prim.Native.Nat.{ℕ, zero, suc, _<_}
 use native.Mathlib.Omega.{arith}
 use lib.ListN.{length, getD, replicate, length-map}
 use lib.Seq.{length-take-le, getD-take}
 use Rattle.srp.specs.Credit.{closedPort}
 use Rattle.words.specs.declared.Slot.{Slot}
-use Rattle.words.specs.View.{slotOf, SlotFits, region, slots, noSlot, headOf, HeadFits, opens, openOf, shown, view, closedWords, InRanges}
+use Rattle.words.specs.Sizes.{portWords, mostSlots}
+use Rattle.words.specs.Slots.{slotOf, SlotFits, slotAt, region, slots, noSlot}
+use Rattle.words.specs.Head.{headOf, HeadFits}
+use Rattle.words.specs.View.{opens, openOf, shown, view, closedWords, InRanges}
 use Rattle.words.proofs.Slots.{slots-long, slot-at, slot-tag}
 
 -- ── ranges
@@ -20,33 +23,34 @@ pub said-fits : (r : List ℕ) → SlotFits (slotOf r)
 said-fits r = record { place = omega arith; out = omega arith; inn = omega arith }
 
 -- a slot of a port is in its ranges
-pub slot-fits : (l : List ℕ) (i : ℕ) → i < 16 → SlotFits (getD (slots l) i noSlot)
+pub slot-fits : (l : List ℕ) (i : ℕ) → i < mostSlots → SlotFits (getD (slots l) i noSlot)
 slot-fits l i h = rw (slot-at l i h) (said-fits (region l i))
 
 -- so is a head
 pub head-fits : (l : List ℕ) → HeadFits (headOf l)
 head-fits l =
     record {
-      least = omega arith;
-      most = omega arith;
-      room = omega arith;
-      smallest = omega arith;
-      largest = omega arith;
-      shortest = omega arith;
-      longest = omega arith;
-      even = omega arith;
-      formats = omega arith;
+      counts = record { least = omega arith; most = omega arith; room = omega arith };
+      terms =
+          record {
+            smallest = omega arith;
+            largest = omega arith;
+            shortest = omega arith;
+            longest = omega arith;
+            even = omega arith;
+            formats = omega arith;
+          };
     }
 
 -- ── the open commands
 
 -- there are as many as the head says
 pub opens-long : (l : List ℕ) → length (opens l) ≡ headOf l .held
-opens-long l = length-take-le (headOf l .held) (slots l) (omega (arith, slots-long 16 0 l))
+opens-long l = length-take-le (headOf l .held) (slots l) (omega (arith, slots-long mostSlots 0 l))
 
 -- the tag of an open command is its slot's first word
-pub tag-at : (l : List ℕ) (i : ℕ) → i < headOf l .held → getD (opens l) i noSlot .tag ≡ getD l (24 * i + 16) 0
-tag-at l i h = ap (λ (c : Slot). c .tag) (getD-take (headOf l .held) (slots l) i noSlot h) ∙ slot-tag l i (omega arith)
+pub tag-at : (l : List ℕ) (i : ℕ) → i < headOf l .held → getD (opens l) i noSlot .request .tag ≡ getD l (slotAt i) 0
+tag-at l i h = ap (λ (c : Slot). c .request .tag) (getD-take (headOf l .held) (slots l) i noSlot h) ∙ slot-tag l i (omega arith)
 
 -- ── open and closed
 
@@ -75,7 +79,7 @@ zeros-at (suc n) (suc k) = zeros-at n k
 
 -- each of them is 0
 pub closed-word : (k : ℕ) → getD closedWords k 0 ≡ 0
-closed-word k = zeros-at 400 k
+closed-word k = zeros-at portWords k
 
 -- they are the closed port
 pub closed-view : (l st : List ℕ) → l ≡ closedWords → view l st ≡ closedPort
@@ -87,17 +91,7 @@ shown-ranges : (l st : List ℕ) → InRanges (shown l st)
 shown-ranges l st =
     let F : HeadFits (headOf l) = head-fits l in
     let n : length (shown l st .held) ≡ headOf l .held = length-map (opens l) (openOf st) ∙ opens-long l in
-    record {
-      least = F .least;
-      most = F .most;
-      room = rw n (F .room);
-      smallest = F .smallest;
-      largest = F .largest;
-      shortest = F .shortest;
-      longest = F .longest;
-      even = F .even;
-      formats = F .formats;
-    }
+    record { counts = rw n (F .counts); terms = F .terms }
 
 -- the port that any words are is closed, or in document 01's ranges
 pub any-words : (l st : List ℕ) → (view l st ≡ closedPort) ⊎ InRanges (view l st)

@@ -2,21 +2,26 @@
 -- Assumes nothing.
 use mathlib.Core.Path.{_≡_, refl, sym, _∙_, ap}
 use mathlib.Core.Bool.{Bool, true, false}
-use mathlib.Core.List.{List, [], _∷_, _++_, append-assoc, append-nil}
+use mathlib.Core.List.{List, [], _∷_, _++_, append-assoc}
 use mathlib.Core.Logic.{_⊎_, inl, inr, ⊎-elim}
 use Prim.Native.Nat.{ℕ, zero, suc, min, _+_, _-_, _*_, _/_, _%_, _^_, _≤_, _<_}
 use native.Mathlib.Omega.{arith}
 use native.Mathlib.Nat.{add-zero, zero-add, mod-eq-of-lt}
-use lib.ListN.{length, getD, take, drop, set, replicate, take-append-drop, drop-of-length-le}
+use lib.ListN.{length, getD, take, drop, set, take-append-drop}
 use lib.Seq.{paste, drop-paste, drop-cons, drop-drop, drop-at, take-at, length-take-le, take-length, getD-take, getD-drop}
 use mir.Val.{Val}
 use denote.Laws.{Is}
 use Rattle.srp.specs.Bytes.{bit}
-use Rattle.srp.proofs.Fields.{front}
+use Rattle.srp.proofs.FieldLaws.{front}
+use Rattle.words.proofs.Part as part
 use Rattle.words.proofs.Slot.{the-row}
+use Rattle.srp.specs.Limits.{mostCopies}
+use Rattle.words.specs.declared.Part.{Part}
 use Rattle.words.specs.declared.Slot.{Slot}
 use Rattle.words.specs.declared.Head.{Head}
-use Rattle.words.specs.View.{on, slotOf, wordsOf, SlotFits, region, slotsFrom, slots, noSlot, headOf, headWords, HeadFits}
+use Rattle.words.specs.Sizes.{portWords, mostSlots, headSize, slotWords, usedWords}
+use Rattle.words.specs.Slots.{on, slotRequest, slotOf, wordsOf, SlotFits, slotAt, region, slotsFrom, slots, noSlot}
+use Rattle.words.specs.Head.{headOf, headWords, HeadFits, SlotChanged, HeadChanged}
 
 -- ── a list with a part written
 
@@ -56,20 +61,20 @@ slots-at (suc n) i l zero h = rw add-zero refl
 slots-at (suc n) i l (suc j) h = let e : i + 1 + j ≡ i + suc j = omega arith in rw (slots-at n (i + 1) l j (omega arith), e) refl
 
 -- each of the 16 slots is what its words say
-pub slot-at : (l : List ℕ) (i : ℕ) → i < 16 → getD (slots l) i noSlot ≡ slotOf (region l i)
-slot-at l i h = rw zero-add at (slots-at 16 0 l i h)
+pub slot-at : (l : List ℕ) (i : ℕ) → i < mostSlots → getD (slots l) i noSlot ≡ slotOf (region l i)
+slot-at l i h = rw zero-add at (slots-at mostSlots 0 l i h)
 
 -- a slot's words stand from its start on
-pub word-at : (l : List ℕ) (i k : ℕ) → k < 24 → getD (region l i) k 0 ≡ getD l (24 * i + 16 + k) 0
-word-at l i k h = getD-take 24 (drop (24 * i + 16) l) k 0 h ∙ getD-drop (24 * i + 16) l k 0
+pub word-at : (l : List ℕ) (i k : ℕ) → k < slotWords → getD (region l i) k 0 ≡ getD l (slotAt i + k) 0
+word-at l i k h = getD-take slotWords (drop (slotAt i) l) k 0 h ∙ getD-drop (slotAt i) l k 0
 
--- the first two are the command's tag and LUN
-pub slot-tag : (l : List ℕ) (i : ℕ) → i < 16 → getD (slots l) i noSlot .tag ≡ getD l (24 * i + 16) 0
+-- the first are the request, and the first of all its tag
+pub slot-request : (l : List ℕ) (i : ℕ) → i < mostSlots → getD (slots l) i noSlot .request ≡ slotRequest (region l i)
+slot-request l i h = ap (λ (c : Slot). c .request) (slot-at l i h)
+
+pub slot-tag : (l : List ℕ) (i : ℕ) → i < mostSlots → getD (slots l) i noSlot .request .tag ≡ getD l (slotAt i) 0
 slot-tag l i h =
-    ap (λ (c : Slot). c .tag) (slot-at l i h) ∙ word-at l i 0 (omega arith) ∙ ap (λ (k : ℕ). getD l k 0) (add-zero (24 * i + 16))
-
-pub slot-lun : (l : List ℕ) (i : ℕ) → i < 16 → getD (slots l) i noSlot .lun ≡ getD l (24 * i + 16 + 1) 0
-slot-lun l i h = ap (λ (c : Slot). c .lun) (slot-at l i h) ∙ word-at l i 1 (omega arith)
+    ap (λ (c : Slot). c .request .tag) (slot-at l i h) ∙ word-at l i 0 (omega arith) ∙ ap (λ (k : ℕ). getD l k 0) (add-zero (slotAt i))
 
 -- there are as many slots as are asked for
 pub slots-long : (n i : ℕ) (l : List ℕ) → length (slotsFrom n i l) ≡ n
@@ -115,9 +120,9 @@ words-front zero k m l h = refl
 words-front (suc n) k m l h = rw (getD-take m l k 0 (omega arith), words-front n (suc k) m l (omega arith)) refl
 
 -- lists that agree in their first 16 words say the same head
-pub head-same : (l l′ : List ℕ) → take 16 l′ ≡ take 16 l → headOf l′ ≡ headOf l
+pub head-same : (l l′ : List ℕ) → take headSize l′ ≡ take headSize l → headOf l′ ≡ headOf l
 unfolding wordsAt
-head-same l l′ e = ap headOf (sym (words-front 10 0 16 l′ (omega arith)) ∙ ap (wordsAt 10 0) e ∙ words-front 10 0 16 l (omega arith))
+head-same l l′ e = ap headOf (sym (words-front 10 0 headSize l′ (omega arith)) ∙ ap (wordsAt 10 0) e ∙ words-front 10 0 headSize l (omega arith))
 
 -- ── what is written says what was meant
 
@@ -126,36 +131,50 @@ pub on-bit : (b : Bool) → on (bit b) ≡ b
 on-bit true = refl
 on-bit false = refl
 
+-- the numbers of a direction are in their ranges
+part-kept : (p : Part) (vs : List Val) → Is part.the-row p vs → p .segments ≤ mostCopies
+    → (min (p .segments) mostCopies ≡ p .segments)
+    × (p .total % 2 ^ 32 ≡ p .total)
+    × (p .transfer .required % 2 ^ 32 ≡ p .transfer .required)
+    × (p .transfer .handed % 2 ^ 32 ≡ p .transfer .handed)
+part-kept p vs g h =
+    let t = g .1 .1 .1 .1 .0 in (
+      omega arith,
+      mod-eq-of-lt (g .1 .1 .1 .0 .1),
+      mod-eq-of-lt (t .1 .1 .0 .1),
+      mod-eq-of-lt (t .1 .1 .1 .0 .1),
+    )
+
 -- a slot's words say the slot, whatever stands behind them
-decoded : (c : Slot) (vs : List Val) → Is the-row c vs → SlotFits c → (rest : List ℕ) → slotOf (take 24 (wordsOf c ++ rest)) ≡ c
+decoded : (c : Slot) (vs : List Val) → Is the-row c vs → SlotFits c → (rest : List ℕ) → slotOf (take slotWords (wordsOf c ++ rest)) ≡ c
 decoded c vs g F rest =
-    let o = g .1 .1 .1 .1 .1 .1 .1 .1 .0 in
-    let n = g .1 .1 .1 .1 .1 .1 .1 .1 .1 .0 in
-    let o0 : min (c .out .segments) 32 ≡ c .out .segments = omega (arith, F .out) in
-    let o1 : c .out .total < 2 ^ 32 = o .1 .1 .1 .0 .1 in
-    let o2 : c .out .required < 2 ^ 32 = o .1 .1 .1 .1 .0 .1 in
-    let o3 : c .out .handed < 2 ^ 32 = o .1 .1 .1 .1 .1 .0 .1 in
-    let n0 : min (c .inn .segments) 32 ≡ c .inn .segments = omega (arith, F .inn) in
-    let n1 : c .inn .total < 2 ^ 32 = n .1 .1 .1 .0 .1 in
-    let n2 : c .inn .required < 2 ^ 32 = n .1 .1 .1 .1 .0 .1 in
-    let n3 : c .inn .handed < 2 ^ 32 = n .1 .1 .1 .1 .1 .0 .1 in
-    simp (o0, mod-eq-of-lt o1, mod-eq-of-lt o2, mod-eq-of-lt o3, n0, mod-eq-of-lt n1, mod-eq-of-lt n2, mod-eq-of-lt n3, mod-eq-of-lt (F .place), on-bit)
+    let o = part-kept (c .out) _ (g .1 .1 .1 .1 .1 .0) (F .out) in
+    let n = part-kept (c .inn) _ (g .1 .1 .1 .1 .1 .1 .0) (F .inn) in
+    simp (o .0, o .1, o .2, o .3, n .0, n .1, n .2, n .3, mod-eq-of-lt (F .place), on-bit)
 
 -- a head's words say the head
-pub head-put : (l : List ℕ) (h : Head) → HeadFits h → headOf (paste l 0 (headWords h) (length (headWords h))) ≡ h
+head-put : (l : List ℕ) (h : Head) → HeadFits h → headOf (paste l 0 (headWords h) (length (headWords h))) ≡ h
 head-put l h F =
-    let n : min (h .held) 16 ≡ h .held = omega (arith, F .room) in
-    let w : (h .wanted - 1) % 16 + 1 ≡ h .wanted = omega (arith, F .least, F .most) in
-    let a : min (h .announced) (16 - h .held) ≡ h .announced = omega (arith, F .room) in
-    let m : (h .maximum - 1) % 1048576 + 1 ≡ h .maximum = omega (arith, F .smallest, F .largest) in
-    let x : (h .agreed - 64) % 1301 + 64 ≡ h .agreed = omega (arith, F .shortest, F .longest) in
-    let f : h .formats / 2 % 4 * 2 ≡ h .formats = omega (arith, F .formats, F .even) in
+    let C = F .counts in
+    let T = F .terms in
+    let n : min (h .held) 16 ≡ h .held = omega (arith, C .room) in
+    let w : (h .wanted - 1) % 16 + 1 ≡ h .wanted = omega (arith, C .least, C .most) in
+    let a : min (h .announced) (16 - h .held) ≡ h .announced = omega (arith, C .room) in
+    let m : (h .terms .maximum - 1) % 1048576 + 1 ≡ h .terms .maximum = omega (arith, T .smallest, T .largest) in
+    let x : (h .terms .agreed - 64) % 1301 + 64 ≡ h .terms .agreed = omega (arith, T .shortest, T .longest) in
+    let f : h .terms .formats / 2 % 4 * 2 ≡ h .terms .formats = omega (arith, T .formats, T .even) in
     simp (n, w, a, m, x, f, on-bit)
 
--- a head written leaves the slots
-pub head-slots : (l : List ℕ) (ws : List ℕ) → length l ≡ 400 → length ws ≡ 16 → slots (paste l 0 ws (length ws)) ≡ slots l
+-- words written in the head leave the slots
+head-slots : (l : List ℕ) (ws : List ℕ) → length l ≡ portWords → length ws ≤ headSize → slots (paste l 0 ws (length ws)) ≡ slots l
 head-slots l ws long e =
-    slots-same 16 0 l (paste l 0 ws (length ws)) (λ j g. apart l 0 ws (length ws) (omega arith) (omega arith) (24 * j + 16) 24 (inr (omega arith)))
+    slots-same mostSlots 0 l (paste l 0 ws (length ws))
+    (λ j g. apart l 0 ws (length ws) (omega arith) (omega arith) (slotAt j) slotWords (inr (omega arith)))
+
+-- a head written
+pub head-written : (l : List ℕ) → length l ≡ portWords → (h : Head) → HeadFits h
+    → HeadChanged l (paste l 0 (headWords h) (length (headWords h))) (λ _. h)
+head-written l long h F = record { slots = head-slots l (headWords h) long (omega arith); head = head-put l h F }
 
 -- ── a slot written
 
@@ -173,29 +192,28 @@ pub record OnlySlot (l l′ : List ℕ) (i : ℕ) (r : List ℕ) : Type 0 where
   pub head : headOf l′ ≡ headOf l
 
 -- that slot is another, the other slots and the head stay
-pub put-slot : {l l′ : List ℕ} {i : ℕ} {r : List ℕ} → OnlySlot l l′ i r → i < 16 → {c : Slot} → slotOf r ≡ c → (slots l′ ≡ set (slots l) i c) × (headOf l′ ≡ headOf l)
-put-slot {l} {l′} {i} O h {c} e =
-    (slots-set 16 0 l l′ i c h (rw zero-add (ap slotOf (O .this) ∙ e)) (λ j ne. O .others j (λ q. ne (q ∙ sym (zero-add i)))), O .head)
-
--- up to 24 words written from a slot's start on
-slot-put : (l : List ℕ) → length l ≡ 400 → (i : ℕ) → i < 16 → (ws : List ℕ) → length ws ≤ 24
-    → OnlySlot l (paste l (24 * i + 16) ws (length ws)) i (take 24 (ws ++ drop (24 * i + 16 + length ws) l))
-slot-put l long i h ws wl =
-    let stays = apart l (24 * i + 16) ws (length ws) (omega arith) (omega arith) in
+pub put-slot : {l l′ : List ℕ} {i : ℕ} {r : List ℕ} → OnlySlot l l′ i r → i < mostSlots → (f : Slot → Slot) → slotOf r ≡ f (getD (slots l) i noSlot) → SlotChanged l l′ i f
+put-slot {l} {l′} {i} O h f e =
     record {
-      this = ap (take 24) (from-written l (24 * i + 16) ws (omega arith));
-      others = λ j ne. stays (24 * j + 16) 24 (⊎-elim (λ q. inl (omega arith)) (λ q. inr (omega arith)) (either j i ne));
-      head = head-same l (paste l (24 * i + 16) ws (length ws)) (stays 0 16 (inl (omega arith)));
+      slots =
+          slots-set mostSlots 0 l l′ i (f (getD (slots l) i noSlot)) h (rw zero-add (ap slotOf (O .this) ∙ e))
+          (λ j ne. O .others j (λ q. ne (q ∙ sym (zero-add i))));
+      head = O .head;
+    }
+
+-- words written from a slot's start on
+slot-put : (l : List ℕ) → length l ≡ portWords → (i : ℕ) → i < mostSlots → (ws : List ℕ) → length ws ≤ slotWords
+    → OnlySlot l (paste l (slotAt i) ws (length ws)) i (take slotWords (ws ++ drop (slotAt i + length ws) l))
+slot-put l long i h ws wl =
+    let stays = apart l (slotAt i) ws (length ws) (omega arith) (omega arith) in
+    record {
+      this = ap (take slotWords) (from-written l (slotAt i) ws (omega arith));
+      others = λ j ne. stays (slotAt j) slotWords (⊎-elim (λ q. inl (omega arith)) (λ q. inr (omega arith)) (either j i ne));
+      head = head-same l (paste l (slotAt i) ws (length ws)) (stays 0 headSize (inl (omega arith)));
     }
 
 -- the words of a command written there: the slot has the command
-pub saved : (l : List ℕ) → length l ≡ 400 → (i : ℕ) → i < 16 → (c : Slot) (vs : List Val) → Is the-row c vs → SlotFits c
-    → (slots (paste l (24 * i + 16) (wordsOf c) 14) ≡ set (slots l) i c) × (headOf (paste l (24 * i + 16) (wordsOf c) 14) ≡ headOf l)
-saved l long i h c vs g F = put-slot (slot-put l long i h (wordsOf c) (omega arith)) h (decoded c vs g F (drop (24 * i + 16 + 14) l))
-
--- ── words written 0
-
--- every word is 0
-pub zeros-all : (before after : List ℕ) (i n : ℕ) → i ≡ n → length before ≡ n → after ≡ replicate i 0 ++ drop i before → after ≡ replicate n 0
-zeros-all before after i n e long inv =
-    let d : drop n before ≡ [] = drop-of-length-le before {i = n} (omega arith) in rw (inv, e, d, append-nil) refl
+pub saved : (l : List ℕ) → length l ≡ portWords → (i : ℕ) → i < mostSlots → (c : Slot) (vs : List Val) → Is the-row c vs → SlotFits c
+    → SlotChanged l (paste l (slotAt i) (wordsOf c) usedWords) i (λ _. c)
+saved l long i h c vs g F =
+    put-slot (slot-put l long i h (wordsOf c) (omega arith)) h (λ _. c) (decoded c vs g F (drop (slotAt i + usedWords) l))

@@ -15,7 +15,7 @@ same-length c = search needs
 
 returns : tie.Need-returns
 returns c =
-    unanswered-altered (c .before .before .before .before .before .before .before .args .s .now) (c .before .before .set-counts .last .0) (c .before .before .set-counts .ensures .0) _ (c .before .before .before .before .get-head .ensures .whole) (c .before .before .before .before .before .before .before .args .unanswered) (c .before .before .set-counts .ensures .1)
+    unanswered-altered _ (c .before .before .before .before .get-head .ensures .whole) (c .before .before .before .before .before .before .before .args .unanswered) (c .before .before .set-counts .ensures)
 
 pub set-unanswered-spec : {M : Type 1} → statement M
 set-unanswered-spec =

@@ -15,7 +15,7 @@ same-length c = search needs
 
 returns : tie.Need-returns
 returns c =
-    wanted-altered (c .before .before .before .before .before .before .before .args .s .now) (c .before .before .set-counts .last .0) (c .before .before .set-counts .ensures .0) _ (c .before .before .before .before .get-head .ensures .whole) (c .before .before .before .before .before .before .before .args .wanted) (c .before .before .set-counts .ensures .1)
+    wanted-altered _ (c .before .before .before .before .get-head .ensures .whole) (c .before .before .before .before .before .before .before .args .wanted) (c .before .before .set-counts .ensures)
 
 pub set-wanted-spec : {M : Type 1} → statement M
 set-wanted-spec = tie.close (tie.spec get-head-requires set-counts-requires same-length returns)

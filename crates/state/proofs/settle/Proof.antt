@@ -27,7 +27,7 @@ same-length c = search needs
 
 returns : tie.Need-returns
 returns c =
-    settled (c .before .before .before .before .before .before .before .before .before .args .s .now) (c .before .before .set-counts .last .0) (c .before .before .set-counts .ensures .0) _ (c .before .before .before .before .before .before .get-head .ensures .whole) (c .before .before .before .before .before .before .before .before .before .args .used) (c .before .before .before .before .due .result) (c .before .before .before .before .due .ensures) (c .before .before .set-counts .ensures .1)
+    settled _ (c .before .before .before .before .before .before .get-head .ensures .whole) (c .before .before .before .before .before .before .before .before .before .args .used) (c .before .before .before .before .due .result) (c .before .before .before .before .due .ensures) (c .before .before .set-counts .ensures)
 
 pub settle-spec : {M : Type 1} → statement M
 settle-spec =

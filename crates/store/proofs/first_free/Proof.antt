@@ -1,12 +1,13 @@
 -- `store::first_free` meets its contract. Assumes nothing.
 use mathlib.Core.Path.{_≡_}
 use mathlib.Core.Bool.{false}
-use Prim.Native.Nat.{_≤_, _-_, _+_}
+use Prim.Native.Nat.{_<_, _-_, _+_}
 use native.Mathlib.Omega.{arith}
 use lib.ListN.{length, getD, drop}
 use borrow.Author.Tests.{not-true, not-false}
 use borrow.Author.Needs.{needs}
 use Rattle.srp.specs.Bytes.{bit}
+use Rattle.words.specs.Sizes.{mostSlots}
 use Rattle.store.specs.Places.{trues}
 use Rattle.store.proofs.Marks.{bit-none, bit-is, trues-step}
 use Rattle.store.proofs.first_free.Statement.{statement}
@@ -14,15 +15,15 @@ use Rattle.store.proofs.first_free.Tie as tie
 
 abbrev Inv-loop : tie.InvT-loop
 Inv-loop used k₀ k =
-    (length used ≡ 16) × (k ≤ 15) × (k + trues (drop k used) ≡ trues used)
+    (length used ≡ mostSlots) × (k < mostSlots) × (k + trues (drop k used) ≡ trues used)
 
 abbrev μ-loop : tie.MeasureT-loop
 μ-loop used k₀ k =
-    15 - k
+    mostSlots - k
 
 loop-holds : tie.Need-loop-holds Inv-loop μ-loop
 loop-holds c =
-    let long : length (c .args .t1) ≡ 16 = search needs in (long, omega arith, omega arith)
+    let long : length (c .args .t1) ≡ mostSlots = search needs in (long, omega arith, omega arith)
 
 array-read-if1 : tie.Need-array-read-if1 Inv-loop μ-loop
 array-read-if1 c =

@@ -1,73 +1,47 @@
--- `store::put_bytes` meets its contract. Assumes nothing.
-use mathlib.Core.Path.{_≡_, refl}
-use Prim.Native.Nat.{_≤_, _-_}
+use mathlib.Core.Path.{_≡_}
+use Prim.Native.Nat.{_+_, _-_}
 use native.Mathlib.Omega.{arith}
-use native.Mathlib.Numerals.{add-one}
-use lib.ListN.{length, length-set}
-use lib.Seq.{paste, paste-zero, paste-suc}
+use lib.ListN.{length}
+use Rattle.wire.proofs.Stores.{part-copied}
+use borrow.Author.Needs.{needs}
 use Rattle.store.proofs.put_bytes.Statement.{statement}
 use Rattle.store.proofs.put_bytes.Tie as tie
+use Rattle.store.proofs.put_bytes.Reads as reads
+use Rattle.store.proofs.put_bytes.Lts as lts
+use Rattle.bytes.proofs.copy.Reads as copy-reads
 
-abbrev Inv-loop : tie.InvT-loop
-Inv-loop to₀ at from j₀ to j =
-    (j ≤ length from) × (length to ≡ length to₀) × (to ≡ paste to₀ at from j)
+-- src/lib.rt:69:15
+add-end : tie.Need-add-end
+add-end c = search needs
 
-abbrev μ-loop : tie.MeasureT-loop
-μ-loop to₀ at from j₀ to j =
-    length from - j
+-- src/lib.rt:70:23
+sub-copy : tie.Need-sub-copy
+sub-copy c = search needs
 
-loop-holds : tie.Need-loop-holds Inv-loop μ-loop
-loop-holds c =
-    (omega arith, refl, paste-zero (c .args .to .now) (c .args .at) (c .args .from .now))
+-- src/lib.rt:70:23
+part-copy-start : tie.Need-part-copy-start
+part-copy-start c = search needs
 
-shared-slice-read-to : tie.Need-shared-slice-read-to Inv-loop μ-loop
-shared-slice-read-to c =
-    omega arith
+-- src/lib.rt:70:23
+part-copy-end : tie.Need-part-copy-end
+part-copy-end c = search needs
 
-add-to : tie.Need-add-to Inv-loop μ-loop
-add-to c =
-    omega arith
+-- src/lib.rt:70:5
+copy-requires : tie.Need-copy-requires
+copy-requires c κs = search needs
 
-slice-write-to : tie.Need-slice-write-to Inv-loop μ-loop
-slice-write-to c =
-    omega arith
+-- src/lib.rt:65:1
+same-length : tie.Need-same-length
+same-length c = search needs
 
-add-j : tie.Need-add-j Inv-loop μ-loop
-add-j c =
-    omega arith
-
-loop-less : tie.Need-loop-less Inv-loop μ-loop
-loop-less c =
-    omega arith
-
-loop-again : tie.Need-loop-again Inv-loop μ-loop
-loop-again c =
-    let a = c .before .before .before .args in (
-      omega arith,
-      simp length-set (c .before .before .loop .inv .1),
-      rw (c .before .before .loop .inv .2, add-one) (paste-suc (a .to .now) (a .at) (a .from .now) (c .before .before .loop .j) 0 (omega arith) (omega arith)),
-    )
-
-same-length : tie.Need-same-length Inv-loop μ-loop
-same-length c =
-    c .before .loop .inv .1
-
-returns : tie.Need-returns Inv-loop μ-loop
+-- src/lib.rt:65:1
+returns : tie.Need-returns
 returns c =
-    let e : c .before .loop .j ≡ length (c .before .before .args .from .now) = omega arith in rw (← e) (c .before .loop .inv .2)
+    let a = c .before .before .before .before .before .before .args in
+    let n : a .at + length (a .from .now) - a .at ≡ length (a .from .now) = omega arith in
+    part-copied (a .to .now) (a .at) (a .from .now) _ n _ (c .before .before .copy .ensures .1)
 
 pub put-bytes-spec : {M : Type 1} → statement M
 put-bytes-spec =
     tie.close
-    (tie.spec
-    Inv-loop
-    μ-loop
-    loop-holds
-    shared-slice-read-to
-    add-to
-    slice-write-to
-    add-j
-    loop-less
-    loop-again
-    same-length
-    returns)
+    (tie.spec add-end sub-copy part-copy-start part-copy-end copy-requires same-length returns)

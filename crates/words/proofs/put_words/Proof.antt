@@ -1,16 +1,14 @@
 -- `words::put_words` meets its contract. Assumes nothing.
-use mathlib.Core.Path.{_≡_, refl}
-use Prim.Native.Nat.{_≤_, _-_}
+use Prim.Native.Nat.{_-_}
 use native.Mathlib.Omega.{arith}
-use native.Mathlib.Numerals.{add-one}
-use lib.ListN.{length, length-set}
-use lib.Seq.{paste, paste-zero, paste-suc}
+use lib.ListN.{length}
+use Rattle.wire.proofs.Stores.{Copying, copy-start, copy-turn, copy-end}
 use Rattle.words.proofs.put_words.Statement.{statement}
 use Rattle.words.proofs.put_words.Tie as tie
 
 abbrev Inv-loop : tie.InvT-loop
 Inv-loop to₀ at from j₀ to j =
-    (j ≤ length from) × (length to ≡ length to₀) × (to ≡ paste to₀ at from j)
+    Copying to₀ at from to j
 
 abbrev μ-loop : tie.MeasureT-loop
 μ-loop to₀ at from j₀ to j =
@@ -18,7 +16,7 @@ abbrev μ-loop : tie.MeasureT-loop
 
 loop-holds : tie.Need-loop-holds Inv-loop μ-loop
 loop-holds c =
-    (omega arith, refl, paste-zero (c .args .to .now) (c .args .at) (c .args .from .now))
+    copy-start (c .args .to .now) (c .args .at) (c .args .from .now) (c .pre)
 
 mul-to : tie.Need-mul-to Inv-loop μ-loop
 mul-to c =
@@ -50,19 +48,15 @@ loop-less c =
 
 loop-again : tie.Need-loop-again Inv-loop μ-loop
 loop-again c =
-    let a = c .before .before .before .args in (
-      omega arith,
-      simp length-set (c .before .before .loop .inv .1),
-      rw (c .before .before .loop .inv .2, add-one) (paste-suc (a .to .now) (a .at) (a .from .now) (c .before .before .loop .j) 0 (omega arith) (omega arith)),
-    )
+    copy-turn (c .before .before .loop .inv) (omega arith)
 
 same-length : tie.Need-same-length Inv-loop μ-loop
 same-length c =
-    c .before .loop .inv .1
+    c .before .loop .inv .long
 
 returns : tie.Need-returns Inv-loop μ-loop
 returns c =
-    let e : c .before .loop .j ≡ length (c .before .before .args .from .now) = omega arith in rw (← e) (c .before .loop .inv .2)
+    copy-end (c .before .loop .inv) (omega arith)
 
 pub put-words-spec : {M : Type 1} → statement M
 put-words-spec =

@@ -1,8 +1,8 @@
 -- `words::save` meets its contract. Assumes nothing.
 use Rattle.words.proofs.Slots.{saved}
 use borrow.Author.Needs.{needs}
-use Rattle.words.proofs.save.Statement.{statement}
-use Rattle.words.proofs.save.Tie as tie
+use Rattle.words.proofs.commands.save.Statement.{statement}
+use Rattle.words.proofs.commands.save.Tie as tie
 
 words-of-requires : tie.Need-words-of-requires
 words-of-requires c κs = search needs

@@ -1,13 +1,14 @@
 -- `words::load` meets its contract. Assumes nothing.
 use mathlib.Core.Path.{_≡_, sym, _∙_}
-use Prim.Native.Nat.{_+_, _-_, _*_}
+use Prim.Native.Nat.{_+_, _-_}
 use native.Mathlib.Omega.{arith}
-use Rattle.words.specs.View.{slotOf, region}
+use Rattle.words.specs.Sizes.{slotWords}
+use Rattle.words.specs.Slots.{slotOf, slotAt, region}
 use Rattle.words.proofs.Slots.{slot-at}
 use Rattle.words.proofs.Ports.{said-fits}
 use borrow.Author.Needs.{needs}
-use Rattle.words.proofs.load.Statement.{statement}
-use Rattle.words.proofs.load.Tie as tie
+use Rattle.words.proofs.commands.load.Statement.{statement}
+use Rattle.words.proofs.commands.load.Tie as tie
 
 mul-at : tie.Need-mul-at
 mul-at c = search needs
@@ -36,7 +37,7 @@ slot-of-requires c κs = search needs
 returns : tie.Need-returns
 returns c =
     let a = c .before .before .before .args in
-    let n : 24 * a .i + 16 + 24 - (24 * a .i + 16) ≡ 24 = omega arith in
+    let n : slotAt (a .i) + slotWords - slotAt (a .i) ≡ slotWords = omega arith in
     let e : c .slot-of .result ≡ slotOf (region (a .s .now) (a .i)) = rw n at (c .slot-of .ensures) in
     record { whole = e ∙ sym (slot-at (a .s .now) (a .i) (c .before .before .before .pre .1)); fits = rw e (said-fits (region (a .s .now) (a .i))) }
 

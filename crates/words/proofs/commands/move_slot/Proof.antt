@@ -2,15 +2,16 @@
 use Prim.Native.Nat.{_-_}
 use native.Mathlib.Omega.{arith}
 use borrow.Author.Needs.{needs}
-use Rattle.words.proofs.Words.{Copying, copy-start, copy-more, copied}
-use Rattle.words.proofs.move_slot.Statement.{statement}
-use Rattle.words.proofs.move_slot.Tie as tie
+use Rattle.words.specs.Sizes.{usedWords}
+use Rattle.words.proofs.Words.{Moving, move-start, move-more, moved}
+use Rattle.words.proofs.commands.move_slot.Statement.{statement}
+use Rattle.words.proofs.commands.move_slot.Tie as tie
 
 abbrev Inv-loop : tie.InvT-loop
-Inv-loop s₀ from to source target j₀ s j = Copying s₀ s from to j
+Inv-loop s₀ from to source target j₀ s j = Moving s₀ s from to j
 
 abbrev μ-loop : tie.MeasureT-loop
-μ-loop s₀ from to source target j₀ s j = 14 - j
+μ-loop s₀ from to source target j₀ s j = usedWords - j
 
 mul-source : tie.Need-mul-source Inv-loop μ-loop
 mul-source c = search needs
@@ -25,7 +26,7 @@ add-target : tie.Need-add-target Inv-loop μ-loop
 add-target c = search needs
 
 loop-holds : tie.Need-loop-holds Inv-loop μ-loop
-loop-holds c = copy-start (c .args .s .now) (c .pre .0) (c .args .from) (c .args .to) (c .pre .1 .0) (c .pre .1 .1)
+loop-holds c = move-start (c .args .s .now) (c .pre .0) (c .args .from) (c .args .to) (c .pre .1 .0) (c .pre .1 .1)
 
 add-s : tie.Need-add-s Inv-loop μ-loop
 add-s c = omega arith
@@ -55,7 +56,7 @@ loop-again : tie.Need-loop-again Inv-loop μ-loop
 loop-again c =
     let a = c .before .before .before .args in
     let p = c .before .before .before .pre in
-    copy-more (a .s .now) (p .0) (a .from) (a .to) (p .1 .0) (p .1 .1) _ (c .before .before .loop .j) (c .before .before .loop .inv) (omega arith)
+    move-more (a .s .now) (p .0) (a .from) (a .to) (p .1 .0) (p .1 .1) _ (c .before .before .loop .j) (c .before .before .loop .inv) (omega arith)
 
 same-length : tie.Need-same-length Inv-loop μ-loop
 same-length c = c .before .loop .inv .same-long
@@ -64,7 +65,7 @@ returns : tie.Need-returns Inv-loop μ-loop
 returns c =
     let a = c .before .before .args in
     let p = c .before .before .pre in
-    copied (a .s .now) (p .0) (a .from) (a .to) (p .1 .0) (p .1 .1) _ (c .before .loop .j) (c .before .loop .inv) (omega arith)
+    moved (a .s .now) (p .0) (a .from) (a .to) (p .1 .0) (p .1 .1) _ (c .before .loop .j) (c .before .loop .inv) (omega arith)
 
 pub move-slot-spec : {M : Type 1} → statement M
 move-slot-spec =

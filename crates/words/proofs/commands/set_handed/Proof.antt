@@ -1,8 +1,8 @@
 -- `words::set_handed` meets its contract. Assumes nothing.
 use Rattle.words.proofs.Words.{handed-put}
 use borrow.Author.Needs.{needs}
-use Rattle.words.proofs.set_handed.Statement.{statement}
-use Rattle.words.proofs.set_handed.Tie as tie
+use Rattle.words.proofs.commands.set_handed.Statement.{statement}
+use Rattle.words.proofs.commands.set_handed.Tie as tie
 
 handed-at-requires : tie.Need-handed-at-requires
 handed-at-requires c κs = search needs

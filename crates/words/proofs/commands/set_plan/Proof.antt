@@ -3,8 +3,8 @@ use native.Mathlib.Omega.{arith}
 use lib.ListN.{length-set}
 use Rattle.words.proofs.Words.{plan-put}
 use borrow.Author.Needs.{needs}
-use Rattle.words.proofs.set_plan.Statement.{statement}
-use Rattle.words.proofs.set_plan.Tie as tie
+use Rattle.words.proofs.commands.set_plan.Statement.{statement}
+use Rattle.words.proofs.commands.set_plan.Tie as tie
 
 mul-at : tie.Need-mul-at
 mul-at c = search needs

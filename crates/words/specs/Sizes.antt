@@ -1,0 +1,40 @@
+-- How long a port's words and its store are, and their parts. Each size stands here once.
+use Prim.Native.Nat.{ℕ, _+_, _*_}
+use Rattle.srp.specs.Limits.{mostBuffers, longestTable}
+
+-- commands that can be open at once, and places of the store
+abbrev pub mostSlots : ℕ
+mostSlots = mostBuffers
+
+-- words of the head, of a slot, and of a port
+abbrev pub headSize : ℕ
+headSize = 16
+
+abbrev pub slotWords : ℕ
+slotWords = 32
+
+abbrev pub portWords : ℕ
+portWords = headSize + mostSlots * slotWords
+
+-- words of a slot: of the request; before the directions; of a direction; in use. Behind these are the words that are not read
+abbrev pub requestWords : ℕ
+requestWords = 4
+
+abbrev pub partsAt : ℕ
+partsAt = 6
+
+abbrev pub partWords : ℕ
+partWords = 4
+
+abbrev pub usedWords : ℕ
+usedWords = partsAt + 2 * partWords
+
+-- bytes of one direction's memory descriptors in the store, of a command's place there, and of the store
+abbrev pub listSize : ℕ
+listSize = longestTable
+
+abbrev pub placeSize : ℕ
+placeSize = 2 * listSize
+
+abbrev pub storeSize : ℕ
+storeSize = mostSlots * placeSize

@@ -1,0 +1,138 @@
+-- The commands in their slots. Each number is read into its range, so any words are a slot; the words behind those in use are not read.
+use mathlib.Core.Path.{_≡_}
+use mathlib.Core.Bool.{Bool, true, false}
+use mathlib.Core.List.{List, [], _∷_, _++_}
+use Prim.Native.Nat.{ℕ, zero, suc, min, _+_, _*_, _≤_, _<_, _%_, _^_}
+use lib.Dec.{eqb}
+use lib.ListN.{take, drop, getD}
+use Rattle.srp.specs.Limits.{mostCopies}
+use Rattle.srp.specs.Bytes.{bit}
+use Rattle.srp.specs.Both.{Both, of, alter, along}
+use Rattle.srp.specs.declared.Direction.{Direction}
+use Rattle.srp.specs.declared.Direction.the-variants.{Out, In}
+use Rattle.srp.specs.declared.Request.{Request}
+use Rattle.srp.specs.declared.Transfer.{Transfer}
+use Rattle.words.specs.Sizes.{mostSlots, headSize, slotWords, partsAt, partWords, listSize, placeSize}
+use Rattle.words.specs.declared.Part.{Part}
+use Rattle.words.specs.declared.Slot.{Slot}
+
+-- ── a slot's words
+
+abbrev pub on : ℕ → Bool
+on x = eqb (x % 2) 1
+
+abbrev pub slotRequest : List ℕ → Request
+slotRequest r = record { tag = getD r 0 0; lun = getD r 1 0; ucsolnt = on (getD r 2 0); scsolnt = on (getD r 3 0) }
+
+-- where a direction's words stand in its slot
+abbrev pub partAt : Direction → ℕ
+partAt Out = partsAt
+partAt In = partsAt + partWords
+
+-- one direction, in the words from k on
+abbrev pub partIn : List ℕ → ℕ → Part
+partIn r k =
+    record {
+      segments = min (getD r k 0) mostCopies;
+      total = getD r (k + 1) 0 % 2 ^ 32;
+      transfer = record { required = getD r (k + 2) 0 % 2 ^ 32; handed = getD r (k + 3) 0 % 2 ^ 32 };
+    }
+
+abbrev pub slotOf : List ℕ → Slot
+slotOf r =
+    record {
+      request = slotRequest r;
+      planned = on (getD r 4 0);
+      place = getD r 5 0 % mostSlots;
+      out = partIn r (partAt Out);
+      inn = partIn r (partAt In);
+    }
+
+abbrev pub partWordsOf : Part → List ℕ
+partWordsOf p = p .segments ∷ p .total ∷ p .transfer .required ∷ p .transfer .handed ∷ []
+
+-- the words of a slot that are used
+abbrev pub wordsOf : Slot → List ℕ
+wordsOf c =
+    c .request .tag ∷ c .request .lun ∷ bit (c .request .ucsolnt) ∷ bit (c .request .scsolnt)
+    ∷ bit (c .planned)
+    ∷ c .place
+    ∷ partWordsOf (c .out)
+    ++ partWordsOf (c .inn)
+
+-- a slot that its words can hold
+pub record SlotFits (c : Slot) : Type 0 where
+  pub place : c .place < mostSlots
+  pub out : c .out .segments ≤ mostCopies
+  pub inn : c .inn .segments ≤ mostCopies
+
+-- ── the slots of a port
+
+abbrev pub slotAt : ℕ → ℕ
+slotAt i = slotWords * i + headSize
+
+abbrev pub region : List ℕ → ℕ → List ℕ
+region l i = take slotWords (drop (slotAt i) l)
+
+unfoldable pub slotsFrom : ℕ → ℕ → List ℕ → List Slot
+slotsFrom zero i l = []
+slotsFrom (suc n) i l = slotOf (region l i) ∷ slotsFrom n (i + 1) l
+
+abbrev pub slots : List ℕ → List Slot
+slots l = slotsFrom mostSlots 0 l
+
+abbrev pub noPart : Part
+noPart = record { segments = 0; total = 0; transfer = record { required = 0; handed = 0 } }
+
+abbrev pub noSlot : Slot
+noSlot =
+    record {
+      request = record { tag = 0; lun = 0; ucsolnt = false; scsolnt = false };
+      planned = false;
+      place = 0;
+      out = noPart;
+      inn = noPart;
+    }
+
+-- a slot that was read
+pub record SlotIs (l : List ℕ) (i : ℕ) (c : Slot) : Type 0 where
+  pub whole : c ≡ getD (slots l) i noSlot
+  pub fits : SlotFits c
+
+-- ── both directions of a slot
+
+abbrev pub partsOf : Slot → Both Part
+partsOf c = record { out = c .out; inn = c .inn }
+
+abbrev pub partFor : Direction → Slot → Part
+partFor d c = of d (partsOf c)
+
+-- where a direction's memory descriptors stand in the store
+abbrev pub placeFor : Direction → Slot → ℕ
+placeFor Out c = placeSize * c .place
+placeFor In c = placeSize * c .place + listSize
+
+-- ── a plan stated, bytes handed out
+
+-- a slot with another state of its plan and its directions
+abbrev pub withParts : Slot → Bool → Both Part → Slot
+withParts c planned ps = record { request = c .request; planned = planned; place = c .place; out = ps .out; inn = ps .inn }
+
+abbrev pub partWith : Part → Transfer → Part
+partWith p t = record { segments = p .segments; total = p .total; transfer = t }
+
+abbrev pub requiringOf : ℕ → Part → Part
+requiringOf r p = partWith p (record { required = r; handed = p .transfer .handed })
+
+abbrev pub plannedSlot : ℕ → ℕ → Slot → Slot
+plannedSlot out inn c = withParts c true (along requiringOf (record { out = out; inn = inn }) (partsOf c))
+
+-- the word of a slot that says how many bytes of a direction are handed out
+abbrev pub handedAt : Direction → ℕ
+handedAt d = partAt d + 3
+
+abbrev pub handingOf : ℕ → Part → Part
+handingOf n p = partWith p (record { required = p .transfer .required; handed = n })
+
+abbrev pub handedSlot : Direction → ℕ → Slot → Slot
+handedSlot d n c = withParts c (c .planned) (alter d (handingOf n) (partsOf c))

@@ -1,0 +1,193 @@
+// The commands in their slots: the request, whether a plan was stated, its place in the store, and each direction.
+use crate::HEAD;
+use crate::Part;
+use crate::SLOT;
+use crate::SLOTS;
+use crate::Slot;
+use srp::Direction;
+use srp::Request;
+use srp::Transfer;
+use srp::limits;
+ghost use mathlib.Core.Path.{_≡_};
+ghost use Prim.Native.Nat.{_+_, _≤_, _<_};
+ghost use lib.ListN.{length, getD};
+ghost use Rattle.words.specs.Sizes.{portWords, mostSlots, slotWords, requestWords, partWords};
+ghost use Rattle.words.specs.Slots.{slotRequest, partIn, slotOf, wordsOf, slots, noSlot, SlotIs, SlotFits, plannedSlot, handedAt, handedSlot};
+ghost use Rattle.words.specs.Head.{SlotChanged};
+
+// Words of a slot: the request's four, whether a plan was stated, the place, and those of each direction.
+const PLANNED: usize = 4;
+
+const AT: usize = 5;
+
+const OUT: usize = 6;
+
+const IN: usize = OUT + PART;
+
+// so many are used
+const USED: usize = IN + PART;
+
+// Words of a direction: the number of its segments, B, R, the bytes handed out.
+const TOTAL: usize = 1;
+
+const REQUIRED: usize = 2;
+
+const HANDED: usize = 3;
+
+const PART: usize = 4;
+
+// What a number may be; there are as many places as commands can be open.
+const MOST_SEGMENTS: u64 = limits::MOST_COPIES as u64;
+
+const PLACES: u64 = SLOTS as u64;
+
+const NUMBERS: u64 = 4294967296;
+
+fn request_of(r: &[u64]) -> Request
+    requires { ⌜ requestWords ≤ length (now r) ⌝ }
+    ensures { λ q. ⌜ q ≡ slotRequest (now (r .entry)) ⌝ }
+{
+    Request {
+        tag: r[0],
+        lun: r[1],
+        ucsolnt: r[2] % 2 == 1,
+        scsolnt: r[3] % 2 == 1,
+    }
+}
+
+fn part_of(r: &[u64], at: usize) -> Part
+    requires { ⌜ at + partWords ≤ length (now r) ⌝ }
+    ensures { λ p. ⌜ p ≡ partIn (now (r .entry)) at ⌝ }
+{
+    let segments = wire::least(r[at], MOST_SEGMENTS);
+    let transfer = Transfer {
+        required: (r[at + REQUIRED] % NUMBERS) as u32,
+        handed: (r[at + HANDED] % NUMBERS) as u32,
+    };
+    Part {
+        segments: segments as u8,
+        total: (r[at + TOTAL] % NUMBERS) as u32,
+        transfer: transfer,
+    }
+}
+
+// The command that a slot's words say.
+fn slot_of(r: &[u64]) -> Slot
+    requires { ⌜ length (now r) ≡ slotWords ⌝ }
+    ensures { λ c. ⌜ c ≡ slotOf (now (r .entry)) ⌝ }
+{
+    let request = request_of(r);
+    let out = part_of(r, OUT);
+    let inn = part_of(r, IN);
+    Slot {
+        request: request,
+        planned: r[PLANNED] % 2 == 1,
+        place: (r[AT] % PLACES) as u8,
+        out: out,
+        inn: inn,
+    }
+}
+
+fn words_of(c: Slot) -> [u64; 14]
+    ensures { λ r. ⌜ r ≡ wordsOf c ⌝ }
+{
+    let request = c.request;
+    let out = c.out;
+    let inn = c.inn;
+    let o = out.transfer;
+    let i = inn.transfer;
+    [
+        request.tag,
+        request.lun,
+        request.ucsolnt as u64,
+        request.scsolnt as u64,
+        c.planned as u64,
+        c.place as u64,
+        out.segments as u64,
+        out.total as u64,
+        o.required as u64,
+        o.handed as u64,
+        inn.segments as u64,
+        inn.total as u64,
+        i.required as u64,
+        i.handed as u64,
+    ]
+}
+
+// The command in slot i.
+pub fn load(s: &[u64], i: usize) -> Slot
+    requires { ⌜ length (now s) ≡ portWords ⌝ }
+    requires { ⌜ i < mostSlots ⌝ }
+    ensures { λ c. ⌜ SlotIs (now (s .entry)) i c ⌝ }
+{
+    let at = SLOT * i + HEAD;
+    slot_of(&s[at..at + SLOT])
+}
+
+// The request of the command in slot i.
+pub fn load_request(s: &[u64], i: usize) -> Request
+    requires { ⌜ length (now s) ≡ portWords ⌝ }
+    requires { ⌜ i < mostSlots ⌝ }
+    ensures { λ q. ⌜ q ≡ getD (slots (now (s .entry))) i noSlot .request ⌝ }
+{
+    let at = SLOT * i + HEAD;
+    request_of(&s[at..at + SLOT])
+}
+
+pub fn save(s: &mut [u64], i: usize, c: Slot)
+    requires { ⌜ length (now s) ≡ portWords ⌝ }
+    requires { ⌜ i < mostSlots ⌝ }
+    requires { ⌜ SlotFits c ⌝ }
+    ensures { λ _. ⌜ SlotChanged (now (s .entry)) (now (s .exit)) i (λ _. c) ⌝ }
+{
+    let w = words_of(c);
+    crate::put_words(s, SLOT * i + HEAD, &w);
+}
+
+// The command in slot `from` put into slot `to` before it.
+pub fn move_slot(s: &mut [u64], from: usize, to: usize)
+    requires { ⌜ length (now s) ≡ portWords ⌝ }
+    requires { ⌜ from < mostSlots ⌝ }
+    requires { ⌜ to < from ⌝ }
+    ensures { λ _. ⌜ SlotChanged (now (s .entry)) (now (s .exit)) to (λ _. getD (slots (now (s .entry))) from noSlot) ⌝ }
+{
+    let source = SLOT * from + HEAD;
+    let target = SLOT * to + HEAD;
+    let mut j: usize = 0;
+    while j < USED {
+        s[target + j] = s[source + j];
+        j += 1;
+    }
+}
+
+// The command in slot i states what it requires each way.
+pub fn set_plan(s: &mut [u64], i: usize, out: u32, inn: u32)
+    requires { ⌜ length (now s) ≡ portWords ⌝ }
+    requires { ⌜ i < mostSlots ⌝ }
+    ensures { λ _. ⌜ SlotChanged (now (s .entry)) (now (s .exit)) i (plannedSlot out inn) ⌝ }
+{
+    let at = SLOT * i + HEAD;
+    s[at + PLANNED] = 1;
+    s[at + (OUT + REQUIRED)] = out as u64;
+    s[at + (IN + REQUIRED)] = inn as u64;
+}
+
+// The word of a slot that says how many bytes of a direction are handed out.
+fn handed_at(d: Direction) -> usize
+    ensures { λ r. ⌜ (r ≡ handedAt d) × (r < slotWords) ⌝ }
+{
+    match d {
+        Direction::Out => OUT + HANDED,
+        Direction::In => IN + HANDED,
+    }
+}
+
+// So many bytes of a direction of the command in slot i are handed out.
+pub fn set_handed(s: &mut [u64], i: usize, d: Direction, handed: u32)
+    requires { ⌜ length (now s) ≡ portWords ⌝ }
+    requires { ⌜ i < mostSlots ⌝ }
+    ensures { λ _. ⌜ SlotChanged (now (s .entry)) (now (s .exit)) i (handedSlot d handed) ⌝ }
+{
+    let k = handed_at(d);
+    s[SLOT * i + HEAD + k] = handed as u64;
+}
