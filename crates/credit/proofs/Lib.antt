@@ -1,3 +1,1 @@
 pub mod Cases
-pub mod Filling
-pub mod Signs

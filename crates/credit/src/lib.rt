@@ -1,36 +1,25 @@
-// The owner's other calls: buffers added and withdrawn, a grant, closing, the counters, the listing.
+// Credit: buffers added to those wanted and withdrawn from them, and a grant of what is owed.
 use srp::Answer;
-use srp::Counters;
-use srp::Record;
 use srp::Refusal;
 use srp::Reply;
 use srp::limits::LONGEST_WRITTEN_MESSAGE;
 use srp::limits::MOST_BUFFERS;
 use wire::layout::SHORT_SIZE;
 use words::Head;
-use words::Slot;
+use words::PORT;
 ghost use mathlib.Core.Path.{_≡_};
 ghost use mathlib.Core.Bool.{true};
-ghost use mathlib.Core.List.{List};
-ghost use Prim.Native.Nat.{ℕ, _≤_, _<_, _+_, _-_};
+ghost use Prim.Native.Nat.{_≤_, _<_, _+_};
 ghost use lib.Dec.{ltb};
-ghost use lib.IntN.{subℕ};
 ghost use lib.ListN.{length};
-ghost use Rattle.srp.specs.Limits.{bufferSize};
-ghost use Rattle.srp.specs.Calls.{addDef, withdrawDef, grantDef, closeDef, countersDef};
-ghost use Rattle.words.specs.View.{portWords, headOf, view};
-ghost use Rattle.state.specs.Promises.{Replies, Answers};
-ghost use Rattle.credit.specs.Parts.{ListingIs, recordOf, grantedDef};
-
-// A listing: its reply, and 16 records, blank behind those of the open commands.
-pub struct Listing {
-    pub reply: Reply,
-    pub records: [Record; 16],
-}
+ghost use Rattle.srp.specs.Limits.{bufferSize, mostBuffers};
+ghost use Rattle.words.specs.Sizes.{portWords};
+ghost use Rattle.words.specs.Head.{headOf};
+ghost use Rattle.credit.specs.Buffers.{Adds, Withdraws, WritesRequest, Grants};
 
 // Adds buffers to those wanted. Refused 21, 11, 28.
-pub fn add(s: &mut [u64; 400], k: u32) -> Reply
-    ensures { λ r. ⌜ ((st : List ℕ) → Replies (now (s .entry)) st (now (s .exit)) st r (addDef (view (now (s .entry)) st) k)) ⌝ }
+pub fn add(s: &mut [u64; PORT], k: u32) -> Reply
+    ensures { λ r. ⌜ Adds (now (s .entry)) (now (s .exit)) k r ⌝ }
 {
     let h = words::get_head(s);
     let live = h.live;
@@ -50,8 +39,8 @@ pub fn add(s: &mut [u64; 400], k: u32) -> Reply
 }
 
 // Withdraws buffers from those wanted. Refused 21, 11, 28.
-pub fn withdraw(s: &mut [u64; 400], k: u32) -> Reply
-    ensures { λ r. ⌜ ((st : List ℕ) → Replies (now (s .entry)) st (now (s .exit)) st r (withdrawDef (view (now (s .entry)) st) k)) ⌝ }
+pub fn withdraw(s: &mut [u64; PORT], k: u32) -> Reply
+    ensures { λ r. ⌜ Withdraws (now (s .entry)) (now (s .exit)) k r ⌝ }
 {
     let h = words::get_head(s);
     let live = h.live;
@@ -71,7 +60,7 @@ pub fn withdraw(s: &mut [u64; 400], k: u32) -> Reply
 
 // Whether D is above 0.
 fn owing(h: Head) -> bool
-    requires { ⌜ h .announced + h .held ≤ 16 ⌝ }
+    requires { ⌜ h .announced + h .held ≤ mostBuffers ⌝ }
     ensures { λ r. ⌜ r ≡ ltb (h .announced + h .held) (h .wanted) ⌝ }
 {
     let used = (h.announced as usize) + h.held;
@@ -82,9 +71,9 @@ fn owing(h: Head) -> bool
 fn write_request(s: &mut [u64], buf: &mut [u8], crsolnt: bool) -> Answer
     requires { ⌜ length (now s) ≡ portWords ⌝ }
     requires { ⌜ headOf (now s) .live ≡ true ⌝ }
-    requires { ⌜ crsolnt ≡ headOf (now s) .crsolnt ⌝ }
+    requires { ⌜ crsolnt ≡ headOf (now s) .terms .crsolnt ⌝ }
     requires { ⌜ bufferSize ≤ length (now buf) ⌝ }
-    ensures { λ r. ⌜ ((st : List ℕ) → Answers (now (s .entry)) st (now (buf .entry)) (now (s .exit)) st (now (buf .exit)) r (grantedDef (view (now (s .entry)) st))) ⌝ }
+    ensures { λ r. ⌜ WritesRequest (now (s .entry)) (now (buf .entry)) (now (s .exit)) (now (buf .exit)) r ⌝ }
 {
     state::set_unanswered(&mut *s, true);
     let delta = state::settle(s, 0);
@@ -96,8 +85,8 @@ fn write_request(s: &mut [u64], buf: &mut [u8], crsolnt: bool) -> Answer
 }
 
 // Writes an SRP_CRED_REQ with what is owed. Refused 1, 21, 26, 27.
-pub fn grant(s: &mut [u64; 400], buf: &mut [u8]) -> Answer
-    ensures { λ r. ⌜ ((st : List ℕ) → Answers (now (s .entry)) st (now (buf .entry)) (now (s .exit)) st (now (buf .exit)) r (grantDef (view (now (s .entry)) st) (length (now (buf .entry))))) ⌝ }
+pub fn grant(s: &mut [u64; PORT], buf: &mut [u8]) -> Answer
+    ensures { λ r. ⌜ Grants (now (s .entry)) (now (buf .entry)) (now (s .exit)) (now (buf .exit)) r ⌝ }
 {
     if buf.len() < (LONGEST_WRITTEN_MESSAGE as usize) {
         return answer::refused(Refusal::ShortBuffer);
@@ -107,6 +96,7 @@ pub fn grant(s: &mut [u64; 400], buf: &mut [u8]) -> Answer
     if !live {
         return answer::refused(Refusal::Closed);
     }
+    let terms = h.terms;
     let unanswered = h.unanswered;
     if unanswered {
         return answer::refused(Refusal::Unanswered);
@@ -114,101 +104,5 @@ pub fn grant(s: &mut [u64; 400], buf: &mut [u8]) -> Answer
     if !owing(h) {
         return answer::refused(Refusal::NotOwed);
     }
-    write_request(s, buf, h.crsolnt)
-}
-
-// Closes the channel with a reason. Refused 1, 21.
-pub fn close(s: &mut [u64; 400], reason: u32, buf: &mut [u8]) -> Answer
-    ensures { λ r. ⌜ ((st : List ℕ) → Answers (now (s .entry)) st (now (buf .entry)) (now (s .exit)) st (now (buf .exit)) r (closeDef (view (now (s .entry)) st) (length (now (buf .entry))) reason)) ⌝ }
-{
-    if buf.len() < (LONGEST_WRITTEN_MESSAGE as usize) {
-        return answer::refused(Refusal::ShortBuffer);
-    }
-    let h = words::get_head(s);
-    let live = h.live;
-    if !live {
-        return answer::refused(Refusal::Closed);
-    }
-    words::clear(s);
-    message::put_logout(buf, h.losolnt, reason);
-    Answer {
-        reply: Reply::Performed,
-        wrote: SHORT_SIZE,
-    }
-}
-
-// D, of W and of A + H.
-fn difference(wanted: u8, used: u8) -> i64
-    ensures { λ r. ⌜ r ≡ subℕ wanted used ⌝ }
-{
-    (wanted as i64) - (used as i64)
-}
-
-// W, A, H and D. Refused 21.
-pub fn counters(s: &[u64; 400]) -> Reply
-    ensures { λ r. ⌜ ((st : List ℕ) → r ≡ countersDef (view (now (s .entry)) st) .reply) ⌝ }
-{
-    let h = words::get_head(s);
-    let live = h.live;
-    if !live {
-        return Reply::Refused(Refusal::Closed);
-    }
-    let held = h.held as u8;
-    Reply::Counts(Counters {
-        wanted: h.wanted,
-        announced: h.announced,
-        held: held,
-        owed: difference(h.wanted, h.announced + held),
-    })
-}
-
-fn record_of(c: Slot) -> Record
-    ensures { λ r. ⌜ r ≡ recordOf c ⌝ }
-{
-    let out = c.out;
-    let inn = c.inn;
-    Record {
-        tag: c.tag,
-        lun: c.lun,
-        out: out.handed,
-        inn: inn.handed,
-    }
-}
-
-// A record that stands for no command.
-fn no_record() -> Record
-    ensures { λ r. ⌜ r ≡ record { tag = 0; lun = 0; out = 0; inn = 0 } ⌝ }
-{
-    Record {
-        tag: 0,
-        lun: 0,
-        out: 0,
-        inn: 0,
-    }
-}
-
-// The open commands, oldest first, and blank records behind them. Refused 21.
-pub fn list(s: &[u64; 400]) -> Listing
-    ensures { λ r. ⌜ ((st : List ℕ) → ListingIs (view (now (s .entry)) st) r) ⌝ }
-{
-    let blank = no_record();
-    let mut records = [blank; 16];
-    let h = words::get_head(s);
-    let live = h.live;
-    if !live {
-        return Listing {
-            reply: Reply::Refused(Refusal::Closed),
-            records: records,
-        };
-    }
-    let held = h.held;
-    let mut i: usize = 0;
-    while i < held {
-        records[i] = record_of(words::load(s, i));
-        i += 1;
-    }
-    Listing {
-        reply: Reply::Listed(held),
-        records: records,
-    }
+    write_request(s, buf, terms.crsolnt)
 }

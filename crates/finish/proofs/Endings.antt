@@ -13,7 +13,7 @@ use Rattle.srp.specs.Messages.{rsp}
 use Rattle.srp.specs.Credit.{Open, Port}
 use Rattle.srp.specs.Writing.{residualOf, Response, responseBytes, responseValues, response, solicited}
 use Rattle.srp.specs.Take.{silent, isOpen}
-use Rattle.srp.specs.Calls.{badSense, finalResponse, finishDef}
+use Rattle.srp.specs.Calls.{badSense, finalOf, finalResponse, finishDef}
 use Rattle.srp.specs.declared.Refusal.the-variants.{ShortBuffer, Argument, Closed, TagNotOpen}
 use Rattle.srp.specs.declared.Residual.{Residual}
 use Rattle.srp.specs.declared.Reply.the-variants.{Refused}
@@ -22,7 +22,7 @@ use Rattle.words.specs.declared.Slot.{Slot}
 use Rattle.message.specs.Header.{responseOf}
 use Rattle.message.specs.declared.Header.{Header}
 use Rattle.message.proofs.Laying.{long}
-use Rattle.finish.specs.Parts.{endedDef, HeaderIs}
+use Rattle.finish.specs.Finishing.{endedDef, HeaderIs}
 
 -- ── the checks
 
@@ -48,35 +48,23 @@ module _ (p : Port) (room tag status : ℕ) (sense : List ℕ) where
 -- ── the response
 
 -- without response bytes it is the fixed fields and the sense
-without-code : (r : Response) → r .code ≡ none → length (response r) ≡ 36 + length (r .sense)
+without-code : (r : Response) → r .code ≡ none → length (response r) ≡ rsp .size + length (r .sense)
 without-code r e =
     length-append (write rsp (responseValues r)) (responseBytes (r .code) ++ r .sense)
     ∙ ap (λ (n : ℕ). n + length (responseBytes (r .code) ++ r .sense)) (long rsp (responseValues r) refl)
-    ∙ ap (λ (o : Option ℕ). 36 + length (responseBytes o ++ r .sense)) e
+    ∙ ap (λ (o : Option ℕ). rsp .size + length (responseBytes o ++ r .sense)) e
 
 -- of a command: its length
-pub response-long : (c : Open) (status : ℕ) (sense : List ℕ) (delta : ℕ) → length (finalResponse (some c) status sense delta) ≡ 36 + length sense
-response-long c status sense delta =
-    without-code
-    (record {
-      solnt = solicited (c .ucsolnt) (c .scsolnt) status;
-      delta = delta;
-      tag = c .tag;
-      status = status;
-      out = residualOf (c .out);
-      inn = residualOf (c .inn);
-      code = none;
-      sense = sense;
-    })
-    refl
+pub response-long : (c : Open) (status : ℕ) (sense : List ℕ) (delta : ℕ) → length (finalResponse (some c) status sense delta) ≡ rsp .size + length sense
+response-long c status sense delta = without-code (finalOf c status sense delta) refl
 
--- a header by its parts
-pub header-by : (delta tag status : ℕ) {s s′ : Bool} {o o′ i i′ : Residual} → s ≡ s′ → o ≡ o′ → i ≡ i′
-    → _≡_ {A = Header} (record { solnt = s; delta = delta; tag = tag; status = status; out = o; inn = i })
-    (record { solnt = s′; delta = delta; tag = tag; status = status; out = o′; inn = i′ })
-header-by delta tag status e f g = rw (e, f, g) refl
+-- by its parts
+pub final-by : (c : Open) (status delta : ℕ) (sense : List ℕ) {s : Bool} {o i : Residual}
+    → s ≡ solicited (c .request) status → o ≡ residualOf (c .sides .out) → i ≡ residualOf (c .sides .inn)
+    → responseOf (record { solnt = s; delta = delta; tag = c .request .tag; status = status; out = o; inn = i }) sense ≡ finalOf c status sense delta
+final-by c status delta sense e f g = rw (e, f, g) refl
 
 -- it is the one that the header says
 pub response-is : (c : Slot) (status delta : ℕ) (sense st : List ℕ) (h : Header) → HeaderIs c status delta h
     → response (responseOf h sense) ≡ finalResponse (some (openOf st c)) status sense delta
-response-is c status delta sense st h H = ap (λ (x : Header). response (responseOf x sense)) (H st)
+response-is c status delta sense st h H = ap response (H st sense)

@@ -8,12 +8,12 @@ use native.Mathlib.Omega.{arith}
 use lib.Dec.{ltb, eqb}
 use lib.ListN.{length}
 use borrow.Author.Tests.{lt-ltb, le-ltb, ltb-false}
+use Rattle.srp.proofs.Checks.{both-false}
 use Rattle.srp.specs.Limits.{longestSense}
 use Rattle.srp.specs.Credit.{Side}
 use Rattle.srp.specs.Writing.{residualOf}
 use Rattle.srp.specs.Calls.{badSense}
 use Rattle.srp.specs.declared.Residual.the-variants.{Even, Over, Under}
-use Rattle.srp.proofs.Ranges.{neither}
 
 -- ── sense
 
@@ -30,17 +30,17 @@ module _ (status : ℕ) (sense : List ℕ) where
 
   -- sense that is not bad is not too long
   pub sense-fits : badSense status sense ≡ false → length sense ≤ longestSense
-  sense-fits e = ltb-false longestSense (length sense) (neither (ltb longestSense (length sense)) _ e .0)
+  sense-fits e = ltb-false longestSense (length sense) (both-false (ltb longestSense (length sense)) _ e .0)
 
 -- ── a direction's residual
 
 module _ (s : Side) where
-  pub over : s .total < s .required → residualOf s ≡ Over (s .required - s .total)
-  over h = rw (lt-ltb (s .total) (s .required) h) refl
+  pub over : s .extent .total < s .transfer .required → residualOf s ≡ Over (s .transfer .required - s .extent .total)
+  over h = rw (lt-ltb (s .extent .total) (s .transfer .required) h) refl
 
-  module _ (h : s .required ≤ s .total) where
-    pub under : s .handed < s .total → residualOf s ≡ Under (s .total - s .handed)
-    under k = rw (le-ltb (s .total) (s .required) h, lt-ltb (s .handed) (s .total) k) refl
+  module _ (h : s .transfer .required ≤ s .extent .total) where
+    pub under : s .transfer .handed < s .extent .total → residualOf s ≡ Under (s .extent .total - s .transfer .handed)
+    under k = rw (le-ltb (s .extent .total) (s .transfer .required) h, lt-ltb (s .transfer .handed) (s .extent .total) k) refl
 
-    pub even : s .total ≤ s .handed → residualOf s ≡ Even
-    even k = rw (le-ltb (s .total) (s .required) h, le-ltb (s .handed) (s .total) k) refl
+    pub even : s .extent .total ≤ s .transfer .handed → residualOf s ≡ Even
+    even k = rw (le-ltb (s .extent .total) (s .transfer .required) h, le-ltb (s .transfer .handed) (s .extent .total) k) refl

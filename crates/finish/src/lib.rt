@@ -9,20 +9,23 @@ use srp::limits::LONGEST_WRITTEN_MESSAGE;
 use state::Ending;
 use state::Found;
 use wire::layout::RSP_SIZE;
+use words::PORT;
 use words::Part;
 use words::Slot;
+use words::commands;
 ghost use mathlib.Core.Path.{_≡_};
 ghost use mathlib.Core.Bool.{true};
 ghost use mathlib.Core.List.{List};
-ghost use Prim.Native.Nat.{ℕ, _≤_, _<_, _+_};
+ghost use Prim.Native.Nat.{ℕ, _≤_};
 ghost use lib.ListN.{length};
 ghost use Rattle.srp.specs.Limits.{bufferSize, longestSense};
 ghost use Rattle.srp.specs.Writing.{residualOf};
-ghost use Rattle.srp.specs.Calls.{badSense, finishDef};
-ghost use Rattle.words.specs.View.{portWords, headOf, sideOf, view};
+ghost use Rattle.srp.specs.Calls.{badSense};
+ghost use Rattle.words.specs.Sizes.{portWords};
+ghost use Rattle.words.specs.Head.{headOf};
+ghost use Rattle.words.specs.View.{sideOf};
 ghost use Rattle.state.specs.Changes.{FoundAt};
-ghost use Rattle.state.specs.Promises.{Answers};
-ghost use Rattle.finish.specs.Parts.{endedDef, HeaderIs};
+ghost use Rattle.finish.specs.Finishing.{HeaderIs, Finishes, EndsCommand};
 
 const CHECK_CONDITION: u8 = 0x02;
 
@@ -43,8 +46,8 @@ fn residual(p: Part) -> Residual
     ensures { λ r. ⌜ ((st : List ℕ) (at : ℕ) → r ≡ residualOf (sideOf st at p)) ⌝ }
 {
     let total = p.total;
-    let required = p.required;
-    let handed = p.handed;
+    let required = p.transfer.required;
+    let handed = p.transfer.handed;
     if total < required {
         return Residual::Over(required - total);
     }
@@ -58,15 +61,13 @@ fn residual(p: Part) -> Residual
 fn header(c: Slot, status: u8, delta: u32) -> Header
     ensures { λ r. ⌜ HeaderIs c status delta r ⌝ }
 {
-    let out = c.out;
-    let inn = c.inn;
     Header {
-        solnt: answer::solicited(c.ucsolnt, c.scsolnt, status),
+        solnt: message::solicited(c.request, status),
         delta: delta,
-        tag: c.tag,
+        tag: c.request.tag,
         status: status,
-        out: residual(out),
-        inn: residual(inn),
+        out: residual(c.out),
+        inn: residual(c.inn),
     }
 }
 
@@ -84,9 +85,9 @@ fn end_command(
     requires { ⌜ FoundAt (now s) tag i ⌝ }
     requires { ⌜ length (now sense) ≤ longestSense ⌝ }
     requires { ⌜ bufferSize ≤ length (now buf) ⌝ }
-    ensures { λ r. ⌜ ((st : List ℕ) → Answers (now (s .entry)) st (now (buf .entry)) (now (s .exit)) st (now (buf .exit)) r (endedDef (view (now (s .entry)) st) tag status (now (sense .entry)))) ⌝ }
+    ensures { λ r. ⌜ EndsCommand (now (s .entry)) (now (buf .entry)) (now (s .exit)) (now (buf .exit)) tag status (now (sense .entry)) r ⌝ }
 {
-    let c = words::load(s, i);
+    let c = commands::load(s, i);
     state::drop_commands(&mut *s, i, Ending::Finished(tag));
     let delta = state::settle(s, 0);
     let h = header(c, status, delta);
@@ -98,8 +99,8 @@ fn end_command(
 }
 
 // Ends a command. Refused 1, 21, 11, 24.
-pub fn finish(s: &mut [u64; 400], tag: u64, status: u8, sense: &[u8], buf: &mut [u8]) -> Answer
-    ensures { λ r. ⌜ ((st : List ℕ) → Answers (now (s .entry)) st (now (buf .entry)) (now (s .exit)) st (now (buf .exit)) r (finishDef (view (now (s .entry)) st) (length (now (buf .entry))) tag status (now (sense .entry)))) ⌝ }
+pub fn finish(s: &mut [u64; PORT], tag: u64, status: u8, sense: &[u8], buf: &mut [u8]) -> Answer
+    ensures { λ r. ⌜ Finishes (now (s .entry)) (now (buf .entry)) (now (s .exit)) (now (buf .exit)) tag status (now (sense .entry)) r ⌝ }
 {
     if buf.len() < (LONGEST_WRITTEN_MESSAGE as usize) {
         return answer::refused(Refusal::ShortBuffer);

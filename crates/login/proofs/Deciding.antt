@@ -1,7 +1,7 @@
 -- What login decides: the settings, the rejections and the refusals, under each of their checks in turn.
 -- Assumes nothing.
 use mathlib.Core.Path.{_≡_, refl, sym, ap, _∙_}
-use mathlib.Core.Bool.{Bool, true, false, not}
+use mathlib.Core.Bool.{Bool, true, false, cond, not}
 use mathlib.Core.List.{List}
 use mathlib.Core.Option.{Option, none, some}
 use Prim.Native.Nat.{ℕ, _+_, _%_, _≤_, _<_}
@@ -9,27 +9,28 @@ use native.Mathlib.Omega.{arith}
 use borrow.Author.Tests.{eq-eqb, ne-eqb, lt-ltb, le-ltb, ltb-false, eqb-false}
 use lib.Dec.{ltb, eqb}
 use lib.ListN.{length}
+use Rattle.srp.specs.Limits.{directOnly, bothFormats}
 use Rattle.srp.specs.Bytes.{get, part, typeOf}
 use Rattle.srp.specs.Messages.{requestedLength, formatBits, channelAction, targetIdentifier}
 use Rattle.srp.specs.Refusals.{firstOf}
 use Rattle.srp.specs.Descriptors.{sameBytes}
 use Rattle.srp.specs.Requests.{otherFormats}
-use Rattle.srp.specs.Login.{badSettings, loginChecks, rejections}
+use Rattle.srp.specs.Login.{badSettings, loginChecks, supported, rejections, termsOf}
 use Rattle.srp.specs.declared.Refusal.{Refusal}
 use Rattle.srp.specs.declared.Refusal.the-variants.{ShortBuffer, Setting, Length, OtherType}
-use Rattle.srp.proofs.Checks.{passes}
-use Rattle.srp.proofs.Ranges.{neither}
-use Rattle.login.specs.declared.Settings.{Settings}
+use Rattle.srp.proofs.Checks.{passes, both-false}
+use Rattle.srp.specs.declared.Settings.{Settings}
+use Rattle.words.specs.Head.{CountsFit, TermsFit}
 use Rattle.login.specs.declared.Verdict.{Verdict}
 use Rattle.login.specs.declared.Verdict.the-variants.{Accept, Reject}
-use Rattle.login.specs.Parts.{settingsOf, supportedBy, verdictOf, GoodSettings, Accepts}
+use Rattle.login.specs.LoggingIn.{verdictOf, GoodSettings}
 
 -- ── settings
 
 -- settings that draw 2, by the first test that hits
-module _ (c : Settings) (own : List ℕ) where
+module _ (c : Settings) where
   abbrev bad : Bool
-  bad = badSettings (settingsOf c own)
+  bad = badSettings c
 
   pub no-buffers : c .buffers ≡ 0 → true ≡ bad
   no-buffers e = rw (eq-eqb (c .buffers) 0 e)
@@ -58,40 +59,56 @@ module _ (c : Settings) (own : List ℕ) where
   -- settings that draw no 2
   pub good : bad ≡ false → GoodSettings c
   good e =
-      let p = neither (eqb (c .buffers) 0) _ e in
-      let q = neither (ltb 16 (c .buffers)) _ (p .1) in
-      let r = neither _ _ (q .1) in
-      let m = neither (eqb (c .maximum) 0) (ltb 1048576 (c .maximum)) (r .0) in
-      let x = neither (ltb (c .longest) 64) (ltb 1364 (c .longest)) (r .1) in
+      let p = both-false (eqb (c .buffers) 0) _ e in
+      let q = both-false (ltb 16 (c .buffers)) _ (p .1) in
+      let r = both-false _ _ (q .1) in
+      let m = both-false (eqb (c .maximum) 0) (ltb 1048576 (c .maximum)) (r .0) in
+      let x = both-false (ltb (c .longest) 64) (ltb 1364 (c .longest)) (r .1) in
       record {
-        some = omega (arith, eqb-false (c .buffers) 0 (p .0));
-        most = ltb-false 16 (c .buffers) (q .0);
+        counts = counts (eqb-false (c .buffers) 0 (p .0)) (ltb-false 16 (c .buffers) (q .0));
         smallest = omega (arith, eqb-false (c .maximum) 0 (m .0));
         largest = ltb-false 1048576 (c .maximum) (m .1);
         longest = ltb-false 1364 (c .longest) (x .1);
       }
+    where
+      counts : (c .buffers ≡ 0 → ⊥) → c .buffers ≤ 16 → CountsFit 0 (c .buffers) (c .buffers)
+      counts ne few = record { least = omega arith; most = few; room = omega arith }
 
 -- ── formats
 
 -- a format bit that is not supported
-module _ (supported formats : ℕ) where
-  pub bit-zero : formats % 2 ≡ 1 → true ≡ otherFormats supported formats
+module _ (known formats : ℕ) where
+  pub bit-zero : formats % 2 ≡ 1 → true ≡ otherFormats known formats
   bit-zero e = rw (eq-eqb (formats % 2) 1 e)
 
-  pub high-bits : (formats % 2 ≡ 1 → ⊥) → ltb (supported + 1) formats ≡ otherFormats supported formats
+  pub high-bits : (formats % 2 ≡ 1 → ⊥) → ltb (known + 1) formats ≡ otherFormats known formats
   high-bits ne = rw (ne-eqb (formats % 2) 1 ne)
 
 -- the formats supported are at most 6
-pub supported-low : (indirect : Bool) → supportedBy indirect ≤ 6
-supported-low true = omega arith
-supported-low false = omega arith
+pub supported-low : (c : Settings) → supported c ≤ bothFormats
+supported-low c = go (c .indirect)
+  where
+    go : (b : Bool) → cond b bothFormats directOnly ≤ bothFormats
+    go true = omega arith
+    go false = omega arith
+
+-- those that are supported are even and at most 6
+formats-fit : (n f : ℕ) → n ≤ 6 → otherFormats n f ≡ false → (f % 2 ≡ 0) × (f ≤ 6)
+formats-fit n f h e =
+    let p = both-false (eqb (f % 2) 1) (ltb (n + 1) f) e in
+    let even : f % 2 ≡ 0 = two (f % 2) (omega arith) (eqb-false (f % 2) 1 (p .0)) in
+    let low : f ≤ n + 1 = ltb-false (n + 1) f (p .1) in
+    (even, omega (arith, even, low, h))
+  where
+    two : (k : ℕ) → k < 2 → (k ≡ 1 → ⊥) → k ≡ 0
+    two k h ne = omega arith
 
 -- ── rejections
 
 -- the verdict, by the first rejection that fits
 module _ (c : Settings) (own s : List ℕ) where
   abbrev verdict : Verdict
-  verdict = verdictOf (firstOf (rejections (settingsOf c own) s))
+  verdict = verdictOf (firstOf (rejections c own s))
 
   module _ {r : ℕ} (er : r ≡ get requestedLength s) where
     pub too-short : r < 64 → Reject 0x00010000 ≡ verdict
@@ -101,9 +118,9 @@ module _ (c : Settings) (own s : List ℕ) where
       pub too-long : c .longest < r → Reject 0x00010002 ≡ verdict
       too-long h = rw (le-ltb (get requestedLength s) 64 (omega arith), lt-ltb (c .longest) (get requestedLength s) (omega arith))
 
-      module _ (h₂ : r ≤ c .longest) {f n : ℕ} {o : Bool} (ef : f ≡ get formatBits s) (en : n ≡ supportedBy (c .indirect)) (eo : o ≡ otherFormats n f) where
-        formats-are : o ≡ otherFormats (supportedBy (c .indirect)) (get formatBits s)
-        formats-are = eo ∙ ap (λ (k : ℕ). otherFormats k f) en ∙ ap (λ (k : ℕ). otherFormats (supportedBy (c .indirect)) k) ef
+      module _ (h₂ : r ≤ c .longest) {f n : ℕ} {o : Bool} (ef : f ≡ get formatBits s) (en : n ≡ supported c) (eo : o ≡ otherFormats n f) where
+        formats-are : o ≡ otherFormats (supported c) (get formatBits s)
+        formats-are = eo ∙ ap (λ (k : ℕ). otherFormats k f) en ∙ ap (λ (k : ℕ). otherFormats (supported c) k) ef
 
         pub formats-other : o ≡ true → Reject 0x00010004 ≡ verdict
         formats-other e =
@@ -131,15 +148,22 @@ module _ (c : Settings) (own s : List ℕ) where
                   rw
                   (le-ltb (get requestedLength s) 64 (omega arith), le-ltb (c .longest) (get requestedLength s) (omega arith), sym formats-are ∙ h₃, ne-eqb (get channelAction s) 1 (λ z. h₄ (ea ∙ z)), le-ltb 1 (get channelAction s) (omega arith), sym (ap not eb) ∙ e)
 
-  -- what no rejection leaves to know
-  pub accepts : firstOf (rejections (settingsOf c own) s) ≡ none → Accepts c s
-  accepts e =
-      let a = passes (rejections (settingsOf c own) s) e in
+  -- without a rejection the terms are in their ranges
+  pub accepts : GoodSettings c → firstOf (rejections c own s) ≡ none → TermsFit (termsOf c s)
+  accepts G e =
+      let a = passes (rejections c own s) e in
+      let f = formats-fit (supported c) (get formatBits s) (supported-low c) (a .1 .1 .0) in
       record {
+        smallest = G .smallest;
+        largest = G .largest;
         shortest = ltb-false (get requestedLength s) 64 (a .0);
-        longest = ltb-false (c .longest) (get requestedLength s) (a .1 .0);
-        formats = a .1 .1 .0;
+        longest = longest (ltb-false (c .longest) (get requestedLength s) (a .1 .0)) (G .longest);
+        even = f .0;
+        formats = f .1;
       }
+    where
+      longest : get requestedLength s ≤ c .longest → c .longest ≤ 1364 → get requestedLength s ≤ 1364
+      longest h k = omega arith
 
 -- the verdict tells which rejection fits
 pub rejects : (o : Option ℕ) {v : Verdict} {n : ℕ} → v ≡ verdictOf o → v ≡ Reject n → o ≡ some n
@@ -153,18 +177,18 @@ rejects-none (some r) ev e = let z : _≡_ {A = ℕ} 0 1 = cc in let q : ⊥ = o
 -- ── refusals
 
 -- 1, 2, 3 and 4, by the first check that hits
-module _ (c : Settings) (own s : List ℕ) (room : ℕ) where
+module _ (c : Settings) (s : List ℕ) (room : ℕ) where
   abbrev refusal : Option Refusal
-  refusal = firstOf (loginChecks (settingsOf c own) room s)
+  refusal = firstOf (loginChecks c room s)
 
   pub short-buffer : room < 132 → refusal ≡ some ShortBuffer
   short-buffer h = rw (lt-ltb room 132 h)
 
   module _ (h₁ : 132 ≤ room) where
-    pub bad-setting : badSettings (settingsOf c own) ≡ true → refusal ≡ some Setting
+    pub bad-setting : badSettings c ≡ true → refusal ≡ some Setting
     bad-setting e = rw (le-ltb room 132 h₁, e)
 
-    module _ (h₂ : badSettings (settingsOf c own) ≡ false) where
+    module _ (h₂ : badSettings c ≡ false) where
       pub other-length : (length s ≡ 64 → ⊥) → refusal ≡ some Length
       other-length ne = rw (le-ltb room 132 h₁, h₂, ne-eqb (length s) 64 ne)
 

@@ -2,6 +2,8 @@
 use srp::Answer;
 use srp::Refusal;
 use srp::Reply;
+use srp::Settings;
+use srp::Terms;
 use srp::limits;
 use srp::limits::BOTH_FORMATS;
 use srp::limits::DIRECT_ONLY;
@@ -20,17 +22,23 @@ use wire::layout::LOGIN_REQ_SIZE;
 use wire::layout::LOGIN_RSP_SIZE;
 use wire::layout::REQUESTED_LENGTH;
 use wire::layout::TAG;
+use wire::layout::TARGET_IDENTIFIER;
 use words::Head;
+use words::PORT;
 ghost use mathlib.Core.Path.{_≡_};
-ghost use mathlib.Core.List.{List};
-ghost use Prim.Native.Nat.{ℕ, _≤_};
+ghost use Prim.Native.Nat.{_≤_};
 ghost use lib.ListN.{length};
-ghost use Rattle.srp.specs.Limits.{bufferSize};
+ghost use Rattle.srp.specs.Limits.{bufferSize, bothFormats};
+ghost use Rattle.srp.specs.Bytes.{part};
+ghost use Rattle.srp.specs.Messages.{loginReq, targetIdentifier};
+ghost use Rattle.srp.specs.Descriptors.{sameBytes};
 ghost use Rattle.srp.specs.Refusals.{firstOf};
 ghost use Rattle.srp.specs.Requests.{otherFormats};
-ghost use Rattle.srp.specs.Login.{badSettings, rejections, loginDef, judged};
-ghost use Rattle.words.specs.View.{portWords, closedWords};
-ghost use Rattle.login.specs.Parts.{settingsOf, supportedBy, verdictOf, GoodSettings, Accepts, LogsIn};
+ghost use Rattle.srp.specs.Login.{badSettings, rejections, termsOf};
+ghost use Rattle.words.specs.Sizes.{portWords};
+ghost use Rattle.words.specs.Head.{TermsFit};
+ghost use Rattle.words.specs.View.{closedWords};
+ghost use Rattle.login.specs.LoggingIn.{verdictOf, GoodSettings, Opens, AnswersLogin, MakesPort};
 
 const MOST_BUFFERS: u32 = limits::MOST_BUFFERS as u32;
 
@@ -45,15 +53,6 @@ const MULTIPLE_CHANNELS: u32 = 0x00010005;
 
 const OTHER_TARGET: u32 = 0x00010003;
 
-// N, M, X, and whether indirect tables and solicited events are supported.
-pub struct Settings {
-    pub buffers: u32,
-    pub maximum: u32,
-    pub longest: u32,
-    pub indirect: bool,
-    pub solicited: bool,
-}
-
 // What a login of the right length and type comes to.
 pub enum Verdict {
     Accept,
@@ -61,7 +60,7 @@ pub enum Verdict {
 }
 
 fn bad_settings(c: Settings) -> bool
-    ensures { λ r. ⌜ ((own : List ℕ) → r ≡ badSettings (settingsOf c own)) ⌝ }
+    ensures { λ r. ⌜ r ≡ badSettings c ⌝ }
 {
     if c.buffers == 0 {
         return true;
@@ -82,14 +81,18 @@ fn bad_settings(c: Settings) -> bool
 }
 
 // The formats supported, as bits.
-fn supported(indirect: bool) -> u32
-    ensures { λ r. ⌜ r ≡ supportedBy indirect ⌝ }
+fn supported(c: Settings) -> u32
+    ensures { λ r. ⌜ r ≡ Rattle.srp.specs.Login.supported c ⌝ }
 {
-    if indirect { BOTH_FORMATS } else { DIRECT_ONLY }
+    if c.indirect {
+        BOTH_FORMATS
+    } else {
+        DIRECT_ONLY
+    }
 }
 
 fn other_formats(supported: u32, formats: u32) -> bool
-    requires { ⌜ supported ≤ 6 ⌝ }
+    requires { ⌜ supported ≤ bothFormats ⌝ }
     ensures { λ r. ⌜ r ≡ otherFormats supported formats ⌝ }
 {
     if formats % 2 == 1 {
@@ -98,10 +101,19 @@ fn other_formats(supported: u32, formats: u32) -> bool
     supported + 1 < formats
 }
 
+// Whether the login names the port's own identifier as its target.
+fn names_own(msg: &[u8], own: &[u8; 16]) -> bool
+    requires { ⌜ loginReq .size ≤ length (now msg) ⌝ }
+    ensures { λ r. ⌜ r ≡ sameBytes (part targetIdentifier (now (msg .entry))) (now (own .entry)) ⌝ }
+{
+    let end = TARGET_IDENTIFIER + own.len();
+    wire::begins(&msg[TARGET_IDENTIFIER..end], own)
+}
+
 // The first rejection that fits.
 fn judge(c: Settings, own: &[u8; 16], msg: &[u8]) -> Verdict
-    requires { ⌜ length (now msg) ≡ 64 ⌝ }
-    ensures { λ r. ⌜ r ≡ verdictOf (firstOf (rejections (settingsOf c (now (own .entry))) (now (msg .entry)))) ⌝ }
+    requires { ⌜ length (now msg) ≡ loginReq .size ⌝ }
+    ensures { λ r. ⌜ r ≡ verdictOf (firstOf (rejections c (now (own .entry)) (now (msg .entry)))) ⌝ }
 {
     let requested = wire::read32(msg, REQUESTED_LENGTH);
     if requested < SHORTEST_AGREED {
@@ -111,7 +123,7 @@ fn judge(c: Settings, own: &[u8; 16], msg: &[u8]) -> Verdict
         return Verdict::Reject(TOO_LONG);
     }
     let formats = wire::read16(msg, FORMAT_BITS) as u32;
-    if other_formats(supported(c.indirect), formats) {
+    if other_formats(supported(c), formats) {
         return Verdict::Reject(FORMATS_NOT_SUPPORTED);
     }
     let action = wire::read_bits(msg, LOGIN_BITS, CHANNEL_ACTION, 2);
@@ -121,34 +133,44 @@ fn judge(c: Settings, own: &[u8; 16], msg: &[u8]) -> Verdict
     if 1 < action {
         return Verdict::Reject(NO_REASON);
     }
-    if !message::names_own(msg, own) {
+    if !names_own(msg, own) {
         return Verdict::Reject(OTHER_TARGET);
     }
     Verdict::Accept
 }
 
-// The port of an accepted login.
-fn open_port(s: &mut [u64], c: Settings, msg: &[u8])
-    requires { ⌜ length (now s) ≡ portWords ⌝ }
-    requires { ⌜ now s ≡ closedWords ⌝ }
-    requires { ⌜ length (now msg) ≡ 64 ⌝ }
-    requires { ⌜ GoodSettings c ⌝ }
-    requires { ⌜ Accepts c (now msg) ⌝ }
-    ensures { λ _. ⌜ ((st own : List ℕ) → Rattle.words.specs.View.view (now (s .exit)) st ≡ Rattle.srp.specs.Login.opened (settingsOf c own) (now (msg .entry))) ⌝ }
+// What an accepted login settles.
+fn terms_of(c: Settings, msg: &[u8]) -> Terms
+    requires { ⌜ length (now msg) ≡ loginReq .size ⌝ }
+    ensures { λ t. ⌜ t ≡ termsOf c (now (msg .entry)) ⌝ }
 {
     let cr = wire::read_bits(msg, LOGIN_BITS, LOGIN_CRSOLNT, 1);
     let lo = wire::read_bits(msg, LOGIN_BITS, LOGIN_LOSOLNT, 1);
+    Terms {
+        maximum: c.maximum,
+        agreed: wire::read32(msg, REQUESTED_LENGTH),
+        formats: wire::read16(msg, FORMAT_BITS) as u32,
+        crsolnt: cr == 1,
+        losolnt: lo == 1,
+    }
+}
+
+// The port of an accepted login.
+fn open_port(s: &mut [u64], c: Settings, msg: &[u8])
+    requires { ⌜ length (now s) ≡ portWords ⌝ }
+    requires { ⌜ length (now msg) ≡ loginReq .size ⌝ }
+    requires { ⌜ GoodSettings c ⌝ }
+    requires { ⌜ TermsFit (termsOf c (now msg)) ⌝ }
+    ensures { λ _. ⌜ Opens (now (s .exit)) c (now (msg .entry)) ⌝ }
+{
+    let terms = terms_of(c, msg);
     let h = Head {
         live: true,
         held: 0,
         wanted: c.buffers as u8,
         announced: c.buffers as u8,
         unanswered: false,
-        maximum: c.maximum,
-        agreed: wire::read32(msg, REQUESTED_LENGTH),
-        formats: wire::read16(msg, FORMAT_BITS) as u32,
-        crsolnt: cr == 1,
-        losolnt: lo == 1,
+        terms: terms,
     };
     words::set_head(s, h);
 }
@@ -157,13 +179,13 @@ fn open_port(s: &mut [u64], c: Settings, msg: &[u8])
 fn answer_login(s: &mut [u64], c: Settings, own: &[u8; 16], msg: &[u8], buf: &mut [u8]) -> Answer
     requires { ⌜ length (now s) ≡ portWords ⌝ }
     requires { ⌜ now s ≡ closedWords ⌝ }
-    requires { ⌜ length (now msg) ≡ 64 ⌝ }
+    requires { ⌜ length (now msg) ≡ loginReq .size ⌝ }
     requires { ⌜ GoodSettings c ⌝ }
     requires { ⌜ bufferSize ≤ length (now buf) ⌝ }
-    ensures { λ r. ⌜ ((st : List ℕ) → LogsIn st (now (s .exit)) (now (buf .entry)) (now (buf .exit)) r (judged (firstOf (rejections (settingsOf c (now (own .entry))) (now (msg .entry)))) (settingsOf c (now (own .entry))) (now (msg .entry)))) ⌝ }
+    ensures { λ r. ⌜ AnswersLogin (now (buf .entry)) (now (s .exit)) (now (buf .exit)) c (now (own .entry)) (now (msg .entry)) r ⌝ }
 {
     let tag = wire::read64(msg, TAG);
-    let formats = supported(c.indirect) as u16;
+    let formats = supported(c) as u16;
     if let Verdict::Reject(reason) = judge(c, own, msg) {
         message::put_login_rejection(buf, reason, tag, formats);
         return Answer {
@@ -187,8 +209,8 @@ fn answer_login(s: &mut [u64], c: Settings, own: &[u8; 16], msg: &[u8], buf: &mu
 }
 
 // Makes a port in any words, using nothing of what they held. Refused 1, 2, 3, 4.
-pub fn login(s: &mut [u64; 400], c: Settings, own: &[u8; 16], msg: &[u8], buf: &mut [u8]) -> Answer
-    ensures { λ r. ⌜ ((st : List ℕ) → LogsIn st (now (s .exit)) (now (buf .entry)) (now (buf .exit)) r (loginDef (settingsOf c (now (own .entry))) (length (now (buf .entry))) (now (msg .entry)))) ⌝ }
+pub fn login(s: &mut [u64; PORT], c: Settings, own: &[u8; 16], msg: &[u8], buf: &mut [u8]) -> Answer
+    ensures { λ r. ⌜ MakesPort (now (buf .entry)) (now (s .exit)) (now (buf .exit)) c (now (own .entry)) (now (msg .entry)) r ⌝ }
 {
     words::clear(s);
     if buf.len() < (LONGEST_WRITTEN_MESSAGE as usize) {

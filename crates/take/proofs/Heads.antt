@@ -10,10 +10,11 @@ use Rattle.srp.specs.Requests.{readMessage}
 use Rattle.srp.specs.Credit.{Port}
 use Rattle.srp.specs.Take.{Tables, takeDef}
 use Rattle.srp.specs.declared.Message.{Message}
-use Rattle.words.specs.View.{headOf, HeadIs, view}
+use Rattle.words.specs.Head.{headOf, HeadIs}
+use Rattle.words.specs.View.{view}
 use Rattle.words.specs.declared.Head.{Head}
 use Rattle.words.proofs.Ports.{while-open, view-live}
-use Rattle.take.specs.Parts.{laterDef}
+use Rattle.take.specs.Taking.{laterDef}
 use Rattle.take.proofs.Branches.{take-on}
 
 module _ {l : List ℕ} {h : Head} (H : HeadIs l h) where
@@ -22,12 +23,12 @@ module _ {l : List ℕ} {h : Head} (H : HeadIs l h) where
   some-credit ne = omega (arith, ne, H .announced)
 
   module _ (st : List ℕ) (e : headOf l .live ≡ true) where
-    reading-is : (m : List ℕ) → readMessage (view l st .agreed) (view l st .formats) m ≡ readMessage (h .agreed) (h .formats) m
+    reading-is : (m : List ℕ) → readMessage (view l st .terms .agreed) (view l st .terms .formats) m ≡ readMessage (h .terms .agreed) (h .terms .formats) m
     reading-is m =
-        ap (λ (p : Port). readMessage (p .agreed) (p .formats) m) (while-open l st e)
-        ∙ ap (λ (g : Head). readMessage (g .agreed) (g .formats) m) (sym (H .whole))
+        ap (λ (p : Port). readMessage (p .terms .agreed) (p .terms .formats) m) (while-open l st e)
+        ∙ ap (λ (g : Head). readMessage (g .terms .agreed) (g .terms .formats) m) (sym (H .whole))
 
     -- take, with enough room, is that of the message read
-    pub take-of : (room : ℕ) → bufferSize ≤ room → (m : List ℕ) (b : Tables) {x y : Message} → x ≡ readMessage (h .agreed) (h .formats) m → x ≡ y
+    pub take-of : (room : ℕ) → bufferSize ≤ room → (m : List ℕ) (b : Tables) {x y : Message} → x ≡ readMessage (h .terms .agreed) (h .terms .formats) m → x ≡ y
         → takeDef (view l st) room m b ≡ laterDef (view l st) m b y
     take-of room enough m b {x} {y} r q = take-on (view l st) room m b enough (view-live l st ∙ e) y (reading-is m ∙ sym r ∙ q)

@@ -1,92 +1,54 @@
 // Take: a message from the initiator, with the tables lent for it. Document 01's checks in its order, hang-ups, refusal 10, task management,
 // credit responses, the initiator's logout.
-use cut::Total;
+mod fresh;
+
 use srp::Answer;
-use srp::Command;
 use srp::Message;
 use srp::Refusal;
 use srp::Reply;
+use srp::Request;
 use srp::TaskRequest;
+use srp::limits::CREDIT_TAG;
 use srp::limits::LONGEST_WRITTEN_MESSAGE;
-use state::ABORT_TASK;
 use state::Ending;
 use state::Found;
-use store::Fresh;
-use wire::layout::SHORT_SIZE;
+use words::PORT;
+use words::STORE;
 ghost use mathlib.Core.Path.{_≡_};
 ghost use mathlib.Core.Bool.{true};
 ghost use mathlib.Core.List.{List};
 ghost use Prim.Native.Nat.{ℕ, _≤_};
 ghost use lib.ListN.{length};
 ghost use Rattle.srp.specs.Limits.{bufferSize};
-ghost use Rattle.srp.specs.Take.{Tables, hangUp, taskCode, accepted, takeDef};
-ghost use Rattle.srp.specs.declared.Message.the-variants.{Cmd, TskMgmt, CredRsp, ILogout};
-ghost use Rattle.command.specs.Reading.{FitsIn};
-ghost use Rattle.words.specs.View.{portWords, storeSize, headOf, view};
-ghost use Rattle.state.specs.Promises.{Answers};
-ghost use Rattle.take.specs.Parts.{tables, laterDef, fieldsDef, badDef, Summed, freshOf};
-
-const CLEAR_ACA: u8 = 0x40;
-
-// RSP_CODEs
-const COMPLETE: u8 = 0x00;
-
-const FIELDS_INVALID: u8 = 0x02;
-
-const NOT_SUPPORTED: u8 = 0x04;
-
-// an SRP_RSP with its response bytes
-const ANSWER_SIZE: usize = 40;
-
-// the tag of every credit request
-const CREDIT_TAG: u64 = 1;
+ghost use Rattle.srp.specs.declared.Message.the-variants.{TskMgmt, CredRsp, ILogout};
+ghost use Rattle.words.specs.Sizes.{portWords};
+ghost use Rattle.words.specs.Head.{headOf};
+ghost use Rattle.take.specs.Taking.{tables, HangsUp, AnswersBad, EndsTask, Decides, Takes};
 
 // The channel is closed, its commands are dropped, and an SRP_T_LOGOUT says so.
 fn hang_up(s: &mut [u64], buf: &mut [u8], f: Refusal) -> Answer
     requires { ⌜ length (now s) ≡ portWords ⌝ }
     requires { ⌜ headOf (now s) .live ≡ true ⌝ }
     requires { ⌜ bufferSize ≤ length (now buf) ⌝ }
-    ensures { λ r. ⌜ ((st : List ℕ) → Answers (now (s .entry)) st (now (buf .entry)) (now (s .exit)) st (now (buf .exit)) r (hangUp (view (now (s .entry)) st) f)) ⌝ }
+    ensures { λ r. ⌜ HangsUp (now (s .entry)) (now (buf .entry)) (now (s .exit)) (now (buf .exit)) f r ⌝ }
 {
-    let h = words::get_head(s);
-    words::clear(s);
-    message::put_logout(buf, h.losolnt, answer::reason_of(f));
-    Answer {
-        reply: Reply::Refused(f),
-        wrote: SHORT_SIZE,
-    }
+    close::log_out(s, buf, Reply::Refused(f), answer::reason_of(f))
 }
 
 // A command with bad fields is taken and answered.
-fn answer_bad(s: &mut [u64], buf: &mut [u8], ucsolnt: bool, tag: u64) -> Answer
+fn answer_bad(s: &mut [u64], buf: &mut [u8], q: Request) -> Answer
     requires { ⌜ length (now s) ≡ portWords ⌝ }
     requires { ⌜ headOf (now s) .live ≡ true ⌝ }
     requires { ⌜ 1 ≤ headOf (now s) .announced ⌝ }
     requires { ⌜ bufferSize ≤ length (now buf) ⌝ }
-    ensures { λ r. ⌜ ((st : List ℕ) → Answers (now (s .entry)) st (now (buf .entry)) (now (s .exit)) st (now (buf .exit)) r (badDef (view (now (s .entry)) st) ucsolnt tag)) ⌝ }
+    ensures { λ r. ⌜ AnswersBad (now (s .entry)) (now (buf .entry)) (now (s .exit)) (now (buf .exit)) q r ⌝ }
 {
     let delta = state::settle(s, 1);
-    message::put_answer(buf, ucsolnt, tag, FIELDS_INVALID, delta);
+    message::put_answer(buf, q.ucsolnt, q.tag, task::FIELDS_INVALID, delta);
     Answer {
         reply: Reply::Refused(Refusal::Fields),
-        wrote: ANSWER_SIZE,
+        wrote: message::ANSWER_SIZE,
     }
-}
-
-// RSP_CODE of a task request.
-fn task_code(function: u8) -> u8
-    ensures { λ r. ⌜ r ≡ taskCode function ⌝ }
-{
-    if function == ABORT_TASK {
-        return COMPLETE;
-    }
-    if state::whole_lun(function) {
-        return COMPLETE;
-    }
-    if function == CLEAR_ACA {
-        return NOT_SUPPORTED;
-    }
-    FIELDS_INVALID
 }
 
 // A task request that passed its checks: its aborts, and its answer.
@@ -95,18 +57,20 @@ fn end_task(s: &mut [u64], buf: &mut [u8], t: TaskRequest) -> Answer
     requires { ⌜ headOf (now s) .live ≡ true ⌝ }
     requires { ⌜ 1 ≤ headOf (now s) .announced ⌝ }
     requires { ⌜ bufferSize ≤ length (now buf) ⌝ }
-    ensures { λ r. ⌜ ((st m : List ℕ) (b : Tables) → Answers (now (s .entry)) st (now (buf .entry)) (now (s .exit)) st (now (buf .exit)) r (accepted (view (now (s .entry)) st) m b (TskMgmt t))) ⌝ }
+    ensures { λ r. ⌜ EndsTask (now (s .entry)) (now (buf .entry)) (now (s .exit)) (now (buf .exit)) (TskMgmt t) r ⌝ }
 {
-    let tag = t.tag;
-    let lun = t.lun;
-    let code = task_code(t.function);
-    let solnt = answer::solicited(t.ucsolnt, t.scsolnt, code);
+    let q = t.request;
+    let code = task::code_of(t.function);
+    let solnt = message::solicited(q, code);
     state::drop_commands(s, 0, Ending::Aborted(t));
     let due = state::settle(s, 1);
-    message::put_answer(buf, solnt, tag, code, due);
+    message::put_answer(buf, solnt, q.tag, code, due);
     Answer {
-        reply: Reply::TaskAnswered { tag: tag, lun: lun },
-        wrote: ANSWER_SIZE,
+        reply: Reply::TaskAnswered {
+            tag: q.tag,
+            lun: q.lun,
+        },
+        wrote: message::ANSWER_SIZE,
     }
 }
 
@@ -115,13 +79,14 @@ fn take_task(s: &mut [u64], buf: &mut [u8], t: TaskRequest) -> Answer
     requires { ⌜ length (now s) ≡ portWords ⌝ }
     requires { ⌜ headOf (now s) .live ≡ true ⌝ }
     requires { ⌜ bufferSize ≤ length (now buf) ⌝ }
-    ensures { λ r. ⌜ ((st m : List ℕ) (b : Tables) → Answers (now (s .entry)) st (now (buf .entry)) (now (s .exit)) st (now (buf .exit)) r (laterDef (view (now (s .entry)) st) m b (TskMgmt t))) ⌝ }
+    ensures { λ r. ⌜ Decides (now (s .entry)) (now (buf .entry)) (now (s .exit)) (now (buf .exit)) (TskMgmt t) r ⌝ }
 {
     let h = words::get_head(s);
     if h.announced == 0 {
         return hang_up(s, buf, Refusal::NoCredit);
     }
-    match state::find(s, t.tag) {
+    let q = t.request;
+    match state::find(s, q.tag) {
         Found::At(_) => hang_up(s, buf, Refusal::TagOpen),
         Found::Nothing => end_task(s, buf, t),
     }
@@ -132,7 +97,7 @@ fn take_credit(s: &mut [u64], buf: &mut [u8], tag: u64) -> Answer
     requires { ⌜ length (now s) ≡ portWords ⌝ }
     requires { ⌜ headOf (now s) .live ≡ true ⌝ }
     requires { ⌜ bufferSize ≤ length (now buf) ⌝ }
-    ensures { λ r. ⌜ ((st m : List ℕ) (b : Tables) → Answers (now (s .entry)) st (now (buf .entry)) (now (s .exit)) st (now (buf .exit)) r (laterDef (view (now (s .entry)) st) m b (CredRsp tag))) ⌝ }
+    ensures { λ r. ⌜ Decides (now (s .entry)) (now (buf .entry)) (now (s .exit)) (now (buf .exit)) (CredRsp tag) r ⌝ }
 {
     let h = words::get_head(s);
     let unanswered = h.unanswered;
@@ -149,10 +114,10 @@ fn take_credit(s: &mut [u64], buf: &mut [u8], tag: u64) -> Answer
     }
 }
 
-// The initiator's logout.
+// The initiator's logout, which leaves the buffer.
 fn take_logout(s: &mut [u64]) -> Answer
     requires { ⌜ length (now s) ≡ portWords ⌝ }
-    ensures { λ r. ⌜ ((st m b : List ℕ) (t : Tables) → Answers (now (s .entry)) st b (now (s .exit)) st b r (laterDef (view (now (s .entry)) st) m t ILogout)) ⌝ }
+    ensures { λ r. ⌜ ((b : List ℕ) → Decides (now (s .entry)) b (now (s .exit)) b ILogout r) ⌝ }
 {
     words::clear(s);
     Answer {
@@ -161,129 +126,18 @@ fn take_logout(s: &mut [u64]) -> Answer
     }
 }
 
-// What the message says of a new command, with B of each direction.
-fn fresh_of(c: Command, out: u32, inn: u32) -> Fresh
-    ensures { λ r. ⌜ r ≡ freshOf c out inn ⌝ }
-{
-    Fresh {
-        tag: c.tag,
-        lun: c.lun,
-        ucsolnt: c.ucsolnt,
-        scsolnt: c.scsolnt,
-        out: out,
-        inn: inn,
-    }
-}
-
-// A command that passed its checks is open from here on.
-fn enter_command<'a>(
-    s: &mut [u64],
-    store: &mut [u8],
-    msg: &'a [u8],
-    out: &'a [u8],
-    inn: &'a [u8],
-    c: Command,
-    out_total: u64,
-    in_total: u64,
-) -> Answer
-    requires { ⌜ length (now s) ≡ portWords ⌝ }
-    requires { ⌜ length (now store) ≡ storeSize ⌝ }
-    requires { ⌜ headOf (now s) .live ≡ true ⌝ }
-    requires { ⌜ 1 ≤ headOf (now s) .announced ⌝ }
-    requires { ⌜ FitsIn (now msg) c ⌝ }
-    requires { ⌜ Summed (now msg) (now out) (now inn) c «out_total» «in_total» ⌝ }
-    ensures { λ r. ⌜ ((b : List ℕ) → Answers (now (s .entry)) (now (store .entry)) b (now (s .exit)) (now (store .exit)) b r (accepted (view (now (s .entry)) (now (store .entry))) (now (msg .entry)) (tables (now (out .entry)) (now (inn .entry))) (Cmd c))) ⌝ }
-{
-    let o = c.out;
-    let i = c.inn;
-    let out_list = command::segment_list(msg, out, o);
-    let in_list = command::segment_list(msg, inn, i);
-    let f = fresh_of(c, out_total as u32, in_total as u32);
-    store::enter(s, store, f, out_list, in_list);
-    Answer {
-        reply: Reply::NewCommand {
-            tag: c.tag,
-            lun: c.lun,
-            cdb: c.cdb,
-        },
-        wrote: 0,
-    }
-}
-
-// 9 and 10 of a command, and what follows.
-fn take_fields<'a>(
-    s: &mut [u64],
-    store: &mut [u8],
-    msg: &'a [u8],
-    out: &'a [u8],
-    inn: &'a [u8],
-    buf: &mut [u8],
-    c: Command,
-) -> Answer
-    requires { ⌜ length (now s) ≡ portWords ⌝ }
-    requires { ⌜ length (now store) ≡ storeSize ⌝ }
-    requires { ⌜ headOf (now s) .live ≡ true ⌝ }
-    requires { ⌜ 1 ≤ headOf (now s) .announced ⌝ }
-    requires { ⌜ bufferSize ≤ length (now buf) ⌝ }
-    requires { ⌜ FitsIn (now msg) c ⌝ }
-    ensures { λ r. ⌜ Answers (now (s .entry)) (now (store .entry)) (now (buf .entry)) (now (s .exit)) (now (store .exit)) (now (buf .exit)) r (fieldsDef (view (now (s .entry)) (now (store .entry))) (now (msg .entry)) (tables (now (out .entry)) (now (inn .entry))) c) ⌝ }
-{
-    let o = c.out;
-    let i = c.inn;
-    let out_len = command::fetched_length(o) as usize;
-    if out.len() != out_len {
-        return answer::refused(Refusal::TableLength);
-    }
-    let in_len = command::fetched_length(i) as usize;
-    if inn.len() != in_len {
-        return answer::refused(Refusal::TableLength);
-    }
-    let Total::Sum(out_total) = command::fields(msg, out, o) else {
-        return answer_bad(s, buf, c.ucsolnt, c.tag);
-    };
-    let Total::Sum(in_total) = command::fields(msg, inn, i) else {
-        return answer_bad(s, buf, c.ucsolnt, c.tag);
-    };
-    enter_command(s, store, msg, out, inn, c, out_total, in_total)
-}
-
-// 22 and 23 of a command, and what follows.
-fn take_command<'a>(
-    s: &mut [u64],
-    store: &mut [u8],
-    msg: &'a [u8],
-    out: &'a [u8],
-    inn: &'a [u8],
-    buf: &mut [u8],
-    c: Command,
-) -> Answer
-    requires { ⌜ length (now s) ≡ portWords ⌝ }
-    requires { ⌜ length (now store) ≡ storeSize ⌝ }
-    requires { ⌜ headOf (now s) .live ≡ true ⌝ }
-    requires { ⌜ bufferSize ≤ length (now buf) ⌝ }
-    requires { ⌜ FitsIn (now msg) c ⌝ }
-    ensures { λ r. ⌜ Answers (now (s .entry)) (now (store .entry)) (now (buf .entry)) (now (s .exit)) (now (store .exit)) (now (buf .exit)) r (laterDef (view (now (s .entry)) (now (store .entry))) (now (msg .entry)) (tables (now (out .entry)) (now (inn .entry))) (Cmd c)) ⌝ }
-{
-    let h = words::get_head(s);
-    if h.announced == 0 {
-        return hang_up(s, buf, Refusal::NoCredit);
-    }
-    let Found::Nothing = state::find(s, c.tag) else {
-        return hang_up(s, buf, Refusal::TagOpen);
-    };
-    take_fields(s, store, msg, out, inn, buf, c)
-}
-
 // Takes a message, with both tables lent. Refused 1, 21, 3, 4, 3, 5, 6, 3, 7, 8, 22, 23, 9, 10; a credit response 25.
 pub fn take<'a>(
-    s: &mut [u64; 400],
-    store: &mut [u8; 16384],
+    s: &mut [u64; PORT],
+    store: &mut [u8; STORE],
     msg: &'a [u8],
     out: &'a [u8],
     inn: &'a [u8],
     buf: &mut [u8],
 ) -> Answer
-    ensures { λ r. ⌜ Answers (now (s .entry)) (now (store .entry)) (now (buf .entry)) (now (s .exit)) (now (store .exit)) (now (buf .exit)) r (takeDef (view (now (s .entry)) (now (store .entry))) (length (now (buf .entry))) (now (msg .entry)) (tables (now (out .entry)) (now (inn .entry)))) ⌝ }
+    ensures { λ r. ⌜ Takes
+        (now (s .entry)) (now (store .entry)) (now (buf .entry)) (now (s .exit)) (now (store .exit)) (now (buf .exit))
+        (now (msg .entry)) (tables (now (out .entry)) (now (inn .entry))) r ⌝ }
 {
     if buf.len() < (LONGEST_WRITTEN_MESSAGE as usize) {
         return answer::refused(Refusal::ShortBuffer);
@@ -293,9 +147,10 @@ pub fn take<'a>(
     if !live {
         return answer::refused(Refusal::Closed);
     }
-    match request::read_message(msg, h.agreed, h.formats) {
+    let terms = h.terms;
+    match request::read_message(msg, terms.agreed, terms.formats) {
         Message::Bad(f) => hang_up(s, buf, f),
-        Message::Cmd(c) => take_command(s, store, msg, out, inn, buf, c),
+        Message::Cmd(c) => fresh::take_command(s, store, msg, out, inn, buf, c),
         Message::TskMgmt(t) => take_task(s, buf, t),
         Message::CredRsp(tag) => take_credit(s, buf, tag),
         Message::ILogout => take_logout(s),

@@ -11,7 +11,7 @@ use Rattle.srp.specs.Calls.{planDef, planned, stepDef}
 use Rattle.srp.specs.declared.Direction.{Direction}
 use Rattle.srp.specs.declared.Refusal.the-variants.{Closed, TagNotOpen, Unplanned, Planned}
 use Rattle.srp.specs.declared.Reply.the-variants.{Refused, Performed}
-use Rattle.transfer.specs.Parts.{handDef}
+use Rattle.transfer.specs.Stepping.{handDef}
 
 -- ── plan
 

@@ -44,7 +44,7 @@ returns-3 c =
     let l = a .s .now in
     let G = c .before .before .before .get-head .ensures in
     let w = wanted-is G st (head-open G (c .before .before .if1 .left)) in
-    replies-by (add-past (view l st) (a .k) (port-open G st (c .before .before .if1 .left)) (c .before .if2 .left) (rw w (omega (arith, c .if3 .taken, G .fits .most)))) (refused l st Wanted)
+    replies-by (add-past (view l st) (a .k) (port-open G st (c .before .before .if1 .left)) (c .before .if2 .left) (rw w (omega (arith, c .if3 .taken, G .fits .counts .most)))) (refused l st Wanted)
 
 cast-set-wanted : tie.Need-cast-set-wanted
 cast-set-wanted c = search needs
@@ -62,7 +62,7 @@ returns-4 c =
     let l = a .s .now in
     let G = c .before .before .before .before .before .get-head .ensures in
     let w = wanted-is G st (head-open G (c .before .before .before .before .if1 .left)) in
-    replies-by (added (view l st) (a .k) (port-open G st (c .before .before .before .before .if1 .left)) (c .before .before .before .if2 .left) (rw w (omega (arith, c .before .before .if3 .left, G .fits .most))))
+    replies-by (added (view l st) (a .k) (port-open G st (c .before .before .before .before .if1 .left)) (c .before .before .before .if2 .left) (rw w (omega (arith, c .before .before .if3 .left, G .fits .counts .most))))
     (performed refl
     (altered-view l (c .set-wanted .last .0) st (head-open G (c .before .before .before .before .if1 .left)) (c .set-wanted .ensures)
     ∙ ap (λ n. withWanted (view l st) (n + a .k)) (sym w)) refl refl)

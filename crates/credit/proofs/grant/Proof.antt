@@ -45,10 +45,10 @@ refused-requires-3 c κs = search needs
 returns-3 : tie.Need-returns-3
 returns-3 c =
     λ st.
-    let a = c .before .before .before .before .before .before .before .before .args in
+    let a = c .before .before .before .before .before .before .before .before .before .args in
     let l = a .s .now in
-    let G = c .before .before .before .get-head .ensures in
-    answers-by (grant-unanswered (view l st) _ (c .before .before .before .before .before .before .if1 .left) (port-open G st (c .before .before .if2 .left)) (unanswered-is G st (head-open G (c .before .before .if2 .left)) ∙ c .before .if3 .taken))
+    let G = c .before .before .before .before .get-head .ensures in
+    answers-by (grant-unanswered (view l st) _ (c .before .before .before .before .before .before .before .if1 .left) (port-open G st (c .before .before .before .if2 .left)) (unanswered-is G st (head-open G (c .before .before .before .if2 .left)) ∙ c .before .if3 .taken))
     (unaltered l st (a .buf .now) Unanswered _ (c .refused3 .ensures))
 
 owing-requires : tie.Need-owing-requires
@@ -60,18 +60,18 @@ refused-requires-4 c κs = search needs
 returns-4 : tie.Need-returns-4
 returns-4 c =
     λ st.
-    let a = c .before .before .before .before .before .before .before .before .before .before .args in
+    let a = c .before .before .before .before .before .before .before .before .before .before .before .args in
     let l = a .s .now in
-    let G = c .before .before .before .before .before .get-head .ensures in
-    let o = head-open G (c .before .before .before .before .if2 .left) in
+    let G = c .before .before .before .before .before .before .get-head .ensures in
+    let o = head-open G (c .before .before .before .before .before .if2 .left) in
     answers-by
-    (grant-not-owed (view l st) _ (c .before .before .before .before .before .before .before .before .if1 .left) (view-live l st ∙ o) (unanswered-is G st o ∙ c .before .before .before .if3 .left)
+    (grant-not-owed (view l st) _ (c .before .before .before .before .before .before .before .before .before .if1 .left) (view-live l st ∙ o) (unanswered-is G st o ∙ c .before .before .before .if3 .left)
     (rw (wanted-is G st o, announced-is G st o, held-is G st o) (ltb-false _ _ (sym (c .before .before .owing .ensures) ∙ not-true _ (c .before .if4 .taken)))))
     (unaltered l st (a .buf .now) NotOwed _ (c .refused4 .ensures))
 
 write-request-requires : tie.Need-write-request-requires
 write-request-requires c κs =
-    (c .before .write-request-arg .given .0 .1, (head-open (c .before .before .before .before .before .before .get-head .ensures) (c .before .before .before .before .before .if2 .left), (ap (λ (h : Head). h .crsolnt) (c .before .before .before .before .before .before .get-head .ensures .whole), c .before .before .before .before .before .before .before .before .before .if1 .left)))
+    (c .before .write-request-arg .given .0 .1, (head-open (c .before .before .before .before .before .before .before .get-head .ensures) (c .before .before .before .before .before .before .if2 .left), (ap (λ (h : Head). h .terms .crsolnt) (c .before .before .before .before .before .before .before .get-head .ensures .whole), c .before .before .before .before .before .before .before .before .before .before .if1 .left)))
 
 same-length : tie.Need-same-length
 same-length c = search needs
@@ -79,11 +79,11 @@ same-length c = search needs
 returns-5 : tie.Need-returns-5
 returns-5 c =
     λ st.
-    let l = c .before .before .before .before .before .before .before .before .before .before .before .before .before .before .args .s .now in
-    let G = c .before .before .before .before .before .before .before .before .before .get-head .ensures in
-    let o = head-open G (c .before .before .before .before .before .before .before .before .if2 .left) in
+    let l = c .before .before .before .before .before .before .before .before .before .before .before .before .before .before .before .args .s .now in
+    let G = c .before .before .before .before .before .before .before .before .before .before .get-head .ensures in
+    let o = head-open G (c .before .before .before .before .before .before .before .before .before .if2 .left) in
     answers-by
-    (granted (view l st) _ (c .before .before .before .before .before .before .before .before .before .before .before .before .if1 .left) (view-live l st ∙ o) (unanswered-is G st o ∙ c .before .before .before .before .before .before .before .if3 .left)
+    (granted (view l st) _ (c .before .before .before .before .before .before .before .before .before .before .before .before .before .if1 .left) (view-live l st ∙ o) (unanswered-is G st o ∙ c .before .before .before .before .before .before .before .if3 .left)
     (rw (wanted-is G st o, announced-is G st o, held-is G st o) (ltb-true _ _ (sym (c .before .before .before .before .before .before .owing .ensures) ∙ not-false _ (c .before .before .before .before .before .if4 .left)))))
     (c .before .before .write-request .ensures st)
 

@@ -6,7 +6,8 @@ use native.Mathlib.Omega.{arith}
 use Rattle.srp.specs.Credit.{Port, withUnanswered}
 use Rattle.srp.specs.Writing.{creditRequest, placed}
 use Rattle.srp.specs.declared.Reply.the-variants.{Performed}
-use Rattle.words.specs.View.{headOf, view}
+use Rattle.words.specs.Head.{headOf}
+use Rattle.words.specs.View.{view}
 use Rattle.words.proofs.Ports.{while-open}
 use Rattle.state.specs.Changes.{Alters}
 use Rattle.state.proofs.Promises.{altered-view}
@@ -37,8 +38,8 @@ returns c =
     let l = a .s .now in
     let live : headOf l .live ≡ true = (c .before .before .before .before .before .before .before .before .before .before .before .before .before .before .pre) .1 .0 in
     let A : Alters l (c .before .before .before .before .before .before .before .before .before .before .set-unanswered .last .0) (λ p. withUnanswered p true) = c .before .before .before .before .before .before .before .before .before .before .set-unanswered .ensures in
-    let x : a .crsolnt ≡ view l st .crsolnt = (c .before .before .before .before .before .before .before .before .before .before .before .before .before .before .pre) .1 .1 .0 ∙ ap (λ (p : Port). p .crsolnt) (sym (while-open l st live)) in
-    answered {p = withUnanswered (view l st) true} Performed (creditRequest (view l st .crsolnt))
+    let x : a .crsolnt ≡ view l st .terms .crsolnt = (c .before .before .before .before .before .before .before .before .before .before .before .before .before .before .pre) .1 .1 .0 ∙ ap (λ (p : Port). p .terms .crsolnt) (sym (while-open l st live)) in
+    answered {p = withUnanswered (view l st) true} Performed (creditRequest (view l st .terms .crsolnt))
     (altered-view l (c .before .before .before .before .before .before .before .before .before .before .set-unanswered .last .0) st live A) (unused (withUnanswered (view l st) true)) refl (A .live ∙ live) (c .before .before .before .before .before .before .settle .ensures)
     (c .before .before .put-credit-request .ensures ∙ ap (λ (b : Bool). placed (creditRequest b (c .before .before .before .before .before .before .settle .result) ∷ []) (a .buf .now)) x) refl (omega arith)
 

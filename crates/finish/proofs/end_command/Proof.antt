@@ -11,7 +11,8 @@ use Rattle.srp.specs.Writing.{placed}
 use Rattle.srp.specs.Take.{answering, hasTag}
 use Rattle.srp.specs.Calls.{finalResponse}
 use Rattle.srp.specs.declared.Reply.the-variants.{Performed}
-use Rattle.words.specs.View.{headOf, openOf, view}
+use Rattle.words.specs.Head.{headOf}
+use Rattle.words.specs.View.{openOf, view}
 use Rattle.state.specs.Changes.{Alters, withoutEnded}
 use Rattle.state.specs.declared.Ending.the-variants.{Finished}
 use Rattle.state.proofs.Promises.{answers-by, altered-view, found-slot}
@@ -37,11 +38,13 @@ header-requires : tie.Need-header-requires
 header-requires c κs = search needs
 
 put-response-requires : tie.Need-put-response-requires
-put-response-requires c κs = search needs
+put-response-requires c κs =
+    let p = c .before .before .before .before .before .before .before .before .before .before .before .before .before .before .before .pre in
+    (omega (arith, p .1 .1 .1), p .1 .1 .1 .0)
 
 add-t22 : tie.Need-add-t22
 add-t22 c =
-    record { fits = omega (arith, (c .before .before .before .before .before .before .before .before .before .before .before .before .before .before .before .before .before .before .pre) .1 .1 .1 .0) }
+    record { fits = omega (arith, c .before .before .before .before .before .before .before .before .before .before .before .before .before .before .before .before .before .before .pre .1 .1 .1 .0) }
 
 same-length : tie.Need-same-length
 same-length c = search needs
@@ -56,10 +59,10 @@ returns c =
     let l = a .s .now in
     let x = openOf st (c .before .before .before .before .before .before .before .before .before .before .before .before .before .load .result) in
     let p : Port = withoutEnded (Finished (a .tag)) (view l st) in
-    let live : headOf l .live ≡ true = (c .before .before .before .before .before .before .before .before .before .before .before .before .before .before .before .before .before .before .pre) .1 .0 in
+    let live : headOf l .live ≡ true = c .before .before .before .before .before .before .before .before .before .before .before .before .before .before .before .before .before .before .pre .1 .0 in
     let A : Alters l (c .before .before .before .before .before .before .before .before .before .before .before .drop-commands .last .0) (withoutEnded (Finished (a .tag))) = c .before .before .before .before .before .before .before .before .before .before .before .drop-commands .ensures in
     let f : find (hasTag (a .tag)) (view l st .held) ≡ some x =
-    found-slot ((c .before .before .before .before .before .before .before .before .before .before .before .before .before .before .before .before .before .before .pre) .1 .1 .0) live st (c .before .before .before .before .before .before .before .before .before .before .before .before .before .load .ensures) in
+    found-slot (c .before .before .before .before .before .before .before .before .before .before .before .before .before .before .before .before .before .before .pre .1 .1 .0) live st (c .before .before .before .before .before .before .before .before .before .before .before .before .before .load .ensures) in
     answers-by (ap (λ (o : Option Open). answering p Performed (finalResponse o (a .status) (a .sense .now))) f)
     (answered {p = p} Performed (finalResponse (some x) (a .status) (a .sense .now)) (altered-view l (c .before .before .before .before .before .before .before .before .before .before .before .drop-commands .last .0) st live A) (unused p) refl (A .live ∙ live) (c .before .before .before .before .before .before .before .settle .ensures)
     (c .before .before .put-response .ensures ∙ ap (λ (m : List ℕ). placed (m ∷ []) (a .buf .now)) (response-is (c .before .before .before .before .before .before .before .before .before .before .before .before .before .load .result) (a .status) (c .before .before .before .before .before .before .before .settle .result) (a .sense .now) st (c .before .before .before .before .header .result) (c .before .before .before .before .header .ensures)))

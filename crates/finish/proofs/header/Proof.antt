@@ -1,7 +1,8 @@
 -- `finish::header` meets its contract. Assumes nothing.
-use Prim.Native.Nat.{_+_, _*_}
-use Rattle.words.specs.View.{placeSize, listSize}
-use Rattle.finish.proofs.Endings.{header-by}
+use Rattle.srp.specs.declared.Direction.the-variants.{Out, In}
+use Rattle.words.specs.Slots.{placeFor}
+use Rattle.words.specs.View.{openOf}
+use Rattle.finish.proofs.Endings.{final-by}
 use borrow.Author.Needs.{needs}
 use Rattle.finish.proofs.header.Statement.{statement}
 use Rattle.finish.proofs.header.Tie as tie
@@ -17,10 +18,8 @@ residual-requires-2 c κs = search needs
 
 returns : tie.Need-returns
 returns c =
-    λ st.
-    header-by (c .before .before .before .before .before .args .delta) (c .before .before .before .before .before .args .c .tag) (c .before .before .before .before .before .args .status) (c .before .before .solicited .ensures)
-    (c .before .residual .ensures st (placeSize * c .before .before .before .before .before .args .c .place))
-    (c .residual2 .ensures st (placeSize * c .before .before .before .before .before .args .c .place + listSize))
+    let a = c .before .before .before .args in
+    λ st sense. final-by (openOf st (a .c)) (a .status) (a .delta) sense (c .before .before .solicited .ensures) (c .before .residual .ensures st (placeFor Out (a .c))) (c .residual2 .ensures st (placeFor In (a .c)))
 
 pub header-spec : {M : Type 1} → statement M
 header-spec = tie.close (tie.spec solicited-requires residual-requires residual-requires-2 returns)

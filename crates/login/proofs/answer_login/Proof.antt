@@ -2,7 +2,6 @@
 use native.Mathlib.Omega.{arith}
 use Rattle.srp.specs.Refusals.{firstOf}
 use Rattle.srp.specs.Login.{rejections}
-use Rattle.login.specs.Parts.{settingsOf}
 use Rattle.login.proofs.Deciding.{supported-low, rejects, rejects-none, accepts}
 use Rattle.login.proofs.Opening.{was-rejected, was-accepted}
 use borrow.Author.Needs.{needs}
@@ -17,7 +16,7 @@ supported-requires c κs = search needs
 
 cast-formats : tie.Need-cast-formats
 cast-formats c =
-    omega (arith, c .supported .ensures, supported-low (c .before .before .before .before .before .args .c .indirect))
+    omega (arith, c .supported .ensures, supported-low (c .before .before .before .before .before .args .c))
 
 judge-requires : tie.Need-judge-requires
 judge-requires c κs = search needs
@@ -34,8 +33,8 @@ same-length c = search needs
 returns : tie.Need-returns
 returns c =
     let a = c .before .before .before .before .before .before .before .before .before .before .before .before .before .args in
-    let o = firstOf (rejections (settingsOf (a .c) (a .own .now)) (a .msg .now)) in
-    λ st. was-rejected (a .c) (a .own .now) (a .msg .now) st o (rejects o (c .before .before .before .before .before .before .before .judge .ensures) (c .before .before .before .before .before .reason .given .1)) (c .before .before .before .before .before .before .before .before .before .read64 .ensures) (c .before .before .before .before .before .before .before .before .supported .ensures) (c .before .before .before .before .before .before .before .before .before .before .before .before .before .pre .1 .0) (c .before .before .put-login-rejection .ensures)
+    let o = firstOf (rejections (a .c) (a .own .now) (a .msg .now)) in
+    λ st. was-rejected (a .c) (a .msg .now) st o (rejects o (c .before .before .before .before .before .before .before .judge .ensures) (c .before .before .before .before .before .reason .given .1)) (c .before .before .before .before .before .before .before .before .before .read64 .ensures) (c .before .before .before .before .before .before .before .before .supported .ensures) (c .before .before .before .before .before .before .before .before .before .before .before .before .before .pre .1 .0) (c .before .before .put-login-rejection .ensures)
 
 enum-told : tie.Need-enum-told
 enum-told c = search needs
@@ -43,8 +42,8 @@ enum-told c = search needs
 open-port-requires : tie.Need-open-port-requires
 open-port-requires c κs =
     let a = c .before .before .before .before .before .before .before .before .before .args in
-    let o = firstOf (rejections (settingsOf (a .c) (a .own .now)) (a .msg .now)) in
-    (c .before .before .before .before .before .before .before .before .before .pre .0, (c .before .before .before .before .before .before .before .before .before .pre .1 .0, (c .before .before .before .before .before .before .before .before .before .pre .1 .1 .0, (c .before .before .before .before .before .before .before .before .before .pre .1 .1 .1 .0, accepts (a .c) (a .own .now) (a .msg .now) (rejects-none o (c .before .before .before .judge .ensures) (c .before .enum-told .given .1))))))
+    let o = firstOf (rejections (a .c) (a .own .now) (a .msg .now)) in
+    (c .before .before .before .before .before .before .before .before .before .pre .0, (c .before .before .before .before .before .before .before .before .before .pre .1 .1 .0, (c .before .before .before .before .before .before .before .before .before .pre .1 .1 .1 .0, accepts (a .c) (a .own .now) (a .msg .now) (c .before .before .before .before .before .before .before .before .before .pre .1 .1 .1 .0) (rejects-none o (c .before .before .before .judge .ensures) (c .before .enum-told .given .1)))))
 
 read32-requires : tie.Need-read32-requires
 read32-requires c κs = search needs
@@ -61,8 +60,8 @@ same-length-3 c = search needs
 returns-2 : tie.Need-returns-2
 returns-2 c =
     let a = c .before .before .before .before .before .before .before .before .before .before .before .before .before .before .before .before .before .args in
-    let o = firstOf (rejections (settingsOf (a .c) (a .own .now)) (a .msg .now)) in
-    λ st. was-accepted (a .c) (a .own .now) (a .msg .now) st o (rejects-none o (c .before .before .before .before .before .before .before .before .before .before .before .judge .ensures) (c .before .before .before .before .before .before .before .before .before .enum-told .given .1)) (c .before .before .before .before .before .before .before .before .before .before .before .before .before .read64 .ensures) (c .before .before .before .read32 .ensures) (c .before .before .before .before .before .before .before .before .before .before .before .before .supported .ensures) (c .before .before .before .before .before .before .before .open-port .ensures st (a .own .now)) (c .before .before .put-login-response .ensures)
+    let o = firstOf (rejections (a .c) (a .own .now) (a .msg .now)) in
+    λ st. was-accepted (a .c) (a .msg .now) st o (rejects-none o (c .before .before .before .before .before .before .before .before .before .before .before .judge .ensures) (c .before .before .before .before .before .before .before .before .before .enum-told .given .1)) (c .before .before .before .before .before .before .before .before .before .before .before .before .before .read64 .ensures) (c .before .before .before .read32 .ensures) (c .before .before .before .before .before .before .before .before .before .before .before .before .supported .ensures) (c .before .before .before .before .before .before .before .open-port .ensures st) (c .before .before .put-login-response .ensures)
 
 pub answer-login-spec : {M : Type 1} → statement M
 answer-login-spec =

@@ -6,27 +6,27 @@ use Rattle.login.proofs.bad_settings.Tie as tie
 
 returns : tie.Need-returns
 returns c =
-    λ own. no-buffers (c .before .before .args .c) own (c .if1 .taken)
+    no-buffers (c .before .before .args .c) (c .if1 .taken)
 
 returns-2 : tie.Need-returns-2
 returns-2 c =
-    λ own. many-buffers (c .before .before .before .before .args .c) own (c .before .before .if1 .left) (c .if2 .taken)
+    many-buffers (c .before .before .before .before .args .c) (c .before .before .if1 .left) (c .if2 .taken)
 
 returns-3 : tie.Need-returns-3
 returns-3 c =
-    λ own. no-piece (c .before .before .before .before .before .before .args .c) own (c .before .before .before .before .if1 .left) (c .before .before .if2 .left) (c .if3 .taken)
+    no-piece (c .before .before .before .before .before .before .args .c) (c .before .before .before .before .if1 .left) (c .before .before .if2 .left) (c .if3 .taken)
 
 returns-4 : tie.Need-returns-4
 returns-4 c =
-    λ own. large-piece (c .before .before .before .before .before .before .before .before .args .c) own (c .before .before .before .before .before .before .if1 .left) (c .before .before .before .before .if2 .left) (c .before .before .if3 .left) (c .if4 .taken)
+    large-piece (c .before .before .before .before .before .before .before .before .args .c) (c .before .before .before .before .before .before .if1 .left) (c .before .before .before .before .if2 .left) (c .before .before .if3 .left) (c .if4 .taken)
 
 returns-5 : tie.Need-returns-5
 returns-5 c =
-    λ own. low-length (c .before .before .before .before .before .before .before .before .before .before .args .c) own (c .before .before .before .before .before .before .before .before .if1 .left) (c .before .before .before .before .before .before .if2 .left) (c .before .before .before .before .if3 .left) (c .before .before .if4 .left) (c .if5 .taken)
+    low-length (c .before .before .before .before .before .before .before .before .before .before .args .c) (c .before .before .before .before .before .before .before .before .if1 .left) (c .before .before .before .before .before .before .if2 .left) (c .before .before .before .before .if3 .left) (c .before .before .if4 .left) (c .if5 .taken)
 
 returns-6 : tie.Need-returns-6
 returns-6 c =
-    λ own. high-length (c .before .before .before .before .before .before .before .before .before .before .before .args .c) own (c .before .before .before .before .before .before .before .before .before .if1 .left) (c .before .before .before .before .before .before .before .if2 .left) (c .before .before .before .before .before .if3 .left) (c .before .before .before .if4 .left) (c .before .if5 .left)
+    high-length (c .before .before .before .before .before .before .before .before .before .before .before .args .c) (c .before .before .before .before .before .before .before .before .before .if1 .left) (c .before .before .before .before .before .before .before .if2 .left) (c .before .before .before .before .before .if3 .left) (c .before .before .before .if4 .left) (c .before .if5 .left)
 
 pub bad-settings-spec : {M : Type 1} → statement M
 bad-settings-spec = tie.close (tie.spec returns returns-2 returns-3 returns-4 returns-5 returns-6)

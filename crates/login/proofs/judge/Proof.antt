@@ -28,7 +28,7 @@ supported-requires c κs = search needs
 
 other-formats-requires : tie.Need-other-formats-requires
 other-formats-requires c κs =
-    omega (arith, c .supported .ensures, supported-low (c .before .before .before .before .before .before .before .args .c .indirect))
+    omega (arith, c .supported .ensures, supported-low (c .before .before .before .before .before .before .before .args .c))
 
 returns-3 : tie.Need-returns-3
 returns-3 c =

@@ -1,7 +1,6 @@
 -- `transfer::hand_out` meets its contract. Assumes nothing.
 use Prim.Native.Nat.{_+_}
 use mathlib.Core.Option.{some}
-use native.Mathlib.Omega.{arith}
 use Rattle.srp.specs.Calls.{nextOf}
 use Rattle.words.specs.View.{openOf}
 use Rattle.transfer.proofs.Pieces.{no-refusal, handed-fits, moved-open}
@@ -29,7 +28,7 @@ add-set-handed : tie.Need-add-set-handed
 add-set-handed c =
     let a = c .before .before .before .before .before .before .before .before .before .before .args in
     let p = c .before .before .before .before .before .before .before .before .before .before .pre in
-    record { fits = handed-fits (p .1 .1 .1 .1 .0) (p .1 .1 .1 .0 .small) (a .maximum) (a .store .now) (a .d) (c .before .before .before .before .before .piece .given .0 .0) (omega (arith, p .1 .1 .1 .1 .1)) (c .before .before .before .part-for .ensures) (c .before .before .before .before .before .before .before .next-for .ensures) (c .before .before .before .before .before .piece .given .1) }
+    record { fits = handed-fits (p .1 .1 .1 .1 .0) (p .1 .1 .1 .0 .small) (a .terms) (a .store .now) (a .d) (c .before .before .before .before .before .piece .given .0 .0) (p .1 .1 .1 .1 .1) (c .before .before .before .part-for .ensures) (c .before .before .before .before .before .before .before .next-for .ensures) (c .before .before .before .before .before .piece .given .1) }
 
 set-handed-requires : tie.Need-set-handed-requires
 set-handed-requires c κs = search needs
@@ -40,13 +39,13 @@ kind-for-requires c κs = search needs
 returns : tie.Need-returns
 returns c =
     let a = c .before .before .before .before .before .before .args in
-    absurd (no-refusal (nextOf (a .maximum) (a .d) (some (openOf (a .store .now) (a .c)))) (c .before .before .before .next-for .ensures) (c .before .f .given .1))
+    absurd (no-refusal (nextOf (a .terms) (a .d) (some (openOf (a .store .now) (a .c)))) (c .before .before .before .next-for .ensures) (c .before .f .given .1))
 
 returns-2 : tie.Need-returns-2
 returns-2 c =
     let a = c .before .before .before .before .before .args in
     let p = c .before .before .before .before .before .pre in
-    none-left (p .1 .1 .1 .0) (p .1 .1 .1 .1 .0) (p .1 .1 .0) (a .store .now) (a .maximum) (a .d) (p .1 .1 .1 .1 .1) (c .before .before .next-for .ensures) (c .enum-told .given .1)
+    none-left (p .1 .1 .1 .0) (p .1 .1 .1 .1 .0) (p .1 .1 .0) (a .store .now) (a .terms) (a .d) (p .1 .1 .1 .1 .1) (c .before .before .next-for .ensures) (c .enum-told .given .1)
 
 same-length : tie.Need-same-length
 same-length c = search needs
@@ -56,7 +55,7 @@ returns-3 c =
     let a = c .before .before .before .before .before .before .before .before .before .before .before .before .before .before .args in
     let p = c .before .before .before .before .before .before .before .before .before .before .before .before .before .before .pre in
     let m = c .before .before .before .before .before .before .before .before .before .piece .given .0 .0 in
-    one-handed (p .1 .1 .1 .0) (p .1 .1 .1 .1 .0) (p .1 .1 .0) (a .store .now) (a .maximum) (a .d) (p .1 .1 .1 .1 .1) (c .before .before .before .before .before .before .before .before .before .before .before .next-for .ensures) m (c .before .before .before .before .before .before .before .part-for .result .handed + m .len) (c .before .before .before .before .before .before .before .before .before .piece .given .1) (c .kind-for .ensures) (c .before .before .before .set-handed .ensures)
+    one-handed (p .1 .1 .1 .0) (p .1 .1 .1 .1 .0) (p .1 .1 .0) (a .store .now) (a .terms) (a .d) (p .1 .1 .1 .1 .1) (c .before .before .before .before .before .before .before .before .before .before .before .next-for .ensures) m (c .before .before .before .before .before .before .before .part-for .result .transfer .handed + m .len) (c .before .before .before .before .before .before .before .before .before .piece .given .1) (c .kind-for .ensures) (c .before .before .before .set-handed .ensures)
     (moved-open (a .store .now) (a .c) (a .d) (m .len) (c .before .before .before .before .before .before .before .part-for .ensures))
 
 pub hand-out-spec : {M : Type 1} → statement M

@@ -3,7 +3,8 @@ use mathlib.Core.Path.{_≡_, refl, _∙_}
 use mathlib.Core.Bool.{true}
 use Rattle.srp.specs.Calls.{planned}
 use Rattle.srp.specs.declared.Refusal.the-variants.{Closed, TagNotOpen, Planned}
-use Rattle.words.specs.View.{openOf, view, headOf}
+use Rattle.words.specs.Head.{headOf}
+use Rattle.words.specs.View.{openOf, view}
 use Rattle.words.proofs.Ports.{view-live}
 use Rattle.state.specs.Changes.{FoundAt}
 use Rattle.state.proofs.Promises.{refused, replies-by, performed, changed-view, found-none, found-slot}

@@ -2,13 +2,15 @@
 use mathlib.Core.Path.{_≡_, _∙_, ap}
 use mathlib.Core.Bool.{true}
 use Rattle.srp.specs.declared.Refusal.the-variants.{Closed, TagNotOpen, Unplanned}
-use Rattle.words.specs.View.{openOf, view, headOf}
+use Rattle.words.specs.Head.{headOf}
+use Rattle.words.specs.View.{openOf, view}
 use Rattle.words.specs.declared.Head.{Head}
 use Rattle.words.proofs.Ports.{view-live}
 use Rattle.state.specs.Changes.{FoundAt}
 use Rattle.state.proofs.Promises.{refused, replies-by, found-none, found-slot}
 use Rattle.state.proofs.Opened.{head-open, port-closed}
 use Rattle.transfer.proofs.Checks.{step-closed, step-unknown, step-unplanned, step-passed}
+use Rattle.transfer.proofs.Handing.{found-own, hand-own}
 use borrow.Author.Needs.{needs}
 use Rattle.transfer.proofs.step.Statement.{statement}
 use Rattle.transfer.proofs.step.Tie as tie
@@ -42,7 +44,8 @@ returns-2 c =
 
 load-requires : tie.Need-load-requires
 load-requires c κs =
-    let F : FoundAt (c .before .before .before .before .before .before .before .before .before .before .before .before .args .s .now) (c .before .before .before .before .before .before .before .before .before .before .before .before .args .tag) (c .before .before .before .i .given .0 .0) = rw (c .before .before .before .i .given .1) at (c .before .before .before .before .before .find .ensures) in
+    let a = c .before .before .before .before .before .before .before .before .before .before .before .before .args in
+    let F : FoundAt (a .s .now) (a .tag) (c .before .before .before .i .given .0 .0) = rw (c .before .before .before .i .given .1) at (c .before .before .before .before .before .find .ensures) in
     (search needs, F .small)
 
 returns-3 : tie.Need-returns-3
@@ -58,7 +61,8 @@ hand-out-requires : tie.Need-hand-out-requires
 hand-out-requires c κs =
     let a = c .before .before .before .before .before .before .before .before .before .before .before .before .before .before .before .before .args in
     let F : FoundAt (a .s .now) (a .tag) (c .before .before .before .before .before .before .before .i .given .0 .0) = rw (c .before .before .before .before .before .before .before .i .given .1) at (c .before .before .before .before .before .before .before .before .before .find .ensures) in
-    (search needs, (search needs, (head-open (c .before .before .before .before .before .before .before .before .before .before .before .before .before .get-head .ensures) (c .before .before .before .before .before .before .before .before .before .before .before .before .if1 .left), (F, (c .before .before .before .load .ensures, ap (λ (h : Head). h .maximum) (c .before .before .before .before .before .before .before .before .before .before .before .before .before .get-head .ensures .whole))))))
+    let S = c .before .before .before .load .ensures in
+    (search needs, (search needs, (head-open (c .before .before .before .before .before .before .before .before .before .before .before .before .before .get-head .ensures) (c .before .before .before .before .before .before .before .before .before .before .before .before .if1 .left), (found-own F S, (S, ap (λ (h : Head). h .terms) (c .before .before .before .before .before .before .before .before .before .before .before .before .before .get-head .ensures .whole))))))
 
 returns-4 : tie.Need-returns-4
 returns-4 c =
@@ -67,7 +71,8 @@ returns-4 c =
     let st = a .store .now in
     let live : headOf l .live ≡ true = head-open (c .before .before .before .before .before .before .before .before .before .before .before .before .before .before .get-head .ensures) (c .before .before .before .before .before .before .before .before .before .before .before .before .before .if1 .left) in
     let F : FoundAt l (a .tag) (c .before .before .before .before .before .before .before .before .i .given .0 .0) = rw (c .before .before .before .before .before .before .before .before .i .given .1) at (c .before .before .before .before .before .before .before .before .before .before .find .ensures) in
-    replies-by (step-passed (view l st) (a .tag) (a .d) (view-live l st ∙ live) (openOf st (c .before .before .before .before .load .result)) (found-slot F live st (c .before .before .before .before .load .ensures)) (c .before .before .before .if2 .left)) (c .hand-out .ensures)
+    let S = c .before .before .before .before .load .ensures in
+    replies-by (step-passed (view l st) (a .tag) (a .d) (view-live l st ∙ live) (openOf st (c .before .before .before .before .load .result)) (found-slot F live st S) (c .before .before .before .if2 .left) ∙ hand-own F S (view l st) (a .d)) (c .hand-out .ensures)
 
 pub step-spec : {M : Type 1} → statement M
 step-spec =

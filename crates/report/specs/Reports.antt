@@ -1,0 +1,70 @@
+-- What the owner reads of a port: the counters, the listing by value, and the listing in a lent list. Document 01: "the open commands listed into
+-- a lent list of records (tag, LUN, bytes handed out each way), each command once; .. the rest of the list untouched". The order, which is free, is
+-- the oldest first.
+use mathlib.Core.Path.{_≡_}
+use mathlib.Core.List.{List, _++_, map}
+use Prim.Native.Nat.{ℕ, _-_, _≤_}
+use lib.ListN.{length, take, drop, replicate}
+use Rattle.srp.specs.Limits.{mostBuffers}
+use Rattle.srp.specs.Credit.{Port}
+use Rattle.srp.specs.Answers.{returned}
+use Rattle.srp.specs.Calls.{countersDef, listing, listDef, EachListed}
+use Rattle.srp.specs.declared.Record.{Record}
+use Rattle.srp.specs.declared.Reply.{Reply}
+use Rattle.srp.specs.declared.Reply.the-variants.{Listed}
+use Rattle.words.specs.Slots.{slots}
+use Rattle.words.specs.View.{view}
+use Rattle.words.specs.declared.Slot.{Slot}
+use Rattle.report.specs.declared.Listing.{Listing}
+
+-- the record of a command in its slot, those of all slots, and one that stands for no command
+abbrev pub slotRecord : Slot → Record
+slotRecord c = record { tag = c .request .tag; lun = c .request .lun; out = c .out .transfer .handed; inn = c .inn .transfer .handed }
+
+abbrev pub slotRecords : List ℕ → List Record
+slotRecords l = map slotRecord (slots l)
+
+abbrev pub noRecord : Record
+noRecord = record { tag = 0; lun = 0; out = 0; inn = 0 }
+
+-- the listing of a port: how many, each command once, oldest first, and blank records up to 16
+pub record ListingIs (p : Port) (r : Listing) : Type 0 where
+  pub reply : r .reply ≡ listDef p mostBuffers .reply
+  pub count : r .count ≡ length (p .held)
+  pub records : r .records ≡ listing p ++ replicate (mostBuffers - length (p .held)) noRecord
+
+-- what a listing writes to a lent list of `room` records: those of the open commands, or none where it is refused
+pub record ListingFor (p : Port) (room : ℕ) (r : Listing) : Type 0 where
+  pub reply : r .reply ≡ listDef p room .reply
+  pub fits : r .count ≤ room
+  pub small : r .count ≤ mostBuffers
+  pub count : returned (r .reply) ≡ 0 → r .count ≡ length (p .held)
+  pub listed : returned (r .reply) ≡ 0 → take (r .count) (r .records) ≡ listing p
+  pub refused : (returned (r .reply) ≡ 0 → ⊥) → r .count ≡ 0
+
+-- the lent list before and after the call; a refusal leaves it as it was
+pub record ListsInto (p : Port) (before after : List Record) (r : Reply) : Type 0 where
+  pub reply : r ≡ listDef p (length before) .reply
+  pub unrefused : returned r ≡ 0 → EachListed p before after
+  pub oldest-first : returned r ≡ 0 → after ≡ listing p ++ drop (length (p .held)) before
+  pub refused : (returned r ≡ 0 → ⊥) → after ≡ before
+
+-- how many records a listing of the words l has in a lent list of `room`, and which
+pub record CountFor (l : List ℕ) (room : ℕ) (r : Reply) : Type 0 where
+  pub reply : (st : List ℕ) → r ≡ listDef (view l st) room .reply
+  pub fits : (n : ℕ) → r ≡ Listed n → (n ≤ room) × (n ≤ mostBuffers)
+  pub records : (n : ℕ) → r ≡ Listed n → (st : List ℕ) → listing (view l st) ≡ take n (slotRecords l)
+
+-- ── what each call promises of the port's words l, whatever the store holds
+
+abbrev pub TellsCounters : (l : List ℕ) → Reply → Type 0
+TellsCounters l r = (st : List ℕ) → r ≡ countersDef (view l st) .reply
+
+abbrev pub TellsListing : (l : List ℕ) → Listing → Type 0
+TellsListing l r = (st : List ℕ) → ListingIs (view l st) r
+
+abbrev pub TellsListingFor : (l : List ℕ) (room : ℕ) → Listing → Type 0
+TellsListingFor l room r = (st : List ℕ) → ListingFor (view l st) room r
+
+abbrev pub WritesListing : (l : List ℕ) (before after : List Record) → Reply → Type 0
+WritesListing l before after r = (st : List ℕ) → ListsInto (view l st) before after r
