@@ -8,11 +8,12 @@ use denote.Ref.{RefT, now}
 use contract.Lifetimes.{Lfts}
 use Rattle.srp.specs.Credit.{Port}
 use Rattle.srp.specs.Take.{Tables}
-use Rattle.srp.specs.Machine.{Event, sends, delivers, takes, plans, steps, finishes, adds, withdraws, grants, Machine}
 use Rattle.srp.specs.declared.Direction.{Direction}
 use Rattle.srp.specs.declared.Reply.{Reply}
 use Rattle.srp.specs.declared.Reply.the-variants.{Performed}
 use Rattle.srp.specs.declared.Answer.{Answer}
+use Rattle.machine.specs.Machine.{Machine}
+use Rattle.machine.specs.Events.{Event, sends, delivers, takes, plans, steps, finishes, adds, withdraws, grants}
 use Rattle.words.specs.View.{view}
 use Rattle.demand.proofs.Outcomes.{written}
 use Rattle.take.proofs.take.Reads as take-call
@@ -146,7 +147,7 @@ TookFront s room t (msg ∷ rest) r ss s′ = Took s room t msg r ss s′
 abbrev pub Call : Memory → Machine → Event → Reply → List (List ℕ) → Memory → Type 0
 Call s m (sends x) r ss s′ = Untouched s r ss s′
 Call s m delivers r ss s′ = Untouched s r ss s′
-Call s m (takes room t) r ss s′ = TookFront s room t (m .toPort) r ss s′
+Call s m (takes room t) r ss s′ = TookFront s room t (m .wire .toPort) r ss s′
 Call s m (plans tag out inn) r ss s′ = Planned s tag out inn r ss s′
 Call s m (steps tag d) r ss s′ = Stepped s tag d r ss s′
 Call s m (finishes room tag status sense) r ss s′ = Finished s room tag status sense r ss s′

@@ -1,32 +1,35 @@
 -- What a contract says of a call as a whole: its outcome is the definition's, the message read from the buffer that it left. Assumes nothing.
 use mathlib.Core.Path.{_≡_, refl, sym, _∙_, ap}
-use mathlib.Core.Bool.{Bool, true, false, cond, not, true≢false}
-use mathlib.Core.List.{List, [], _∷_, _++_}
+use mathlib.Core.Bool.{true, true≢false}
+use mathlib.Core.List.{List, [], _∷_}
 use mathlib.Core.Option.{Option, none, some}
 use Prim.Native.Nat.{ℕ, zero, suc, _≤_}
 use native.Mathlib.Omega.{arith}
 use native.Mathlib.Nat.{not-suc-le-zero}
-use lib.Dec.{eqb}
 use borrow.Author.Tests.{not-false}
 use lib.ListN.{length, take}
 use lib.Seq.{take-append-seam}
 use Rattle.srp.specs.Lists.{find, without, isSome}
-use Rattle.srp.specs.Refusals.{numberOf, firstOf, hangsUp}
+use Rattle.srp.specs.Refusals.{Conduct, hangsUp, answered, stays, altersNothing, conductOf, firstOf}
 use Rattle.srp.specs.Writing.{placed, creditRequest}
 use Rattle.srp.specs.Credit.{Open, Port, withHeld, withUnanswered}
-use Rattle.srp.specs.Take.{Outcome, silent, answering, hangUp, Tables, hasTag, isOpen, accepted, answerBad, refusedBy, takeChecks, takeBy, takeDef}
+use Rattle.srp.specs.Take.{Outcome, answering, hasTag, isOpen, Tables, takeChecks, conducted, refusedBy, accepted, takeBy, takeDef}
 use Rattle.srp.specs.Requests.{readMessage}
 use Rattle.srp.specs.Calls.{unless, finalResponse, finishChecks, finishDef, grantChecks, grantDef}
-use Rattle.srp.specs.Answers.{sizeOf, answerOf}
+use Rattle.srp.specs.Answers.{sizeOf}
 use Rattle.srp.specs.declared.Refusal.{Refusal}
 use Rattle.srp.specs.declared.Message.{Message}
 use Rattle.srp.specs.declared.Message.the-variants.{Bad, Cmd, TskMgmt, CredRsp, ILogout}
 use Rattle.srp.specs.declared.Reply.{Reply}
-use Rattle.srp.specs.declared.Reply.the-variants.{Refused, Performed}
+use Rattle.srp.specs.declared.Reply.the-variants.{Performed}
 use Rattle.srp.specs.declared.Answer.{Answer}
 use Rattle.srp.proofs.Checks.{passes}
 use Rattle.words.specs.View.{view}
-use Rattle.state.specs.Promises.{Replies, Answers}
+use Rattle.state.specs.Promises.{RepliesAs, AnswersAs}
+
+-- the message s as the port p reads it
+abbrev pub readOn : Port → List ℕ → Message
+readOn p s = readMessage (p .terms .agreed) (p .terms .formats) s
 
 -- the message of n bytes that a call left in the buffer b; none where n is 0
 abbrev pub written : ℕ → List ℕ → List (List ℕ)
@@ -50,13 +53,13 @@ outcome : (o : Outcome) (r : Reply) (p : Port) (ss : List (List ℕ)) → o .rep
 outcome o r p ss e f g = λ i. record { reply = e i; port = f i; wrote = g i }
 
 -- a call without a lent buffer
-pub replied : {l st l′ st′ : List ℕ} {r : Reply} {o : Outcome} → Replies l st l′ st′ r o → o ≡ record { reply = r; port = view l′ st′; wrote = [] }
-replied {l} {st} {l′} {st′} {r} {o} R = outcome o r (view l′ st′) [] (sym (R .reply)) (sym (R .port)) (R .wrote)
+pub replies : {l st l′ st′ : List ℕ} {r : Reply} {o : Outcome} → RepliesAs l st l′ st′ r o → o ≡ record { reply = r; port = view l′ st′; wrote = [] }
+replies {l} {st} {l′} {st′} {r} {o} R = outcome o r (view l′ st′) [] (sym (R .reply)) (sym (R .port)) (R .wrote)
 
 -- a call with one
-pub answered : {l st b l′ st′ b′ : List ℕ} {a : Answer} {o : Outcome} → Answers l st b l′ st′ b′ a o → Single (o .wrote)
+pub answers : {l st b l′ st′ b′ : List ℕ} {a : Answer} {o : Outcome} → AnswersAs l st b l′ st′ b′ a o → Single (o .wrote)
     → o ≡ record { reply = a .reply; port = view l′ st′; wrote = written (a .wrote) b′ }
-answered {l} {st} {b} {l′} {st′} {b′} {a} {o} A h =
+answers {l} {st} {b} {l′} {st′} {b′} {a} {o} A h =
     outcome o (a .reply) (view l′ st′) (written (a .wrote) b′)
     (sym (ap (λ (x : Answer). x .reply) (A .answer)))
     (sym (A .port))
@@ -65,22 +68,23 @@ answered {l} {st} {b} {l′} {st′} {b′} {a} {o} A h =
 -- ── each call writes at most one message
 
 refused-single : (p : Port) (m : Message) (f : Refusal) → Single (refusedBy p m f .wrote)
-refused-single p m f = go (hangsUp (numberOf f)) (eqb (numberOf f) 10)
+refused-single p m f = go (conductOf f)
   where
-    go : (x y : Bool) → Single (cond x (hangUp p f) (cond y (answerBad p m f) (silent p (Refused f))) .wrote)
-    go true y = omega arith
-    go false true = omega arith
-    go false false = tt
+    go : (c : Conduct) → Single (conducted c p m f .wrote)
+    go (hangsUp reason) = omega arith
+    go answered = omega arith
+    go stays = tt
+    go altersNothing = tt
 
 accepted-single : (p : Port) (s : List ℕ) (t : Tables) (m : Message) → Single (accepted p s t m .wrote)
-accepted-single p s t (Bad r) = omega arith
+accepted-single p s t (Bad r) = refused-single p (Bad r) r
 accepted-single p s t (Cmd c) = tt
 accepted-single p s t (TskMgmt k) = omega arith
 accepted-single p s t (CredRsp g) = tt
 accepted-single p s t ILogout = tt
 
 pub take-single : (p : Port) (room : ℕ) (s : List ℕ) (t : Tables) → Single (takeDef p room s t .wrote)
-take-single p room s t = go (firstOf (takeChecks p room s t (readMessage (p .agreed) (p .formats) s))) (readMessage (p .agreed) (p .formats) s)
+take-single p room s t = go (firstOf (takeChecks p room s t (readOn p s))) (readOn p s)
   where
     go : (v : Option Refusal) (m : Message) → Single (takeBy v p s t m .wrote)
     go none m = accepted-single p s t m
@@ -89,7 +93,7 @@ take-single p room s t = go (firstOf (takeChecks p room s t (readMessage (p .agr
 pub grant-single : (p : Port) (room : ℕ) → Single (grantDef p room .wrote)
 grant-single p room = go (firstOf (grantChecks p room))
   where
-    go : (v : Option Refusal) → Single (unless v p (answering (withUnanswered p true) Performed (creditRequest (p .crsolnt))) .wrote)
+    go : (v : Option Refusal) → Single (unless v p (answering (withUnanswered p true) Performed (creditRequest (p .terms .crsolnt))) .wrote)
     go none = omega arith
     go (some f) = tt
 

@@ -1,5 +1,5 @@
 -- What a call on a port promises, said of the numbers and words that its call from C gives. Assumes nothing.
-use mathlib.Core.Path.{_≡_, refl, sym, _∙_, ap, subst}
+use mathlib.Core.Path.{_≡_, sym, _∙_, ap, subst}
 use mathlib.Core.List.{List, []}
 use Prim.Native.Nat.{ℕ}
 use Rattle.srp.specs.Take.{Outcome}
@@ -7,41 +7,37 @@ use Rattle.srp.specs.Answers.{returned, sizeOf, answerOf}
 use Rattle.srp.specs.declared.Reply.{Reply}
 use Rattle.srp.specs.declared.Answer.{Answer}
 use Rattle.answer.specs.Words.{answerWords}
-use Rattle.state.specs.Promises.{Replies, Answers}
+use Rattle.state.specs.Promises.{RepliesAs, AnswersAs}
 use Rattle.srp.specs.Login.{loginDef}
-use Rattle.login.specs.Parts.{settingsOf, LogsIn}
-use Rattle.login.specs.declared.Settings.{Settings}
-use Rattle.exports.specs.Calls.{InC, AnswersInC, StepsInC, RepliesInC, LogsInC}
+use Rattle.login.specs.LoggingIn.{LogsIn}
+use Rattle.srp.specs.declared.Settings.{Settings}
+use Rattle.exports.specs.Calls.{Gives, InC, AnswersInC, StepsInC, RepliesInC, LogsInC}
 
--- an answer in numbers
-abbrev pub Given : ℕ → List ℕ → Answer → Type 0
-Given n w r = (n ≡ returned (r .reply)) × (w ≡ answerWords r)
-
-pub in-numbers : {n : ℕ} {w : List ℕ} {r : Answer} {o : Outcome} → r ≡ answerOf o → Given n w r → InC n w o
+pub in-numbers : {n : ℕ} {w : List ℕ} {r : Answer} {o : Outcome} → r ≡ answerOf o → Gives n w r → InC n w o
 in-numbers e g = record { number = g .0 ∙ ap (λ (a : Answer). returned (a .reply)) e; words = g .1 ∙ ap (λ (a : Answer). answerWords a) e }
 
 -- a reply without a message
 pub silently : {r : Reply} (o : Outcome) → r ≡ o .reply → o .wrote ≡ [] → record { reply = r; wrote = 0 } ≡ answerOf o
 silently o e f = ap (λ (x : Reply). record { reply = x; wrote = 0 }) e ∙ ap (λ (m : List (List ℕ)). record { reply = o .reply; wrote = sizeOf m }) (sym f)
 
-pub answers-in-c : {l st b l′ st′ b′ : List ℕ} {n : ℕ} {w : List ℕ} {o : Outcome} {r : Answer} → Answers l st b l′ st′ b′ r o → Given n w r → AnswersInC l st b l′ st′ b′ n w o
-answers-in-c {l} {st} {b} {l′} {st′} {b′} {n} {w} {o} A g = record { numbers = in-numbers (A .answer) g; call = subst (λ (x : Answer). Answers l st b l′ st′ b′ x o) (A .answer) A }
+pub answers-in-c : {l st b l′ st′ b′ : List ℕ} {n : ℕ} {w : List ℕ} {o : Outcome} {r : Answer} → AnswersAs l st b l′ st′ b′ r o → Gives n w r → AnswersInC l st b l′ st′ b′ n w o
+answers-in-c {l} {st} {b} {l′} {st′} {b′} {n} {w} {o} A g = record { numbers = in-numbers (A .answer) g; call = subst (λ (x : Answer). AnswersAs l st b l′ st′ b′ x o) (A .answer) A }
 
 -- a login with the settings c, which are c′
 pub logs-in-c : {st l′ b b′ : List ℕ} {n : ℕ} {w : List ℕ} {r : Answer} {c c′ : Settings} (own msg : List ℕ) (room : ℕ) → c ≡ c′
-    → LogsIn st l′ b b′ r (loginDef (settingsOf c own) room msg)
-    → Given n w r
-    → LogsInC st l′ b b′ n w (loginDef (settingsOf c′ own) room msg)
+    → LogsIn st l′ b b′ r (loginDef c own room msg)
+    → Gives n w r
+    → LogsInC st l′ b b′ n w (loginDef c′ own room msg)
 logs-in-c {st} {l′} {b} {b′} {n} {w} {r} {c} {c′} own msg room e L g =
-    subst (λ (x : Settings). LogsInC st l′ b b′ n w (loginDef (settingsOf x own) room msg)) e
-    (record { numbers = in-numbers (L .answer) g; call = subst (λ (x : Answer). LogsIn st l′ b b′ x (loginDef (settingsOf c own) room msg)) (L .answer) L })
+    subst (λ (x : Settings). LogsInC st l′ b b′ n w (loginDef x own room msg)) e
+    (record { numbers = in-numbers (L .answer) g; call = subst (λ (x : Answer). LogsIn st l′ b b′ x (loginDef c own room msg)) (L .answer) L })
 
 module _ {l st l′ : List ℕ} {o : Outcome} {r : Reply} where
-  of-outcome : Replies l st l′ st r o → Replies l st l′ st (o .reply) o
-  of-outcome R = subst (λ (x : Reply). Replies l st l′ st x o) (R .reply) R
+  of-outcome : RepliesAs l st l′ st r o → RepliesAs l st l′ st (o .reply) o
+  of-outcome R = subst (λ (x : Reply). RepliesAs l st l′ st x o) (R .reply) R
 
-  pub replies-in-c : {n : ℕ} → Replies l st l′ st r o → n ≡ returned r → RepliesInC l st l′ n o
+  pub replies-in-c : {n : ℕ} → RepliesAs l st l′ st r o → n ≡ returned r → RepliesInC l st l′ n o
   replies-in-c R e = record { number = e ∙ ap (λ (x : Reply). returned x) (R .reply); call = of-outcome R }
 
-  pub steps-in-c : {n : ℕ} {w : List ℕ} → Replies l st l′ st r o → Given n w (record { reply = r; wrote = 0 }) → StepsInC l st l′ n w o
+  pub steps-in-c : {n : ℕ} {w : List ℕ} → RepliesAs l st l′ st r o → Gives n w (record { reply = r; wrote = 0 }) → StepsInC l st l′ n w o
   steps-in-c R g = record { numbers = in-numbers (silently o (R .reply) (R .wrote)) g; call = of-outcome R }

@@ -1,4 +1,4 @@
-pub mod Answers
+pub mod Buffers
 pub mod Fetches
 pub mod InC
 pub mod Listing

@@ -1,14 +1,15 @@
 -- The listing in words, and what a call without a message writes. Assumes nothing.
-use mathlib.Core.Path.{_≡_, refl, sym, _∙_, ap}
+use mathlib.Core.Path.{_≡_, refl, sym, _∙_, ap, subst}
 use mathlib.Core.List.{List, [], _∷_, _++_}
 use mathlib.Core.Option.{Option, none, some}
 use Prim.Native.Nat.{ℕ, suc, _+_, _*_, _/_, _<_, _≤_}
 use native.Mathlib.Omega.{arith}
 use lib.Dec.{ltb}
-use lib.ListN.{length, take, drop, getD, length-append}
+use lib.ListN.{length, take, drop, getD, length-append, replicate}
 use lib.Seq.{paste, take-suc, take-length, take-append-seam, length-take-le, length-paste, drop-append-add, drop-drop}
 use Rattle.srp.specs.Limits.{mostBuffers}
 use Rattle.srp.specs.Refusals.{firstOf}
+use Rattle.srp.specs.Answers.{returned}
 use Rattle.srp.specs.Credit.{Port}
 use Rattle.srp.specs.Writing.{placed}
 use Rattle.srp.specs.Take.{Outcome, silent, closed}
@@ -17,10 +18,19 @@ use Rattle.srp.specs.declared.Refusal.{Refusal}
 use Rattle.srp.specs.declared.Refusal.the-variants.{Argument}
 use Rattle.srp.specs.declared.Record.{Record}
 use Rattle.srp.specs.declared.Reply.the-variants.{Counts, Listed}
-use Rattle.listing.specs.Listed.{ContentsAre}
-use Rattle.listing.specs.declared.Contents.{Contents}
-use Rattle.exports.specs.Calls.{ListsInC, recordWords, allWords}
-use Rattle.exports.proofs.InC.{Given, in-numbers, silently}
+use Rattle.srp.specs.Refusals.{numberOf}
+use Rattle.srp.specs.declared.Reply.{Reply}
+use Rattle.srp.proofs.RefusalLaws.{number-range}
+use Rattle.answer.specs.Words.{answerWords}
+use Rattle.words.specs.View.{view}
+use Rattle.report.specs.Reports.{slotRecords, CountFor}
+use Rattle.exports.specs.Arguments.{recordSize, recordWords, allWords}
+use Rattle.exports.specs.Calls.{Gives, InC, Wordless, ListsInC}
+use Rattle.exports.proofs.InC.{in-numbers, silently}
+use Rattle.exports.proofs.Plain.{but}
+use denote.Enum.Declared.{tagOf}
+use types.Run.{OneOf, miss}
+use Rattle.srp.proofs.Reply.{the-type}
 
 -- a call that writes no message where none of its checks hits writes none
 unwritten : (x : Option Refusal) (p : Port) (o : Outcome) → o .wrote ≡ [] → unless x p o .wrote ≡ []
@@ -39,7 +49,7 @@ all-append : (xs ys : List Record) → allWords (xs ++ ys) ≡ allWords xs ++ al
 all-append [] ys = refl
 all-append (x ∷ xs) ys = ap (λ (l : List ℕ). recordWords x ++ l) (all-append xs ys)
 
-pub all-length : (xs : List Record) → length (allWords xs) ≡ 4 * length xs
+pub all-length : (xs : List Record) → length (allWords xs) ≡ recordSize * length xs
 all-length [] = refl
 all-length (x ∷ xs) = omega (arith, all-length xs)
 
@@ -56,12 +66,12 @@ behind a x d h =
 pub record Filling (records : List Record) (n : ℕ) (before after : List ℕ) (i : ℕ) : Type 0 where
   pub within : i ≤ n
   pub enough : n ≤ length records
-  pub room : 4 * n ≤ length before
+  pub room : recordSize * n ≤ length before
   pub filled : after ≡ placed (allWords (take i records) ∷ []) before
   pub size : length after ≡ length before
 
 module _ (records : List Record) (n : ℕ) (before : List ℕ) where
-  pub fill-none : length records ≡ 16 → n ≤ 16 → 4 * n ≤ length before → Filling records n before before 0
+  pub fill-none : length records ≡ mostBuffers → n ≤ mostBuffers → recordSize * n ≤ length before → Filling records n before before 0
   fill-none e h k = record { within = omega arith; enough = omega arith; room = omega arith; filled = refl; size = refl }
 
   pub fill-all : (after : List ℕ) (i : ℕ) → Filling records n before after i → n ≤ i → after ≡ placed (allWords (take n records) ∷ []) before
@@ -70,8 +80,8 @@ module _ (records : List Record) (n : ℕ) (before : List ℕ) where
       F .filled ∙ ap (λ (k : ℕ). placed (allWords (take k records) ∷ []) before) e
 
   module _ (after : List ℕ) (i : ℕ) (F : Filling records n before after i) (less : i < n) where
-    done : length (allWords (take i records)) ≡ 4 * i
-    done = all-length (take i records) ∙ ap (λ (k : ℕ). 4 * k) (length-take-le i records (omega (arith, F .enough)))
+    done : length (allWords (take i records)) ≡ recordSize * i
+    done = all-length (take i records) ∙ ap (λ (k : ℕ). recordSize * k) (length-take-le i records (omega (arith, F .enough)))
 
     next : suc i ≡ i + 1
     next = omega arith
@@ -82,27 +92,54 @@ module _ (records : List Record) (n : ℕ) (before : List ℕ) where
         ∙ ap (λ (l : List Record). allWords l) (sym (take-suc records i z (omega (arith, F .enough))))
         ∙ ap (λ (k : ℕ). allWords (take k records)) next
 
-    pub fill-more : (z : Record) → Filling records n before (paste after (4 * i) (recordWords (getD records i z)) 4) (i + 1)
+    pub fill-more : (z : Record) → Filling records n before (paste after (recordSize * i) (recordWords (getD records i z)) recordSize) (i + 1)
     fill-more z =
         record {
           within = omega arith;
           enough = F .enough;
           room = F .room;
           filled =
-              ap (λ (l : List ℕ). paste l (4 * i) (recordWords (getD records i z)) 4) (F .filled)
-              ∙ ap (λ (k : ℕ). paste (placed (allWords (take i records) ∷ []) before) k (recordWords (getD records i z)) 4) (sym done)
+              ap (λ (l : List ℕ). paste l (recordSize * i) (recordWords (getD records i z)) recordSize) (F .filled)
+              ∙ ap (λ (k : ℕ). paste (placed (allWords (take i records) ∷ []) before) k (recordWords (getD records i z)) recordSize) (sym done)
               ∙ behind (allWords (take i records)) (recordWords (getD records i z)) before (omega (arith, done, F .room))
               ∙ ap (λ (l : List ℕ). placed (l ∷ []) before) (one-more z);
-          size = length-paste after (4 * i) (recordWords (getD records i z)) 4 (omega (arith, F .size, F .room)) (omega arith) ∙ F .size;
+          size = length-paste after (recordSize * i) (recordWords (getD records i z)) recordSize (omega (arith, F .size, F .room)) (omega arith) ∙ F .size;
         }
 
 -- ── what the call from C promises
 
-module _ (p : Port) (before : List ℕ) {n : ℕ} {w : List ℕ} (c : Contents) (C : ContentsAre p (length before / 4) c) where
-  pub listed-in-c : Given n w (record { reply = c .reply; wrote = 0 }) → {after : List ℕ} → after ≡ placed (allWords (take (c .count) (c .records)) ∷ []) before → ListsInC p before after n w
-  listed-in-c g a =
+module _ (l before : List ℕ) (r : Reply) (C : CountFor l (length before / recordSize) r) (st : List ℕ) where
+  numbered : {n : ℕ} {w : List ℕ} → Gives n w (record { reply = r; wrote = 0 }) → InC n w (listDef (view l st) (length before / recordSize))
+  numbered g =
+      in-numbers (silently (listDef (view l st) (length before / recordSize)) (C .reply st) (list-unwritten (view l st) (length before / recordSize))) g
+
+  -- a listing that is refused
+  pub list-wordless : OneOf (but 11) (tagOf the-type r) → Wordless r
+  list-wordless k = go (firstOf (closed (view l st) ∷ (ltb (length before / recordSize) mostBuffers, Argument) ∷ [])) (C .reply st)
+    where
+      go : (x : Option Refusal) → r ≡ unless x (view l st) (silent (view l st) (Listed (length (view l st .held)))) .reply → Wordless r
+      go none q = absurd (miss (but 11) 11 tt (subst (λ (y : Reply). OneOf (but 11) (tagOf the-type y)) q k))
+      go (some f) q = sym (ap (λ (y : Reply). answerWords (record { reply = y; wrote = 0 })) q)
+
+  pub list-refused : {n : ℕ} {w : List ℕ} → Gives n w (record { reply = r; wrote = 0 }) → OneOf (but 11) (tagOf the-type r) → ListsInC (view l st) before before n w
+  list-refused {n} {w} g k = go (firstOf (closed (view l st) ∷ (ltb (length before / recordSize) mostBuffers, Argument) ∷ [])) (C .reply st)
+    where
+      go : (x : Option Refusal) → r ≡ unless x (view l st) (silent (view l st) (Listed (length (view l st .held)))) .reply
+          → ListsInC (view l st) before before n w
+      go none q = absurd (miss (but 11) 11 tt (subst (λ (y : Reply). OneOf (but 11) (tagOf the-type y)) q k))
+      go (some f) q =
+          record {
+            numbers = numbered g;
+            listed = λ z. let y : numberOf f ≡ 0 = sym (ap returned q) ∙ sym (g .0) ∙ z in absurd (omega (arith, number-range f .0));
+            refused = λ z. refl;
+          }
+
+  -- one of k records
+  pub listed-in-c : (k : ℕ) → r ≡ Listed k → {after : List ℕ} → after ≡ placed (allWords (take k (slotRecords l)) ∷ []) before
+      → ListsInC (view l st) before after 0 (k ∷ replicate 7 0)
+  listed-in-c k q a =
       record {
-        numbers = in-numbers (silently (listDef p (length before / 4)) (C .reply) (list-unwritten p (length before / 4))) g;
-        listed = λ q. a ∙ ap (λ (l : List Record). placed (allWords l ∷ []) before) (C .listed (sym (g .0) ∙ q));
-        refused = λ q. a ∙ ap (λ (k : ℕ). placed (allWords (take k (c .records)) ∷ []) before) (C .refused (λ z. q (g .0 ∙ z)));
+        numbers = numbered (sym (ap returned q), sym (ap (λ (y : Reply). answerWords (record { reply = y; wrote = 0 })) q));
+        listed = λ z. a ∙ ap (λ (rs : List Record). placed (allWords rs ∷ []) before) (sym (C .records k q st));
+        refused = λ z. absurd (z refl);
       }

@@ -4,6 +4,7 @@ use mathlib.Core.Bool.{true}
 use mathlib.Core.List.{List, [], _∷_, _++_}
 use mathlib.Core.Option.{Option, none, some}
 use Prim.Native.Nat.{ℕ}
+use lib.Dec.{eqb}
 use lib.ListN.{length, replicate}
 use denote.Enum.Declared.{tagOf}
 use types.Run.{OneOf, miss}
@@ -12,17 +13,17 @@ use Rattle.srp.specs.Refusals.{short, firstOf}
 use Rattle.srp.specs.Lists.{find, without}
 use Rattle.srp.specs.Credit.{Port, closedPort, withHeld, withUnanswered}
 use Rattle.srp.specs.Writing.{creditRequest, targetLogout}
-use Rattle.srp.specs.Take.{Outcome, answering, closed, hasTag}
-use Rattle.srp.specs.Calls.{unless, nextOf, handOut, stepChecks, stepDef, finishChecks, finalResponse, finishDef, grantChecks, grantDef, closeDef}
+use Rattle.srp.specs.Take.{Outcome, silent, answering, closed, hasTag}
+use Rattle.srp.specs.Calls.{unless, nextOf, handOut, stepChecks, stepDef, finishChecks, finalResponse, finishDef, grantChecks, grantDef, closeDef, countersOf, countersDef}
 use Rattle.srp.specs.Answers.{valuesOf, answerOf}
 use Rattle.srp.specs.declared.Refusal.{Refusal}
 use Rattle.srp.specs.declared.Direction.{Direction}
 use Rattle.srp.specs.declared.Piece.{Piece}
 use Rattle.srp.specs.declared.Answer.{Answer}
 use Rattle.srp.specs.declared.Reply.{Reply}
-use Rattle.srp.specs.declared.Reply.the-variants.{Performed}
+use Rattle.srp.specs.declared.Reply.the-variants.{Performed, Counts}
 use Rattle.answer.specs.Words.{leading, answerWords}
-use Rattle.exports.specs.Calls.{Plain}
+use Rattle.exports.specs.Calls.{Plain, Wordless}
 
 pub plain-answer : (r : Answer) (o : Outcome) → r ≡ answerOf o → Plain (o .reply) → Plain (r .reply)
 plain-answer r o e P = subst (λ (a : Answer). Plain (a .reply)) (sym e) P
@@ -38,26 +39,34 @@ finish-plain p room tag status sense =
     (answering (withHeld p (p .announced) (without (hasTag tag) (p .held))) Performed (finalResponse (find (hasTag tag) (p .held)) status sense)) refl
 
 pub grant-plain : (p : Port) (room : ℕ) → Plain (grantDef p room .reply)
-grant-plain p room = plain-unless (firstOf (grantChecks p room)) p (answering (withUnanswered p true) Performed (creditRequest (p .crsolnt))) refl
+grant-plain p room = plain-unless (firstOf (grantChecks p room)) p (answering (withUnanswered p true) Performed (creditRequest (p .terms .crsolnt))) refl
 
 pub close-plain : (p : Port) (room reason : ℕ) → Plain (closeDef p room reason .reply)
 close-plain p room reason =
-    plain-unless (firstOf (short room ∷ closed p ∷ [])) p (record { reply = Performed; port = closedPort; wrote = targetLogout (p .losolnt) reason ∷ [] }) refl
+    plain-unless (firstOf (short room ∷ closed p ∷ [])) p (record { reply = Performed; port = closedPort; wrote = targetLogout (p .terms .losolnt) reason ∷ [] }) refl
 
--- the replies other than an operation, by their place in the enum
-abbrev others : List ℕ
-others = 0 ∷ 1 ∷ 2 ∷ 3 ∷ 4 ∷ 5 ∷ 7 ∷ 8 ∷ 9 ∷ 10 ∷ 11 ∷ []
+-- the replies but one, by their place in the enum
+abbrev pub but : ℕ → List ℕ
+but k = without (eqb k) (0 ∷ 1 ∷ 2 ∷ 3 ∷ 4 ∷ 5 ∷ 6 ∷ 7 ∷ 8 ∷ 9 ∷ 10 ∷ 11 ∷ [])
 
--- a step that gives no operation has no word that is not 0
-pub step-wordless : (p : Port) (tag : ℕ) (d : Direction) (r : Reply) → r ≡ stepDef p tag d .reply
-    → OneOf others (tagOf the-type r)
-    → replicate 8 0 ≡ answerWords (record { reply = r; wrote = 0 })
+-- a step that gives no operation
+pub step-wordless : (p : Port) (tag : ℕ) (d : Direction) (r : Reply) → r ≡ stepDef p tag d .reply → OneOf (but 6) (tagOf the-type r) → Wordless r
 step-wordless p tag d r e k =
-    subst (λ (x : Reply). replicate 8 0 ≡ answerWords (record { reply = x; wrote = 0 })) (sym e)
-    (go (firstOf (stepChecks p tag)) (nextOf (p .maximum) d (find (hasTag tag) (p .held))) (subst (λ (x : Reply). OneOf others (tagOf the-type x)) e k))
+    subst Wordless (sym e)
+    (go (firstOf (stepChecks p tag)) (nextOf (p .terms) d (find (hasTag tag) (p .held))) (subst (λ (x : Reply). OneOf (but 6) (tagOf the-type x)) e k))
   where
-    go : (x : Option Refusal) (y : Option Piece) → OneOf others (tagOf the-type (unless x p (handOut p tag d y) .reply))
-        → replicate 8 0 ≡ answerWords (record { reply = unless x p (handOut p tag d y) .reply; wrote = 0 })
+    go : (x : Option Refusal) (y : Option Piece) → OneOf (but 6) (tagOf the-type (unless x p (handOut p tag d y) .reply))
+        → Wordless (unless x p (handOut p tag d y) .reply)
     go (some f) y k = refl
     go none none k = refl
-    go none (some o) k = absurd (miss others 6 tt k)
+    go none (some o) k = absurd (miss (but 6) 6 tt k)
+
+-- counters that are refused
+pub counters-wordless : (p : Port) (r : Reply) → r ≡ countersDef p .reply → OneOf (but 10) (tagOf the-type r) → Wordless r
+counters-wordless p r e k =
+    subst Wordless (sym e) (go (firstOf (closed p ∷ [])) (subst (λ (x : Reply). OneOf (but 10) (tagOf the-type x)) e k))
+  where
+    go : (x : Option Refusal) → OneOf (but 10) (tagOf the-type (unless x p (silent p (Counts (countersOf p))) .reply))
+        → Wordless (unless x p (silent p (Counts (countersOf p))) .reply)
+    go (some f) k = refl
+    go none k = absurd (miss (but 10) 10 tt k)

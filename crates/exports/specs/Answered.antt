@@ -6,10 +6,10 @@ use Prim.Native.Nat.{ℕ, _+_}
 use lib.Dec.{eqb}
 use Rattle.srp.specs.Bytes.{bytes, put}
 use Rattle.srp.specs.Writing.{placed}
-use Rattle.srp.specs.Outside.{Answer}
+use Rattle.srp.specs.Outside.{CReturn}
 use Rattle.srp.specs.declared.Fetch.{Fetch}
 
-pub record Answered (returned : ℕ) (before after : List ℕ) (a : Answer) : Type 0 where
+pub record Answered (returned : ℕ) (before after : List ℕ) (a : CReturn) : Type 0 where
   pub number : returned ≡ a .returns
   pub buffer : after ≡ placed (a .wrote) before
 

@@ -1,24 +1,26 @@
 -- What the calls from C on a port promise: the number returned, the eight words of the answer, and all that the call of the same name promises.
 -- l and st are the port's words and its store before the call, l′ and st′ after it; b and b′ the lent buffer; n is returned, w are the words.
 use mathlib.Core.Path.{_≡_}
-use mathlib.Core.Bool.{cond, not}
 use mathlib.Core.List.{List, [], _∷_, _++_}
 use Prim.Native.Nat.{ℕ, _/_}
-use lib.Dec.{eqb}
 use lib.IntN.{pos}
-use lib.ListN.{length, getD, drop}
+use lib.ListN.{length, drop, replicate}
 use Rattle.srp.specs.Credit.{Port}
-use Rattle.srp.specs.Take.{Outcome}
-use Rattle.srp.specs.Calls.{listing, listDef}
+use Rattle.srp.specs.Take.{Outcome, Tables, takeDef}
+use Rattle.srp.specs.Calls.{planDef, stepDef, finishDef, addDef, withdrawDef, grantDef, closeDef, countersDef, listing, listDef}
+use Rattle.srp.specs.Login.{loginDef}
 use Rattle.srp.specs.Answers.{returned, valuesOf, answerOf}
-use Rattle.srp.specs.declared.Direction.{Direction}
-use Rattle.srp.specs.declared.Direction.the-variants.{Out, In}
-use Rattle.srp.specs.declared.Record.{Record}
 use Rattle.srp.specs.declared.Reply.{Reply}
+use Rattle.srp.specs.declared.Answer.{Answer}
 use Rattle.answer.specs.Words.{leading, answerWords}
-use Rattle.state.specs.Promises.{Replies, Answers}
-use Rattle.login.specs.Parts.{LogsIn}
-use Rattle.login.specs.declared.Settings.{Settings}
+use Rattle.words.specs.View.{view}
+use Rattle.state.specs.Promises.{RepliesAs, AnswersAs}
+use Rattle.login.specs.LoggingIn.{LogsIn}
+use Rattle.exports.specs.Arguments.{recordSize, allWords, settingsIn, directionIn}
+
+-- an answer in numbers
+abbrev pub Gives : (n : ℕ) (w : List ℕ) → Answer → Type 0
+Gives n w a = (n ≡ returned (a .reply)) × (w ≡ answerWords a)
 
 -- an outcome in numbers
 pub record InC (n : ℕ) (w : List ℕ) (o : Outcome) : Type 0 where
@@ -28,54 +30,68 @@ pub record InC (n : ℕ) (w : List ℕ) (o : Outcome) : Type 0 where
 -- take, finish, grant, close
 pub record AnswersInC (l st b l′ st′ b′ : List ℕ) (n : ℕ) (w : List ℕ) (o : Outcome) : Type 0 where
   pub numbers : InC n w o
-  pub call : Answers l st b l′ st′ b′ (answerOf o) o
+  pub call : AnswersAs l st b l′ st′ b′ (answerOf o) o
 
 -- a reply without values: in words it is the length of the message
 abbrev pub Plain : Reply → Type 0
 Plain r = ((wrote : ℕ) → leading wrote r ++ valuesOf r ≡ pos wrote ∷ [])
 
+-- a reply without a word that is not 0, where no message is written
+abbrev pub Wordless : Reply → Type 0
+Wordless r = replicate 8 0 ≡ answerWords (record { reply = r; wrote = 0 })
+
 -- step
 pub record StepsInC (l st l′ : List ℕ) (n : ℕ) (w : List ℕ) (o : Outcome) : Type 0 where
   pub numbers : InC n w o
-  pub call : Replies l st l′ st (o .reply) o
+  pub call : RepliesAs l st l′ st (o .reply) o
 
 -- plan, add, withdraw
 pub record RepliesInC (l st l′ : List ℕ) (n : ℕ) (o : Outcome) : Type 0 where
   pub number : n ≡ returned (o .reply)
-  pub call : Replies l st l′ st (o .reply) o
+  pub call : RepliesAs l st l′ st (o .reply) o
 
 -- login
 pub record LogsInC (st l′ b b′ : List ℕ) (n : ℕ) (w : List ℕ) (o : Outcome) : Type 0 where
   pub numbers : InC n w o
   pub call : LogsIn st l′ b b′ (answerOf o) o
 
--- a record in words: tag, LUN, bytes handed out, bytes handed in
-abbrev pub recordWords : Record → List ℕ
-recordWords r = r .tag ∷ r .lun ∷ r .out ∷ r .inn ∷ []
-
-abbrev pub allWords : List Record → List ℕ
-allWords [] = []
-allWords (r ∷ rs) = recordWords r ++ allWords rs
-
 -- the listing: the lent words before and after it hold a fourth as many records
 pub record ListsInC (p : Port) (before after : List ℕ) (n : ℕ) (w : List ℕ) : Type 0 where
-  pub numbers : InC n w (listDef p (length before / 4))
+  pub numbers : InC n w (listDef p (length before / recordSize))
   pub listed : n ≡ 0 → after ≡ allWords (listing p) ++ drop (length (allWords (listing p))) before
   pub refused : (n ≡ 0 → ⊥) → after ≡ before
 
--- ── arguments
+-- ── the calls, by name; those that are not lent the store, for every store
 
--- N, M, X, indirect (0 no, else yes), solicited (0 no, else yes)
-abbrev pub settingsIn : List ℕ → Settings
-settingsIn n =
-    record {
-      buffers = getD n 0 0;
-      maximum = getD n 1 0;
-      longest = getD n 2 0;
-      indirect = not (eqb (getD n 3 0) 0);
-      solicited = not (eqb (getD n 4 0) 0);
-    }
+abbrev pub LoginInC : (b l′ b′ settings own s : List ℕ) (n : ℕ) (w : List ℕ) → Type 0
+LoginInC b l′ b′ settings own s n w = (st : List ℕ) → LogsInC st l′ b b′ n w (loginDef (settingsIn settings) own (length b) s)
 
--- 0 out, else in
-abbrev pub directionIn : ℕ → Direction
-directionIn n = cond (eqb n 0) Out In
+abbrev pub TakeInC : (l st b l′ st′ b′ s : List ℕ) → Tables → (n : ℕ) (w : List ℕ) → Type 0
+TakeInC l st b l′ st′ b′ s t n w = AnswersInC l st b l′ st′ b′ n w (takeDef (view l st) (length b) s t)
+
+abbrev pub PlanInC : (l l′ : List ℕ) (tag out inn n : ℕ) → Type 0
+PlanInC l l′ tag out inn n = (st : List ℕ) → RepliesInC l st l′ n (planDef (view l st) tag out inn)
+
+abbrev pub StepInC : (l l′ st : List ℕ) (tag direction n : ℕ) (w : List ℕ) → Type 0
+StepInC l l′ st tag direction n w = StepsInC l st l′ n w (stepDef (view l st) tag (directionIn direction))
+
+abbrev pub FinishInC : (l b l′ b′ : List ℕ) (tag status : ℕ) (sense : List ℕ) (n : ℕ) (w : List ℕ) → Type 0
+FinishInC l b l′ b′ tag status sense n w = (st : List ℕ) → AnswersInC l st b l′ st b′ n w (finishDef (view l st) (length b) tag status sense)
+
+abbrev pub AddInC : (l l′ : List ℕ) (k n : ℕ) → Type 0
+AddInC l l′ k n = (st : List ℕ) → RepliesInC l st l′ n (addDef (view l st) k)
+
+abbrev pub WithdrawInC : (l l′ : List ℕ) (k n : ℕ) → Type 0
+WithdrawInC l l′ k n = (st : List ℕ) → RepliesInC l st l′ n (withdrawDef (view l st) k)
+
+abbrev pub GrantInC : (l b l′ b′ : List ℕ) (n : ℕ) (w : List ℕ) → Type 0
+GrantInC l b l′ b′ n w = (st : List ℕ) → AnswersInC l st b l′ st b′ n w (grantDef (view l st) (length b))
+
+abbrev pub CloseInC : (l b l′ b′ : List ℕ) (reason n : ℕ) (w : List ℕ) → Type 0
+CloseInC l b l′ b′ reason n w = (st : List ℕ) → AnswersInC l st b l′ st b′ n w (closeDef (view l st) (length b) reason)
+
+abbrev pub CountersInC : (l : List ℕ) (n : ℕ) (w : List ℕ) → Type 0
+CountersInC l n w = (st : List ℕ) → InC n w (countersDef (view l st))
+
+abbrev pub ListInC : (l before after : List ℕ) (n : ℕ) (w : List ℕ) → Type 0
+ListInC l before after n w = (st : List ℕ) → ListsInC (view l st) before after n w

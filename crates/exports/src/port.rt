@@ -1,32 +1,31 @@
 // The calls on a port for callers in C. Each returns 0 or the refusal's number and writes all eight words of its answer, where it has one; else it is
 // the call of the same name, on the same words, store and buffers, and promises the same. The listing goes into lent words.
-use login::Settings;
 use srp::Answer;
 use srp::Direction;
 use srp::Record;
 use srp::Reply;
+use srp::Settings;
+use words::PORT;
+use words::STORE;
 ghost use mathlib.Core.Path.{_≡_};
 ghost use mathlib.Core.List.{List, [], _∷_};
 ghost use Prim.Native.Nat.{ℕ, _+_, _*_, _≤_};
 ghost use lib.ListN.{length, take};
 ghost use lib.Seq.{paste};
+ghost use Rattle.srp.specs.Limits.{mostBuffers};
 ghost use Rattle.srp.specs.Writing.{placed};
-ghost use Rattle.srp.specs.Take.{takeDef};
-ghost use Rattle.srp.specs.Login.{loginDef};
-ghost use Rattle.srp.specs.Calls.{planDef, stepDef, finishDef, addDef, withdrawDef, grantDef, closeDef, countersDef};
-ghost use Rattle.srp.specs.Answers;
-ghost use Rattle.answer.specs.Words.{answerWords};
-ghost use Rattle.words.specs.View.{portWords, view};
-ghost use Rattle.login.specs.Parts.{settingsOf};
-ghost use Rattle.take.specs.Parts.{tables};
-ghost use Rattle.exports.specs.Calls.{InC, Plain, AnswersInC, StepsInC, RepliesInC, LogsInC, ListsInC, recordWords, allWords, settingsIn, directionIn};
+ghost use Rattle.words.specs.Sizes.{portWords};
+ghost use Rattle.report.specs.Reports.{slotRecords};
+ghost use Rattle.take.specs.Taking.{tables};
+ghost use Rattle.exports.specs.Calls.{Gives, Plain, Wordless, LoginInC, TakeInC, PlanInC, StepInC, FinishInC, AddInC, WithdrawInC, GrantInC, CloseInC, CountersInC, ListInC};
+ghost use Rattle.exports.specs.Arguments.{recordSize, recordWords, allWords, settingsIn, directionIn};
 
 // Words of a record.
 const RECORD: usize = 4;
 
 // The answer's eight words are written, and the number is returned.
 fn give(answer: &mut [u64; 8], a: Answer) -> u32
-    ensures { λ n. ⌜ (n ≡ Answers.returned (a .reply)) × (now (answer .exit) ≡ answerWords a) ⌝ }
+    ensures { λ n. ⌜ Gives n (now (answer .exit)) a ⌝ }
 {
     *answer = answer::words_of(a);
     let reply = a.reply;
@@ -36,19 +35,20 @@ fn give(answer: &mut [u64; 8], a: Answer) -> u32
 // The same where there are no values: the length of the message alone.
 fn give_length(answer: &mut [u64; 8], a: Answer) -> u32
     requires { ⌜ Plain (a .reply) ⌝ }
-    ensures { λ n. ⌜ (n ≡ Answers.returned (a .reply)) × (now (answer .exit) ≡ answerWords a) ⌝ }
+    ensures { λ n. ⌜ Gives n (now (answer .exit)) a ⌝ }
 {
     *answer = [a.wrote as u64, 0, 0, 0, 0, 0, 0, 0];
     let reply = a.reply;
     answer::returned(reply)
 }
 
-// The same for a call without a lent message buffer.
-fn give_reply(answer: &mut [u64; 8], r: Reply) -> u32
-    ensures { λ n. ⌜ (n ≡ Answers.returned r) × (now (answer .exit) ≡ answerWords (record { reply = r; wrote = 0 })) ⌝ }
+// The same where all words are 0.
+fn give_nothing(answer: &mut [u64; 8], r: Reply) -> u32
+    requires { ⌜ Wordless r ⌝ }
+    ensures { λ n. ⌜ Gives n (now (answer .exit)) (record { reply = r; wrote = 0 }) ⌝ }
 {
-    let a = Answer { reply: r, wrote: 0 };
-    give(answer, a)
+    *answer = [0; 8];
+    answer::returned(r)
 }
 
 fn settings_of(n: &[u32; 5]) -> Settings
@@ -78,19 +78,20 @@ fn direction_of(n: u32) -> Direction
 pub extern "C" fn srp_target_words() -> u64
     ensures { λ n. ⌜ n ≡ portWords ⌝ }
 {
-    400
+    PORT as u64
 }
 
 #[no_mangle]
 pub extern "C" fn srp_target_login(
-    port: &mut [u64; 400],
+    port: &mut [u64; PORT],
     settings: &[u32; 5],
     own: &[u8; 16],
     msg: &[u8],
     buf: &mut [u8],
     answer: &mut [u64; 8],
 ) -> u32
-    ensures { λ n. ⌜ ((st : List ℕ) → LogsInC st (now (port .exit)) (now (buf .entry)) (now (buf .exit)) n (now (answer .exit)) (loginDef (settingsOf (settingsIn (now (settings .entry))) (now (own .entry))) (length (now (buf .entry))) (now (msg .entry)))) ⌝ }
+    ensures { λ n. ⌜ LoginInC (now (buf .entry)) (now (port .exit)) (now (buf .exit))
+        (now (settings .entry)) (now (own .entry)) (now (msg .entry)) n (now (answer .exit)) ⌝ }
 {
     let c = settings_of(settings);
     let a = login::login(port, c, own, msg, buf);
@@ -99,23 +100,30 @@ pub extern "C" fn srp_target_login(
 
 #[no_mangle]
 pub extern "C" fn srp_target_take<'a>(
-    port: &mut [u64; 400],
-    store: &mut [u8; 16384],
+    port: &mut [u64; PORT],
+    store: &mut [u8; STORE],
     msg: &'a [u8],
     out: &'a [u8],
     inn: &'a [u8],
     buf: &mut [u8],
     answer: &mut [u64; 8],
 ) -> u32
-    ensures { λ n. ⌜ AnswersInC (now (port .entry)) (now (store .entry)) (now (buf .entry)) (now (port .exit)) (now (store .exit)) (now (buf .exit)) n (now (answer .exit)) (takeDef (view (now (port .entry)) (now (store .entry))) (length (now (buf .entry))) (now (msg .entry)) (tables (now (out .entry)) (now (inn .entry)))) ⌝ }
+    ensures { λ n. ⌜ TakeInC
+        (now (port .entry)) (now (store .entry)) (now (buf .entry)) (now (port .exit)) (now (store .exit)) (now (buf .exit))
+        (now (msg .entry)) (tables (now (out .entry)) (now (inn .entry))) n (now (answer .exit)) ⌝ }
 {
     let a = take::take(port, store, msg, out, inn, buf);
-    give(answer, a)
+    let reply = a.reply;
+    let Reply::NewCommand { tag, lun, cdb } = reply else {
+        return give(answer, a);
+    };
+    *answer = answer::command_words(a.wrote, tag, lun, cdb);
+    0
 }
 
 #[no_mangle]
-pub extern "C" fn srp_target_plan(port: &mut [u64; 400], tag: u64, out: u32, inn: u32) -> u32
-    ensures { λ n. ⌜ ((st : List ℕ) → RepliesInC (now (port .entry)) st (now (port .exit)) n (planDef (view (now (port .entry)) st) tag out inn)) ⌝ }
+pub extern "C" fn srp_target_plan(port: &mut [u64; PORT], tag: u64, out: u32, inn: u32) -> u32
+    ensures { λ n. ⌜ PlanInC (now (port .entry)) (now (port .exit)) tag out inn n ⌝ }
 {
     let r = transfer::plan(port, tag, out, inn);
     answer::returned(r)
@@ -123,19 +131,18 @@ pub extern "C" fn srp_target_plan(port: &mut [u64; 400], tag: u64, out: u32, inn
 
 #[no_mangle]
 pub extern "C" fn srp_target_step(
-    port: &mut [u64; 400],
-    store: &[u8; 16384],
+    port: &mut [u64; PORT],
+    store: &[u8; STORE],
     tag: u64,
     direction: u32,
     answer: &mut [u64; 8],
 ) -> u32
-    ensures { λ n. ⌜ StepsInC (now (port .entry)) (now (store .entry)) (now (port .exit)) n (now (answer .exit)) (stepDef (view (now (port .entry)) (now (store .entry))) tag (directionIn direction)) ⌝ }
+    ensures { λ n. ⌜ StepInC (now (port .entry)) (now (port .exit)) (now (store .entry)) tag direction n (now (answer .exit)) ⌝ }
 {
     let d = direction_of(direction);
     let r = transfer::step(port, store, tag, d);
     let Reply::Operation(k, p) = r else {
-        *answer = [0; 8];
-        return answer::returned(r);
+        return give_nothing(answer, r);
     };
     *answer = answer::operation_words(k, p);
     0
@@ -143,30 +150,31 @@ pub extern "C" fn srp_target_step(
 
 #[no_mangle]
 pub extern "C" fn srp_target_finish(
-    port: &mut [u64; 400],
+    port: &mut [u64; PORT],
     tag: u64,
     status: u8,
     sense: &[u8],
     buf: &mut [u8],
     answer: &mut [u64; 8],
 ) -> u32
-    ensures { λ n. ⌜ ((st : List ℕ) → AnswersInC (now (port .entry)) st (now (buf .entry)) (now (port .exit)) st (now (buf .exit)) n (now (answer .exit)) (finishDef (view (now (port .entry)) st) (length (now (buf .entry))) tag status (now (sense .entry)))) ⌝ }
+    ensures { λ n. ⌜ FinishInC (now (port .entry)) (now (buf .entry)) (now (port .exit)) (now (buf .exit))
+        tag status (now (sense .entry)) n (now (answer .exit)) ⌝ }
 {
     let a = finish::finish(port, tag, status, sense, buf);
     give_length(answer, a)
 }
 
 #[no_mangle]
-pub extern "C" fn srp_target_add(port: &mut [u64; 400], k: u32) -> u32
-    ensures { λ n. ⌜ ((st : List ℕ) → RepliesInC (now (port .entry)) st (now (port .exit)) n (addDef (view (now (port .entry)) st) k)) ⌝ }
+pub extern "C" fn srp_target_add(port: &mut [u64; PORT], k: u32) -> u32
+    ensures { λ n. ⌜ AddInC (now (port .entry)) (now (port .exit)) k n ⌝ }
 {
     let r = credit::add(port, k);
     answer::returned(r)
 }
 
 #[no_mangle]
-pub extern "C" fn srp_target_withdraw(port: &mut [u64; 400], k: u32) -> u32
-    ensures { λ n. ⌜ ((st : List ℕ) → RepliesInC (now (port .entry)) st (now (port .exit)) n (withdrawDef (view (now (port .entry)) st) k)) ⌝ }
+pub extern "C" fn srp_target_withdraw(port: &mut [u64; PORT], k: u32) -> u32
+    ensures { λ n. ⌜ WithdrawInC (now (port .entry)) (now (port .exit)) k n ⌝ }
 {
     let r = credit::withdraw(port, k);
     answer::returned(r)
@@ -174,11 +182,11 @@ pub extern "C" fn srp_target_withdraw(port: &mut [u64; 400], k: u32) -> u32
 
 #[no_mangle]
 pub extern "C" fn srp_target_grant(
-    port: &mut [u64; 400],
+    port: &mut [u64; PORT],
     buf: &mut [u8],
     answer: &mut [u64; 8],
 ) -> u32
-    ensures { λ n. ⌜ ((st : List ℕ) → AnswersInC (now (port .entry)) st (now (buf .entry)) (now (port .exit)) st (now (buf .exit)) n (now (answer .exit)) (grantDef (view (now (port .entry)) st) (length (now (buf .entry))))) ⌝ }
+    ensures { λ n. ⌜ GrantInC (now (port .entry)) (now (buf .entry)) (now (port .exit)) (now (buf .exit)) n (now (answer .exit)) ⌝ }
 {
     let a = credit::grant(port, buf);
     give_length(answer, a)
@@ -186,43 +194,48 @@ pub extern "C" fn srp_target_grant(
 
 #[no_mangle]
 pub extern "C" fn srp_target_close(
-    port: &mut [u64; 400],
+    port: &mut [u64; PORT],
     reason: u32,
     buf: &mut [u8],
     answer: &mut [u64; 8],
 ) -> u32
-    ensures { λ n. ⌜ ((st : List ℕ) → AnswersInC (now (port .entry)) st (now (buf .entry)) (now (port .exit)) st (now (buf .exit)) n (now (answer .exit)) (closeDef (view (now (port .entry)) st) (length (now (buf .entry))) reason)) ⌝ }
+    ensures { λ n. ⌜ CloseInC (now (port .entry)) (now (buf .entry)) (now (port .exit)) (now (buf .exit)) reason n (now (answer .exit)) ⌝ }
 {
-    let a = credit::close(port, reason, buf);
+    let a = close::close(port, reason, buf);
     give_length(answer, a)
 }
 
 #[no_mangle]
-pub extern "C" fn srp_target_counters(port: &[u64; 400], answer: &mut [u64; 8]) -> u32
-    ensures { λ n. ⌜ ((st : List ℕ) → InC n (now (answer .exit)) (countersDef (view (now (port .entry)) st))) ⌝ }
+pub extern "C" fn srp_target_counters(port: &[u64; PORT], answer: &mut [u64; 8]) -> u32
+    ensures { λ n. ⌜ CountersInC (now (port .entry)) n (now (answer .exit)) ⌝ }
 {
-    let r = credit::counters(port);
-    give_reply(answer, r)
+    let r = report::counters(port);
+    let Reply::Counts(c) = r else {
+        return give_nothing(answer, r);
+    };
+    *answer = answer::counter_words(c);
+    0
 }
 
 // A record's words at its place.
 fn put_record(records: &mut [u64], i: usize, r: Record)
-    requires { ⌜ 4 * i + 4 ≤ length (now records) ⌝ }
-    ensures { λ _. ⌜ now (records .exit) ≡ paste (now (records .entry)) (4 * i) (recordWords r) 4 ⌝ }
+    requires { ⌜ recordSize * i + recordSize ≤ length (now records) ⌝ }
+    ensures { λ _. ⌜ now (records .exit) ≡ paste (now (records .entry)) (recordSize * i) (recordWords r) recordSize ⌝ }
 {
     let w = [r.tag, r.lun, r.out as u64, r.inn as u64];
     words::put_words(records, RECORD * i, &w);
 }
 
-// The first n records in words.
-fn put_records(records: &mut [u64], list: [Record; 16], n: usize)
-    requires { ⌜ 4 * n ≤ length (now records) ⌝ }
-    requires { ⌜ n ≤ 16 ⌝ }
-    ensures { λ _. ⌜ now (records .exit) ≡ placed (allWords (take n list) ∷ []) (now (records .entry)) ⌝ }
+// The records of the first n commands in words.
+fn put_records(records: &mut [u64], port: &[u64], n: usize)
+    requires { ⌜ length (now port) ≡ portWords ⌝ }
+    requires { ⌜ recordSize * n ≤ length (now records) ⌝ }
+    requires { ⌜ n ≤ mostBuffers ⌝ }
+    ensures { λ _. ⌜ now (records .exit) ≡ placed (allWords (take n (slotRecords (now (port .entry)))) ∷ []) (now (records .entry)) ⌝ }
 {
     let mut i: usize = 0;
     while i < n {
-        let r = list[i];
+        let r = report::record_at(port, i);
         put_record(&mut *records, i, r);
         i += 1;
     }
@@ -230,15 +243,17 @@ fn put_records(records: &mut [u64], list: [Record; 16], n: usize)
 
 #[no_mangle]
 pub extern "C" fn srp_target_list(
-    port: &[u64; 400],
+    port: &[u64; PORT],
     records: &mut [u64],
     answer: &mut [u64; 8],
 ) -> u32
-    ensures { λ n. ⌜ ((st : List ℕ) → ListsInC (view (now (port .entry)) st) (now (records .entry)) (now (records .exit)) n (now (answer .exit))) ⌝ }
+    ensures { λ n. ⌜ ListInC (now (port .entry)) (now (records .entry)) (now (records .exit)) n (now (answer .exit)) ⌝ }
 {
-    let c = listing::listing_for(port, records.len() / RECORD);
-    let list = c.records;
-    let reply = c.reply;
-    put_records(records, list, c.count);
-    give_reply(answer, reply)
+    let reply = report::count_for(port, records.len() / RECORD);
+    let Reply::Listed(n) = reply else {
+        return give_nothing(answer, reply);
+    };
+    put_records(records, port, n);
+    *answer = [n as u64, 0, 0, 0, 0, 0, 0, 0];
+    0
 }

@@ -2,7 +2,7 @@
 use Prim.Native.Nat.{_≤_}
 use Rattle.rows.specs.declared.row.Ends.{Ends}
 
-pub record InOrder (e : Ends) : Type 0 where
+pub record Ascending (e : Ends) : Type 0 where
   pub header : 26 ≤ e .first
   pub second : e .first ≤ e .second
   pub third : e .second ≤ e .third

@@ -1,16 +1,17 @@
 // A packed row: its kind, how many bytes are lent and what fills them, the refusal (0 for none), three numbers of 4 bytes, the lengths
 // of five strings of bytes, 2 bytes each, and the strings.
-use command::Decoded;
+
 use cut::Total;
 use srp::Descriptor;
 use srp::Direction;
+use srp::Message;
 use srp::limits::BOTH_FORMATS;
 use srp::limits::LONGEST_AGREED;
 ghost use mathlib.Core.Path.{_≡_};
 ghost use Prim.Native.Nat.{_+_, _≤_};
 ghost use lib.ListN.{length};
-ghost use Rattle.command.specs.Reading.{Within};
-ghost use Rattle.rows.specs.Packed.{InOrder};
+ghost use Rattle.command.specs.Reading.{LiesIn};
+ghost use Rattle.rows.specs.Packed.{Ascending};
 
 pub const LOOK: u8 = b'l';
 
@@ -45,7 +46,7 @@ pub struct Ends {
 
 pub fn ends_of(s: &[u8]) -> Ends
     requires { ⌜ 26 ≤ length (now s) ⌝ }
-    ensures { λ r. ⌜ InOrder r ⌝ }
+    ensures { λ r. ⌜ Ascending r ⌝ }
 {
     let first = HEADER + (wire::read16(s, LENGTHS) as usize);
     let second = first + (wire::read16(s, LENGTHS + 2) as usize);
@@ -63,7 +64,7 @@ pub fn ends_of(s: &[u8]) -> Ends
 
 // Whether the code answers as the row does.
 pub fn right(s: &[u8], e: Ends) -> bool
-    requires { ⌜ InOrder e ⌝ }
+    requires { ⌜ Ascending e ⌝ }
     requires { ⌜ length (now s) ≡ e .fifth ⌝ }
 {
     match s[0] {
@@ -96,7 +97,7 @@ fn ask(s: &[u8], first: usize, buf: &mut [u8]) -> u32
 }
 
 fn call_right(s: &[u8], e: Ends) -> bool
-    requires { ⌜ InOrder e ⌝ }
+    requires { ⌜ Ascending e ⌝ }
     requires { ⌜ length (now s) ≡ e .fifth ⌝ }
 {
     let mut buf = [0u8; ROOM];
@@ -105,7 +106,7 @@ fn call_right(s: &[u8], e: Ends) -> bool
 
 // The call returns the refusal, and the lent bytes are the 32 of the answer, or all as they were.
 fn answered(s: &[u8], e: Ends, buf: &mut [u8]) -> bool
-    requires { ⌜ InOrder e ⌝ }
+    requires { ⌜ Ascending e ⌝ }
     requires { ⌜ length (now s) ≡ e .fifth ⌝ }
 {
     let third = e.third;
@@ -133,7 +134,7 @@ fn set_all(buf: &mut [u8], fill: u8) {
 
 // cdb: the agreed length and formats; the message, the CDB.
 fn cdb_right(s: &[u8], e: Ends) -> bool
-    requires { ⌜ InOrder e ⌝ }
+    requires { ⌜ Ascending e ⌝ }
     requires { ⌜ length (now s) ≡ e .fifth ⌝ }
 {
     let first = e.first;
@@ -147,7 +148,7 @@ fn cdb_right(s: &[u8], e: Ends) -> bool
 
 // segments: the message, both tables, both lists; or refusal 10.
 fn segments_right(s: &[u8], e: Ends) -> bool
-    requires { ⌜ InOrder e ⌝ }
+    requires { ⌜ Ascending e ⌝ }
     requires { ⌜ length (now s) ≡ e .fifth ⌝ }
 {
     let first = e.first;
@@ -156,7 +157,7 @@ fn segments_right(s: &[u8], e: Ends) -> bool
     let fourth = e.fourth;
     let fifth = e.fifth;
     let msg = &s[HEADER..first];
-    let Decoded::Read(c) = command::look_command(msg, LONGEST_AGREED, BOTH_FORMATS) else {
+    let Message::Cmd(c) = command::look_command(msg, LONGEST_AGREED, BOTH_FORMATS) else {
         return false;
     };
     let out = c.out;
@@ -186,7 +187,7 @@ fn segments_right(s: &[u8], e: Ends) -> bool
 
 // Whether a direction's table has F bytes and no field of it is bad.
 fn fits<'a>(msg: &'a [u8], table: &'a [u8], d: Descriptor) -> bool
-    requires { ⌜ Within (now msg) d ⌝ }
+    requires { ⌜ LiesIn (now msg) d ⌝ }
 {
     if table.len() != (command::fetched_length(d) as usize) {
         return false;

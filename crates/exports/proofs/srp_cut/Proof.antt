@@ -2,7 +2,7 @@
 use mathlib.Core.Path.{refl, sym, _∙_}
 use Rattle.srp.specs.Outside.{cutAnswer}
 use Rattle.srp.specs.Cutting.{cutDef}
-use Rattle.exports.proofs.Answers.{short, answered}
+use Rattle.exports.proofs.Buffers.{short, answered}
 use borrow.Author.Needs.{needs}
 use Rattle.exports.proofs.srp_cut.Statement.{statement}
 use Rattle.exports.proofs.srp_cut.Tie as tie

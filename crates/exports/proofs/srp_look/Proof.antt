@@ -2,7 +2,7 @@
 use mathlib.Core.Path.{refl, sym, _∙_}
 use Rattle.srp.specs.Outside.{lookAnswer}
 use Rattle.srp.specs.Requests.{lookDef}
-use Rattle.exports.proofs.Answers.{short, answered}
+use Rattle.exports.proofs.Buffers.{short, answered}
 use Rattle.exports.proofs.Fetches.{look-blank}
 use native.Mathlib.Omega.{arith}
 use borrow.Author.Needs.{needs}

@@ -1,4 +1,3 @@
--- `exports::port::srp_target_step` meets its contract. Assumes nothing.
 use mathlib.Core.Path.{sym, _∙_, ap}
 use Rattle.srp.specs.declared.Reply.{Reply}
 use Rattle.srp.specs.Answers as def
@@ -9,28 +8,40 @@ use Rattle.exports.proofs.Plain.{step-wordless}
 use borrow.Author.Needs.{needs}
 use Rattle.exports.proofs.port.srp_target_step.Statement.{statement}
 use Rattle.exports.proofs.port.srp_target_step.Tie as tie
+use Rattle.exports.proofs.port.srp_target_step.Reads as reads
+use Rattle.exports.proofs.port.srp_target_step.Lts as lts
+use Rattle.answer.proofs.operation_words.Reads as operation-words-reads
+use Rattle.exports.proofs.port.direction_of.Reads as direction-of-reads
+use Rattle.exports.proofs.port.give_nothing.Reads as give-nothing-reads
+use Rattle.transfer.proofs.step.Reads as step-reads
 
+-- src/port.rt:142:9
 direction-of-requires : tie.Need-direction-of-requires
 direction-of-requires c κs = search needs
 
+-- src/port.rt:143:9
 step-requires : tie.Need-step-requires
 step-requires c κs = search needs
 
+-- src/port.rt:144:26
 enum-known-r : tie.Need-enum-known-r
 enum-known-r c = search needs
 
-returned-requires : tie.Need-returned-requires
-returned-requires c κs = search needs
+-- src/port.rt:145:9
+give-nothing-requires : tie.Need-give-nothing-requires
+give-nothing-requires c κs =
+    step-wordless (view (c .before .before .before .before .before .args .port .now) (c .before .before .before .before .before .args .store .now)) (c .before .before .before .before .before .args .tag) (c .before .before .before .before .direction-of .result) (c .before .before .step .result) (c .before .before .step .ensures .reply) (c .before .match .keys2)
 
+-- src/port.rt:145:9
 returns : tie.Need-returns
 returns c =
-    let p = view (c .before .before .before .before .before .before .args .port .now) (c .before .before .before .before .before .before .args .store .now) in
-    let S = c .before .before .before .step .ensures in
-    rw (sym (c .before .before .before .before .before .direction-of .ensures)) (steps-in-c S (c .returned .ensures, step-wordless p (c .before .before .before .before .before .before .args .tag) (c .before .before .before .before .before .direction-of .result) (c .before .before .before .step .result) (S .reply) (c .before .before .match .keys2)))
+    rw (sym (c .before .before .before .before .before .direction-of .ensures)) (steps-in-c (c .before .before .before .step .ensures) (c .give-nothing .ensures))
 
+-- src/port.rt:147:15
 operation-words-requires : tie.Need-operation-words-requires
 operation-words-requires c κs = search needs
 
+-- src/port.rt:132:1
 returns-2 : tie.Need-returns-2
 returns-2 c =
     let e = c .before .before .r .given .1 in
@@ -43,7 +54,7 @@ srp-target-step-spec =
     direction-of-requires
     step-requires
     enum-known-r
-    returned-requires
+    give-nothing-requires
     returns
     operation-words-requires
     returns-2)
