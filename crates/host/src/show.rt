@@ -1,10 +1,18 @@
 // What happens, a line each: messages, RDMA operations, counts.
+use crate::paper::COMMAND;
+use crate::paper::CRED_REQ;
+use crate::paper::CRED_RSP;
 use crate::paper::DELTA;
 use crate::paper::FLAGS;
+use crate::paper::I_LOGOUT;
 use crate::paper::IN_RESIDUAL;
+use crate::paper::LOGIN_REJ;
+use crate::paper::LOGIN_REQ;
+use crate::paper::LOGIN_RSP;
 use crate::paper::NOTIFICATION;
 use crate::paper::OUT_RESIDUAL;
 use crate::paper::REASON;
+use crate::paper::RSP;
 use crate::paper::RSP_CODE;
 use crate::paper::RSP_SIZE;
 use crate::paper::RSP_WITH_CODE;
@@ -13,7 +21,9 @@ use crate::paper::SENSE_LENGTH;
 use crate::paper::SHORTEST;
 use crate::paper::SOLNT;
 use crate::paper::STATUS;
+use crate::paper::T_LOGOUT;
 use crate::paper::TAG;
+use crate::paper::TSK_MGMT;
 use libc::STDOUT_FILENO;
 use srp::Counters;
 use srp::Fetch;
@@ -44,16 +54,16 @@ pub fn end() {
 // Which message it is, by its type.
 fn name(kind: u8) {
     match kind {
-        0x00 => text(b"SRP_LOGIN_REQ"),
-        0x01 => text(b"SRP_TSK_MGMT "),
-        0x02 => text(b"SRP_CMD      "),
-        0x03 => text(b"SRP_I_LOGOUT "),
-        0x41 => text(b"SRP_CRED_RSP "),
-        0x80 => text(b"SRP_T_LOGOUT "),
-        0x81 => text(b"SRP_CRED_REQ "),
-        0xc0 => text(b"SRP_LOGIN_RSP"),
-        0xc1 => text(b"SRP_RSP      "),
-        0xc2 => text(b"SRP_LOGIN_REJ"),
+        LOGIN_REQ => text(b"SRP_LOGIN_REQ"),
+        TSK_MGMT => text(b"SRP_TSK_MGMT "),
+        COMMAND => text(b"SRP_CMD      "),
+        I_LOGOUT => text(b"SRP_I_LOGOUT "),
+        CRED_RSP => text(b"SRP_CRED_RSP "),
+        T_LOGOUT => text(b"SRP_T_LOGOUT "),
+        CRED_REQ => text(b"SRP_CRED_REQ "),
+        LOGIN_RSP => text(b"SRP_LOGIN_RSP"),
+        RSP => text(b"SRP_RSP      "),
+        LOGIN_REJ => text(b"SRP_LOGIN_REJ"),
         _ => text(b"another type "),
     }
 }
@@ -92,10 +102,10 @@ fn fields(msg: &[u8]) {
         return;
     }
     match wire::read8(msg, 0) {
-        0x80 => number(b", reason ", wire::read32(msg, REASON) as u64),
-        0x81 => number(b", delta ", wire::read32(msg, DELTA) as u64),
-        0xc0 => number(b", buffers ", wire::read32(msg, DELTA) as u64),
-        0xc1 => response(msg),
+        T_LOGOUT => number(b", reason ", wire::read32(msg, REASON) as u64),
+        CRED_REQ => number(b", delta ", wire::read32(msg, DELTA) as u64),
+        LOGIN_RSP => number(b", buffers ", wire::read32(msg, DELTA) as u64),
+        RSP => response(msg),
         _ => {}
     }
 }
@@ -134,59 +144,14 @@ pub fn fetch(f: Fetch) {
     text(b" (the table of descriptors)\n");
 }
 
-// How far D is below 0. D is at most 16 either way: it is read off, as a cast would have to be proved in range.
-fn below(d: i64) -> u64 {
-    match d {
-        -1 => 1,
-        -2 => 2,
-        -3 => 3,
-        -4 => 4,
-        -5 => 5,
-        -6 => 6,
-        -7 => 7,
-        -8 => 8,
-        -9 => 9,
-        -10 => 10,
-        -11 => 11,
-        -12 => 12,
-        -13 => 13,
-        -14 => 14,
-        -15 => 15,
-        -16 => 16,
-        _ => 0,
-    }
-}
-
-// How far D is above 0.
-fn above(d: i64) -> u64 {
-    match d {
-        1 => 1,
-        2 => 2,
-        3 => 3,
-        4 => 4,
-        5 => 5,
-        6 => 6,
-        7 => 7,
-        8 => 8,
-        9 => 9,
-        10 => 10,
-        11 => 11,
-        12 => 12,
-        13 => 13,
-        14 => 14,
-        15 => 15,
-        16 => 16,
-        _ => 0,
-    }
-}
-
-// D with its sign.
+// D with its sign: a negative one is a word in two's complement.
 fn owed(d: i64) {
+    let word = answer::word(d);
     if d < 0 {
-        number(b", D -", below(d));
+        number(b", D -", std::num::wrapping_sub_u64(0, word));
         return;
     }
-    number(b", D ", above(d));
+    number(b", D ", word);
 }
 
 pub fn counts(c: Counters, limit: u64) {

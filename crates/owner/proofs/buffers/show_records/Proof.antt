@@ -1,9 +1,9 @@
--- `owner::show_records` meets its contract. Assumes nothing.
+-- `owner::buffers::show_records` meets its contract. Assumes nothing.
 use Prim.Native.Nat.{_-_, _≤_}
 use native.Mathlib.Omega.{arith}
 use borrow.Author.Needs.{needs}
-use Rattle.owner.proofs.show_records.Statement.{statement}
-use Rattle.owner.proofs.show_records.Tie as tie
+use Rattle.owner.proofs.buffers.show_records.Statement.{statement}
+use Rattle.owner.proofs.buffers.show_records.Tie as tie
 
 -- at most 16 records
 abbrev Inv-loop : tie.InvT-loop

@@ -1,9 +1,9 @@
--- `owner::step_all` meets its contract. Assumes nothing.
+-- `owner::requests::step_all` meets its contract. Assumes nothing.
 use Prim.Native.Nat.{_-_, _≤_}
 use native.Mathlib.Omega.{arith}
 use borrow.Author.Needs.{needs}
-use Rattle.owner.proofs.step_all.Statement.{statement}
-use Rattle.owner.proofs.step_all.Tie as tie
+use Rattle.owner.proofs.requests.step_all.Statement.{statement}
+use Rattle.owner.proofs.requests.step_all.Tie as tie
 
 -- at most 64 pieces
 abbrev Inv-loop : tie.InvT-loop

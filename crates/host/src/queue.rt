@@ -1,6 +1,6 @@
 // A queue of up to eight messages that keeps order: eight places of 256 bytes, each with a message's length and the message; then the number of the
 // oldest message's place, and how many there are.
-ghost use mathlib.Core.Path.{_≡_};
+use crate::place;
 ghost use Prim.Native.Nat.{_≤_};
 ghost use lib.ListN.{length};
 
@@ -10,26 +10,24 @@ const PLACE: usize = 256;
 
 const LONGEST: usize = 254;
 
-const FIRST: usize = 2048;
+const FIRST: usize = (PLACES as usize) * PLACE;
 
-const COUNT: usize = 2049;
+const COUNT: usize = FIRST + 1;
+
+// Bytes of a queue.
+pub const QUEUE: usize = COUNT + 1;
 
 // A message at a place, its length before it.
-fn put(q: &mut [u8], at: usize, msg: &[u8])
-    requires { ⌜ length (now q) ≡ 2050 ⌝ }
+fn put(q: &mut [u8; QUEUE], at: usize, msg: &[u8])
     requires { ⌜ at ≤ 1792 ⌝ }
     requires { ⌜ length (now msg) ≤ 254 ⌝ }
 {
-    let start = at + 1;
-    let end = start + msg.len();
     wire::write8(&mut *q, at, msg.len() as u8);
-    bytes::copy(msg, &mut q[start..end]);
+    place(q, at + 1, msg);
 }
 
 // One message joins, unless it has more than 254 bytes or there are eight.
-pub fn push(q: &mut [u8], msg: &[u8]) -> bool
-    requires { ⌜ length (now q) ≡ 2050 ⌝ }
-{
+pub fn push(q: &mut [u8; QUEUE], msg: &[u8]) -> bool {
     if LONGEST < msg.len() {
         return false;
     }
@@ -43,27 +41,22 @@ pub fn push(q: &mut [u8], msg: &[u8]) -> bool
     true
 }
 
-pub fn is_empty(q: &[u8]) -> bool
-    requires { ⌜ length (now q) ≡ 2050 ⌝ }
-{
+pub fn is_empty(q: &[u8; QUEUE]) -> bool {
     q[COUNT] == 0
 }
 
 // The oldest message.
-pub fn front(q: &[u8]) -> &[u8]
-    requires { ⌜ length (now q) ≡ 2050 ⌝ }
-{
+pub fn front(q: &[u8; QUEUE]) -> &[u8] {
     let at = ((q[FIRST] % PLACES) as usize) * PLACE;
     let n = (q[at] % 255) as usize;
     let start = at + 1;
     let end = start + n;
-    &q[start..end]
+    let all = &q[..];
+    &all[start..end]
 }
 
 // The oldest message leaves.
-pub fn pop(q: &mut [u8])
-    requires { ⌜ length (now q) ≡ 2050 ⌝ }
-{
+pub fn pop(q: &mut [u8; QUEUE]) {
     let count = q[COUNT];
     if count == 0 {
         return;

@@ -1,0 +1,149 @@
+// A request's way: taken, moved, ended.
+use crate::AGREED;
+use crate::FORMATS;
+use crate::WRITTEN;
+use crate::conclude;
+use crate::deliver;
+use crate::send;
+use host::MESSAGE;
+use host::first;
+use host::paper::GOOD;
+use host::queue;
+use host::queue::QUEUE;
+use host::show;
+use srp::Direction;
+use srp::Fetch;
+use srp::Look;
+use words::PORT;
+use words::STORE;
+
+// more pieces than any command here has
+const PIECES: usize = 64;
+
+fn show_fetch(f: Fetch) {
+    if f.len != 0 {
+        show::fetch(f);
+    }
+}
+
+// The table to fetch for a direction: its bytes are the first of those that the initiator's memory holds.
+fn fetched<'a>(msg: &'a [u8], memory: &'a [u8], d: Direction) -> &'a [u8] {
+    let Look::Fetches(out, inn) = command::look(msg, AGREED, FORMATS) else {
+        return first(memory, 0);
+    };
+    match d {
+        Direction::Out => {
+            show_fetch(out);
+            first(memory, out.len as usize)
+        }
+        Direction::In => {
+            show_fetch(inn);
+            first(memory, inn.len as usize)
+        }
+    }
+}
+
+fn take_one<'a>(
+    port: &mut [u64; PORT],
+    store: &mut [u8; STORE],
+    msg: &'a [u8],
+    memory: &'a [u8],
+    to_initiator: &mut [u8; QUEUE],
+) {
+    let mut buf = [0u8; WRITTEN];
+    let out = fetched(msg, memory, Direction::Out);
+    let inn = fetched(msg, memory, Direction::In);
+    let a = take::take(port, store, msg, out, inn, &mut buf);
+    let reply = a.reply;
+    show::taken(reply);
+    send(to_initiator, &buf, a.wrote);
+}
+
+// The oldest message is taken, and leaves.
+pub fn take(
+    port: &mut [u64; PORT],
+    store: &mut [u8; STORE],
+    to_port: &mut [u8; QUEUE],
+    to_initiator: &mut [u8; QUEUE],
+) {
+    take_with(port, store, to_port, b"", to_initiator);
+}
+
+// The same, where a table is to be fetched: what the initiator's memory holds there.
+pub fn take_fetching(
+    port: &mut [u64; PORT],
+    store: &mut [u8; STORE],
+    to_port: &mut [u8; QUEUE],
+    memory: &[u8; MESSAGE],
+    to_initiator: &mut [u8; QUEUE],
+) {
+    take_with(port, store, to_port, memory, to_initiator);
+}
+
+fn take_with(
+    port: &mut [u64; PORT],
+    store: &mut [u8; STORE],
+    to_port: &mut [u8; QUEUE],
+    memory: &[u8],
+    to_initiator: &mut [u8; QUEUE],
+) {
+    if queue::is_empty(to_port) {
+        return;
+    }
+    take_one(port, store, queue::front(to_port), memory, to_initiator);
+    queue::pop(to_port);
+}
+
+// What the command requires each way.
+pub fn plan(port: &mut [u64; PORT], tag: u64, out: u32, inn: u32) {
+    show::hexadecimal(b"   plan: tag ", tag, 4);
+    show::number(b", out ", out as u64);
+    show::number(b", in ", inn as u64);
+    show::end();
+    show::refusal(b"   ", transfer::plan(port, tag, out, inn));
+}
+
+// One piece of a direction, or that there is no more.
+pub fn step(port: &mut [u64; PORT], store: &[u8; STORE], tag: u64, d: Direction) {
+    show::stepped(transfer::step(port, store, tag, d), 1);
+}
+
+// Every piece of a direction.
+fn step_all(port: &mut [u64; PORT], store: &[u8; STORE], tag: u64, d: Direction) {
+    let mut k: usize = 0;
+    while k < PIECES {
+        if !show::stepped(transfer::step(port, store, tag, d), k) {
+            return;
+        }
+        k += 1;
+    }
+}
+
+// What the command requires each way, and all its operations.
+pub fn move_data(port: &mut [u64; PORT], store: &[u8; STORE], tag: u64, out: u32, inn: u32) {
+    plan(&mut *port, tag, out, inn);
+    step_all(&mut *port, store, tag, Direction::Out);
+    step_all(port, store, tag, Direction::In);
+}
+
+// Finish, with a status and sense.
+pub fn end(
+    port: &mut [u64; PORT],
+    tag: u64,
+    status: u8,
+    sense: &[u8],
+    to_initiator: &mut [u8; QUEUE],
+) {
+    let mut buf = [0u8; WRITTEN];
+    show::hexadecimal(b"   finish: tag ", tag, 4);
+    show::hexadecimal(b", status ", status as u64, 2);
+    show::end();
+    let a = finish::finish(port, tag, status, sense, &mut buf);
+    conclude(to_initiator, &buf, a);
+}
+
+// A command ends well, and its response is delivered; the limit after that is answered.
+pub fn finish(port: &mut [u64; PORT], tag: u64, to_initiator: &mut [u8; QUEUE], limit: u64) -> u64 {
+    end(&mut *port, tag, GOOD, b"", &mut *to_initiator);
+    deliver(port, to_initiator, limit)
+}
