@@ -88,7 +88,7 @@ extern "C" {
 #define SRP_REFUSED_PLANNED         30 /* planned already */
 
 /* Sizes: of a port, of the answers, of lent buffers and lists. */
-#define SRP_PORT_WORDS    400   /* words of a port */
+#define SRP_PORT_WORDS    528   /* words of a port */
 #define SRP_STORE_BYTES   16384 /* bytes of a port's store */
 #define SRP_ANSWER_WORDS  8     /* words of an answer of the calls on a port */
 #define SRP_ANSWER_BYTES  32    /* bytes of an answer of srp_look and srp_cut, and their least buf_len */

@@ -2,6 +2,10 @@
 
 use std::hint::black_box;
 
+use srp_target_sys::{
+    Answer, Own, Settings, Store, Words, ANSWER_WORDS, LIST_WORDS, MESSAGE_BYTES, RECORD_WORDS, STORE_BYTES,
+};
+
 use crate::sides::Side;
 
 /// A message to take, and the tables fetched for it.
@@ -12,8 +16,9 @@ pub struct Message {
     pub inn: Vec<u8>,
 }
 
-/// Calls of one kind, one for each message or tag.
+/// Calls of one kind, one for each message or tag, or so many.
 pub enum Batch {
+    Login(Vec<[u8; 64]>),
     Take(Vec<Message>),
     Plan { tags: Vec<u64>, required: u32 },
     Step { tags: Vec<u64>, direction: u32 },
@@ -21,17 +26,20 @@ pub enum Batch {
     Add(u32),
     Withdraw(u32),
     Grant,
+    Close,
+    Counters(usize),
+    List(usize),
     Look(Vec<Vec<u8>>),
     Cut { lists: Vec<Vec<u8>>, required: u32, handed: u32 },
 }
 
 /// What an owner lends, and the answer's words.
 pub struct Lent {
-    port: *mut u64,
-    store: Box<[u8; 16_384]>,
-    pub buf: Box<[u8; 132]>,
-    records: Box<[u64; 64]>,
-    pub answer: Box<[u64; 8]>,
+    port: *mut Words,
+    store: Box<Store>,
+    pub buf: Box<[u8; MESSAGE_BYTES]>,
+    records: Box<[u64; LIST_WORDS]>,
+    pub answer: Box<Answer>,
 }
 
 /// The settings of the login: buffers, longest piece, longest message; and the formats agreed, both.
@@ -39,16 +47,29 @@ const BUFFERS: u32 = 16;
 pub const MAX_PIECE: u32 = 512;
 const AGREED: u32 = 1364;
 const FORMATS: u32 = 0b110;
+const SETTINGS: Settings = [BUFFERS, MAX_PIECE, AGREED, 1, 1];
+const OWN: Own = [7; 16];
+
+/// An SRP_LOGIN_REQ that is accepted.
+pub fn login_request() -> [u8; 64] {
+    let mut msg = [0; 64];
+    msg[16..20].copy_from_slice(&AGREED.to_be_bytes());
+    msg[25] = FORMATS as u8;
+    msg[48..64].copy_from_slice(&OWN);
+    msg
+}
 
 impl Batch {
     /// How many calls it makes on a port.
     pub fn calls(&self) -> usize {
         match self {
+            Batch::Login(messages) => messages.len(),
             Batch::Take(messages) => messages.len(),
             Batch::Plan { tags, .. } | Batch::Step { tags, .. } | Batch::Finish { tags, .. } => tags.len(),
             Batch::Look(messages) => messages.len(),
             Batch::Cut { lists, .. } => lists.len(),
-            Batch::Add(_) | Batch::Withdraw(_) | Batch::Grant => 1,
+            Batch::Counters(calls) | Batch::List(calls) => *calls,
+            Batch::Add(_) | Batch::Withdraw(_) | Batch::Grant | Batch::Close => 1,
         }
     }
 
@@ -59,12 +80,13 @@ impl Batch {
     pub unsafe fn run(&self, side: &Side, ports: &mut [Lent], mut after: impl FnMut(u32, &Lent)) {
         let (side, after) = (black_box(side), &mut after);
         match self {
+            Batch::Login(messages) => each(ports, messages, after, |lent, msg| unsafe { login(side, lent, msg) }),
             Batch::Take(messages) => each(ports, messages, after, |lent, message| unsafe { take(side, lent, message) }),
             Batch::Plan { tags, required } => {
                 each(ports, tags, after, |lent, tag| unsafe { (side.plan)(lent.port, *tag, *required, *required) })
             }
             Batch::Step { tags, direction } => each(ports, tags, after, |lent, tag| unsafe {
-                (side.step)(lent.port, lent.store.as_ptr(), *tag, *direction, &mut *lent.answer)
+                (side.step)(lent.port, &*lent.store, *tag, *direction, &mut *lent.answer)
             }),
             Batch::Finish { tags, status, sense } => {
                 each(ports, tags, after, |lent, tag| unsafe { finish(side, lent, *tag, *status, sense) })
@@ -74,6 +96,9 @@ impl Batch {
             Batch::Grant => each(ports, &[()], after, |lent, ()| unsafe {
                 (side.grant)(lent.port, lent.buf.as_mut_ptr(), lent.buf.len(), &mut *lent.answer)
             }),
+            Batch::Close => each(ports, &[()], after, |lent, ()| unsafe { close(side, lent) }),
+            Batch::Counters(calls) => each(ports, &vec![(); *calls], after, |lent, ()| unsafe { counters(side, lent) }),
+            Batch::List(calls) => each(ports, &vec![(); *calls], after, |lent, ()| unsafe { list(side, lent) }),
             Batch::Look(messages) => each(ports, messages, after, |lent, msg| unsafe {
                 (side.look)(msg.as_ptr(), msg.len(), AGREED, FORMATS, lent.buf.as_mut_ptr(), lent.buf.len())
             }),
@@ -97,17 +122,41 @@ fn each<T>(ports: &mut [Lent], items: &[T], after: &mut impl FnMut(u32, &Lent), 
 // SAFETY, of all calls: the port is of this side, and each pointer leads to what its length says.
 
 #[inline(always)]
+unsafe fn login(side: &Side, lent: &mut Lent, msg: &[u8]) -> u32 {
+    let (buf, buf_len, answer) = (lent.buf.as_mut_ptr(), lent.buf.len(), &mut *lent.answer);
+    unsafe { (side.login)(lent.port, &SETTINGS, &OWN, msg.as_ptr(), msg.len(), buf, buf_len, answer) }
+}
+
+#[inline(always)]
 unsafe fn take(side: &Side, lent: &mut Lent, message: &Message) -> u32 {
     let Message { bytes, out, inn } = message;
-    let (store, buf, answer) = (lent.store.as_mut_ptr(), lent.buf.as_mut_ptr(), &mut *lent.answer);
+    let (store, answer) = (&mut *lent.store, &mut *lent.answer);
+    let (buf, buf_len) = (lent.buf.as_mut_ptr(), lent.buf.len());
     let (out, out_len, inn, in_len) = (out.as_ptr(), out.len(), inn.as_ptr(), inn.len());
-    unsafe { (side.take)(lent.port, store, bytes.as_ptr(), bytes.len(), out, out_len, inn, in_len, buf, 132, answer) }
+    unsafe {
+        (side.take)(lent.port, store, bytes.as_ptr(), bytes.len(), out, out_len, inn, in_len, buf, buf_len, answer)
+    }
 }
 
 #[inline(always)]
 unsafe fn finish(side: &Side, lent: &mut Lent, tag: u64, status: u8, sense: &[u8]) -> u32 {
-    let (buf, answer) = (lent.buf.as_mut_ptr(), &mut *lent.answer);
-    unsafe { (side.finish)(lent.port, tag, status, sense.as_ptr(), sense.len(), buf, 132, answer) }
+    let (buf, buf_len, answer) = (lent.buf.as_mut_ptr(), lent.buf.len(), &mut *lent.answer);
+    unsafe { (side.finish)(lent.port, tag, status, sense.as_ptr(), sense.len(), buf, buf_len, answer) }
+}
+
+#[inline(always)]
+unsafe fn close(side: &Side, lent: &mut Lent) -> u32 {
+    unsafe { (side.close)(lent.port, 0x0102_0304, lent.buf.as_mut_ptr(), lent.buf.len(), &mut *lent.answer) }
+}
+
+#[inline(always)]
+unsafe fn counters(side: &Side, lent: &mut Lent) -> u32 {
+    unsafe { (side.counters)(lent.port, &mut *lent.answer) }
+}
+
+#[inline(always)]
+unsafe fn list(side: &Side, lent: &mut Lent) -> u32 {
+    unsafe { (side.list)(lent.port, lent.records.as_mut_ptr(), lent.records.len(), &mut *lent.answer) }
 }
 
 #[inline(always)]
@@ -121,40 +170,30 @@ impl Lent {
     pub fn after_login(side: &Side) -> Self {
         let mut lent = Lent {
             port: (side.new_port)(),
-            store: Box::new([0; 16_384]),
-            buf: Box::new([0x5b; 132]),
-            records: Box::new([0x5b; 64]),
-            answer: Box::new([0x5b; 8]),
+            store: Box::new([0; STORE_BYTES]),
+            buf: Box::new([0x5b; MESSAGE_BYTES]),
+            records: Box::new([0x5b; LIST_WORDS]),
+            answer: Box::new([0x5b; ANSWER_WORDS]),
         };
-        let (settings, own) = ([BUFFERS, MAX_PIECE, AGREED, 1, 1], [7; 16]);
-        let mut msg = [0; 64];
-        msg[16..20].copy_from_slice(&AGREED.to_be_bytes());
-        msg[25] = FORMATS as u8;
-        msg[48..64].copy_from_slice(&own);
-        let (buf, answer) = (lent.buf.as_mut_ptr(), &mut *lent.answer);
-        let returned = unsafe { (side.login)(lent.port, &settings, &own, msg.as_ptr(), 64, buf, 132, answer) };
+        let returned = unsafe { login(side, &mut lent, &login_request()) };
         assert_eq!((returned, *lent.answer), (0, [52, 0, 0, 0, 0, 0, 0, 0]), "{}: login", side.name);
         lent
     }
 
-    /// W, A, H and D, as counters answers them.
-    pub fn counters(&mut self, side: &Side) -> [u64; 8] {
-        let returned = unsafe { (side.counters)(self.port, &mut *self.answer) };
-        assert_eq!(returned, 0, "{}: counters", side.name);
-        *self.answer
+    /// What counters returns and answers: W, A, H and D, or that the port is closed.
+    pub fn counters(&mut self, side: &Side) -> (u32, Answer) {
+        (unsafe { counters(side, self) }, *self.answer)
     }
 
     pub fn close(&mut self, side: &Side) -> u32 {
-        let (buf, answer) = (self.buf.as_mut_ptr(), &mut *self.answer);
-        unsafe { (side.close)(self.port, 0x0102_0304, buf, 132, answer) }
+        unsafe { close(side, self) }
     }
 
-    /// The records of the open commands, by tag.
-    pub fn list(&mut self, side: &Side) -> Vec<[u64; 4]> {
-        let returned = unsafe { (side.list)(self.port, self.records.as_mut_ptr(), 64, &mut *self.answer) };
-        assert_eq!(returned, 0, "{}: list", side.name);
+    /// What list returns, and the records of the open commands, by tag.
+    pub fn list(&mut self, side: &Side) -> (u32, Vec<[u64; RECORD_WORDS]>) {
+        let returned = unsafe { list(side, self) };
         let mut records = self.records.as_chunks().0[..self.answer[0] as usize].to_vec();
         records.sort();
-        records
+        (returned, records)
     }
 }

@@ -1,12 +1,12 @@
 //! The cases: what is timed, and the calls before and after it. Each case starts from the port that the login gave and
 //! leaves its counters as they were.
 
-use crate::batch::{Batch, Message, MAX_PIECE};
+use crate::batch::{login_request, Batch, Message, MAX_PIECE};
 
 pub struct Case {
     pub name: String,
     /// The line of cases that differ in the number of segments alone, and that number.
-    pub series: Option<(&'static str, u32)>,
+    pub series: Option<(String, u32)>,
     /// How many ports take turns; more than one where only one call of a kind can be made on a port.
     pub ports: usize,
     pub before: Vec<Batch>,
@@ -21,6 +21,9 @@ const SEGMENT: u32 = 700;
 const PIECES: u32 = SEGMENT.div_ceil(MAX_PIECE);
 
 const TURNS: usize = 8;
+
+/// How often a call that alters nothing is made in a row.
+const REPEATED: usize = 64;
 
 fn tags() -> Vec<u64> {
     (0x100..0x110).collect()
@@ -105,6 +108,10 @@ fn credit_response() -> Message {
 
 // ---- Cases ----
 
+fn login() -> Batch {
+    Batch::Login(vec![login_request()])
+}
+
 fn take_all(message: impl Fn(u64) -> Message) -> Batch {
     Batch::Take(tags().into_iter().map(message).collect())
 }
@@ -128,21 +135,33 @@ fn task_case() -> Case {
     case("take, a task that aborts 15 commands", vec![Batch::Take(commands)], timed, vec![])
 }
 
-fn plan_case() -> Case {
-    let timed = Batch::Plan { tags: tags(), required: 1300 };
-    case("plan, 16 commands open", vec![take_all(direct)], timed, vec![finish_all(tags())])
+/// A case of calls that end no command.
+fn with_commands(name: &str, timed: Batch) -> Case {
+    case(&format!("{name}, 16 commands open"), vec![take_all(direct)], timed, vec![finish_all(tags())])
 }
 
-fn step_case(which: &'static str, count: u32) -> Case {
+fn close_case() -> Case {
+    case("close, 16 commands open", vec![take_all(direct)], Batch::Close, vec![login()])
+}
+
+fn plan_case() -> Case {
+    let timed = Batch::Plan { tags: tags(), required: 1300 };
+    with_commands("plan", timed)
+}
+
+fn counted(segments: u32) -> String {
+    format!("{segments} segment{}", if segments == 1 { "" } else { "s" })
+}
+
+fn step_case(which: &str, count: u32) -> Case {
     let step = || Batch::Step { tags: tags(), direction: IN };
     let mut before = vec![take_all(|tag| all_copied(count, tag))];
     before.push(Batch::Plan { tags: tags(), required: SEGMENT * count });
     let handed = if which == "first" { 0 } else { PIECES * count - 1 };
     before.extend((0..handed).map(|_| step()));
-    let plural = if count == 1 { "" } else { "s" };
-    let name = format!("step, {which} piece of {count} segment{plural}, 16 commands open");
-    let series = Some((if which == "first" { "step, first piece" } else { "step, last piece" }, count));
-    Case { series, ..case(&name, before, step(), vec![finish_all(tags())]) }
+    let series = format!("step, {which} piece");
+    let name = format!("{series} of {}, 16 commands open", counted(count));
+    Case { series: Some((series, count)), ..case(&name, before, step(), vec![finish_all(tags())]) }
 }
 
 fn finish_case(name: &str, tag: u64, status: u8, sense: Vec<u8>) -> Case {
@@ -157,20 +176,20 @@ fn grant_case() -> Case {
 }
 
 fn look_case(name: &str, message: Message) -> Case {
-    case(&format!("look, {name}"), vec![], Batch::Look(vec![message.bytes; 64]), vec![])
+    case(&format!("look, {name}"), vec![], Batch::Look(vec![message.bytes; REPEATED]), vec![])
 }
 
-fn cut_case(which: &'static str, count: u32) -> Case {
+fn cut_case(which: &str, count: u32) -> Case {
     let required = SEGMENT * count;
     let handed = if which == "first" { 0 } else { required - (SEGMENT - MAX_PIECE) };
-    let plural = if count == 1 { "" } else { "s" };
-    let timed = Batch::Cut { lists: vec![segments(count); 64], required, handed };
-    let series = Some((if which == "first" { "cut, first piece" } else { "cut, last piece" }, count));
-    Case { series, ..case(&format!("cut, {which} piece of {count} segment{plural}"), vec![], timed, vec![]) }
+    let timed = Batch::Cut { lists: vec![segments(count); REPEATED], required, handed };
+    let series = format!("cut, {which} piece");
+    let name = format!("{series} of {}", counted(count));
+    Case { series: Some((series, count)), ..case(&name, vec![], timed, vec![]) }
 }
 
 /// A case for each number of segments, of the first and of the last piece.
-fn by_segments(of: fn(&'static str, u32) -> Case) -> impl Iterator<Item = Case> {
+fn by_segments(of: fn(&str, u32) -> Case) -> impl Iterator<Item = Case> {
     ["first", "last"].into_iter().flat_map(move |which| [1, 8, 16, 32].map(|count| of(which, count)))
 }
 
@@ -183,6 +202,7 @@ impl Case {
 
 pub fn cases() -> Vec<Case> {
     let mut cases = vec![
+        case("login, accepted", vec![Batch::Close], login(), vec![]),
         take_case("no data", no_data),
         take_case("direct", direct),
         take_case("32 copies each way, 1,364 bytes", longest),
@@ -197,6 +217,9 @@ pub fn cases() -> Vec<Case> {
         finish_case("newest", 0x10f, 0, vec![]),
         finish_case("newest, 96 bytes of sense,", 0x10f, 2, vec![0xa5; 96]),
         grant_case(),
+        close_case(),
+        with_commands("counters", Batch::Counters(REPEATED)),
+        with_commands("list", Batch::List(REPEATED)),
         look_case("no data, 48 bytes", no_data(1)),
         look_case("direct, 64 bytes", direct(1)),
         look_case("32 copies each way, 1,364 bytes", longest(1)),

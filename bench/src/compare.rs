@@ -1,14 +1,16 @@
 //! Whether both sides do the same in a case, call by call.
 
+use srp_target_sys::{Answer, MESSAGE_BYTES, RECORD_WORDS};
+
 use crate::batch::{Batch, Lent};
 use crate::cases::Case;
 use crate::sides::Side;
 
-/// What a call returned and left, and after a batch the counters and the open commands of a port.
+/// What a call returned and left, and after a batch what counters and list say of a port.
 #[derive(Debug, PartialEq)]
 enum Seen {
-    Call { returned: u32, answer: [u64; 8], buf: [u8; 132] },
-    Port { counters: [u64; 8], open: Vec<[u64; 4]> },
+    Call { returned: u32, answer: Answer, buf: [u8; MESSAGE_BYTES] },
+    Port { counters: (u32, Answer), open: (u32, Vec<[u64; RECORD_WORDS]>) },
 }
 
 fn watch(side: &Side, batch: &Batch, ports: &mut [Lent], seen: &mut Vec<Seen>) {

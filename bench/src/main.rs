@@ -52,7 +52,10 @@ fn print_times(cases: &[Case], best: &[Times]) {
 
 /// How the times grow where the segments double, for the lines of cases that are there.
 fn print_growth(cases: &[Case], best: &[Times]) {
-    let of = |series, count| cases.iter().position(|case| case.series == Some((series, count))).map(|at| best[at]);
+    let of = |series: &str, count| {
+        let wanted = Some((series.to_string(), count));
+        cases.iter().position(|case| case.series == wanted).map(|at| best[at])
+    };
     println!();
     for series in ["step, first piece", "step, last piece", "cut, first piece", "cut, last piece"] {
         let (Some(b8), Some(b16), Some(b32)) = (of(series, 8), of(series, 16), of(series, 32)) else {

@@ -6,15 +6,15 @@
 
 use std::slice;
 
+use srp_target_sys::{self as sys, Answer, Own, Store, Words, ANSWER_WORDS};
+
 use crate::port::{Direction, Login, Port, Refusal, Refused, Settings, Taken};
 use crate::stateless;
 
-type Answer = *mut [u64; 8];
-
 /// Writes the words of an answer, the others 0.
-unsafe fn put<const N: usize>(answer: Answer, words: [u64; N]) {
+unsafe fn put<const N: usize>(answer: *mut Answer, words: [u64; N]) {
     let answer = unsafe { &mut *answer };
-    *answer = [0; 8];
+    *answer = [0; ANSWER_WORDS];
     answer[..N].copy_from_slice(&words);
 }
 
@@ -23,21 +23,21 @@ fn number<T>(outcome: Result<T, Refusal>) -> u32 {
 }
 
 /// The answer of a call that writes a message, and the number that it returns.
-unsafe fn wrote(outcome: Result<usize, Refusal>, answer: Answer) -> u32 {
+unsafe fn wrote(outcome: Result<usize, Refusal>, answer: *mut Answer) -> u32 {
     unsafe { put(answer, [outcome.unwrap_or(0) as u64]) };
     number(outcome)
 }
 
 #[inline(never)]
 pub unsafe extern "C" fn plain_login(
-    port: *mut u64,
-    settings: *const [u32; 5],
-    own: *const [u8; 16],
+    port: *mut Words,
+    settings: *const sys::Settings,
+    own: *const Own,
     msg: *const u8,
     msg_len: usize,
     buf: *mut u8,
     buf_len: usize,
-    answer: Answer,
+    answer: *mut Answer,
 ) -> u32 {
     let (port, own) = unsafe { (&mut *port.cast::<Port>(), &*own) };
     let (msg, buf) = unsafe { (slice::from_raw_parts(msg, msg_len), slice::from_raw_parts_mut(buf, buf_len)) };
@@ -55,8 +55,8 @@ pub unsafe extern "C" fn plain_login(
 
 #[inline(never)]
 pub unsafe extern "C" fn plain_take(
-    port: *mut u64,
-    _store: *mut u8,
+    port: *mut Words,
+    _store: *mut Store,
     msg: *const u8,
     msg_len: usize,
     out: *const u8,
@@ -65,7 +65,7 @@ pub unsafe extern "C" fn plain_take(
     in_len: usize,
     buf: *mut u8,
     buf_len: usize,
-    answer: Answer,
+    answer: *mut Answer,
 ) -> u32 {
     let (port, msg) = unsafe { (&mut *port.cast::<Port>(), slice::from_raw_parts(msg, msg_len)) };
     let (out, inn) = unsafe { (slice::from_raw_parts(out, out_len), slice::from_raw_parts(inn, in_len)) };
@@ -82,18 +82,18 @@ pub unsafe extern "C" fn plain_take(
 }
 
 #[inline(never)]
-pub unsafe extern "C" fn plain_plan(port: *mut u64, tag: u64, required_out: u32, required_in: u32) -> u32 {
+pub unsafe extern "C" fn plain_plan(port: *mut Words, tag: u64, required_out: u32, required_in: u32) -> u32 {
     let port = unsafe { &mut *port.cast::<Port>() };
     number(port.plan(tag, required_out, required_in))
 }
 
 #[inline(never)]
 pub unsafe extern "C" fn plain_step(
-    port: *mut u64,
-    _store: *const u8,
+    port: *mut Words,
+    _store: *const Store,
     tag: u64,
     direction: u32,
-    answer: Answer,
+    answer: *mut Answer,
 ) -> u32 {
     let port = unsafe { &mut *port.cast::<Port>() };
     let (direction, operation) = if direction == 0 { (Direction::Out, 1) } else { (Direction::In, 2) };
@@ -108,14 +108,14 @@ pub unsafe extern "C" fn plain_step(
 
 #[inline(never)]
 pub unsafe extern "C" fn plain_finish(
-    port: *mut u64,
+    port: *mut Words,
     tag: u64,
     status: u8,
     sense: *const u8,
     sense_len: usize,
     buf: *mut u8,
     buf_len: usize,
-    answer: Answer,
+    answer: *mut Answer,
 ) -> u32 {
     let port = unsafe { &mut *port.cast::<Port>() };
     let (sense, buf) = unsafe { (slice::from_raw_parts(sense, sense_len), slice::from_raw_parts_mut(buf, buf_len)) };
@@ -123,31 +123,37 @@ pub unsafe extern "C" fn plain_finish(
 }
 
 #[inline(never)]
-pub unsafe extern "C" fn plain_add(port: *mut u64, k: u32) -> u32 {
+pub unsafe extern "C" fn plain_add(port: *mut Words, k: u32) -> u32 {
     let port = unsafe { &mut *port.cast::<Port>() };
     number(port.add(k))
 }
 
 #[inline(never)]
-pub unsafe extern "C" fn plain_withdraw(port: *mut u64, k: u32) -> u32 {
+pub unsafe extern "C" fn plain_withdraw(port: *mut Words, k: u32) -> u32 {
     let port = unsafe { &mut *port.cast::<Port>() };
     number(port.withdraw(k))
 }
 
 #[inline(never)]
-pub unsafe extern "C" fn plain_grant(port: *mut u64, buf: *mut u8, buf_len: usize, answer: Answer) -> u32 {
+pub unsafe extern "C" fn plain_grant(port: *mut Words, buf: *mut u8, buf_len: usize, answer: *mut Answer) -> u32 {
     let (port, buf) = unsafe { (&mut *port.cast::<Port>(), slice::from_raw_parts_mut(buf, buf_len)) };
     unsafe { wrote(port.grant(buf), answer) }
 }
 
 #[inline(never)]
-pub unsafe extern "C" fn plain_close(port: *mut u64, reason: u32, buf: *mut u8, buf_len: usize, answer: Answer) -> u32 {
+pub unsafe extern "C" fn plain_close(
+    port: *mut Words,
+    reason: u32,
+    buf: *mut u8,
+    buf_len: usize,
+    answer: *mut Answer,
+) -> u32 {
     let (port, buf) = unsafe { (&mut *port.cast::<Port>(), slice::from_raw_parts_mut(buf, buf_len)) };
     unsafe { wrote(port.close(reason, buf), answer) }
 }
 
 #[inline(never)]
-pub unsafe extern "C" fn plain_counters(port: *const u64, answer: Answer) -> u32 {
+pub unsafe extern "C" fn plain_counters(port: *const Words, answer: *mut Answer) -> u32 {
     let port = unsafe { &*port.cast::<Port>() };
     let outcome = port.counters();
     let words = match &outcome {
@@ -159,7 +165,7 @@ pub unsafe extern "C" fn plain_counters(port: *const u64, answer: Answer) -> u32
 }
 
 #[inline(never)]
-pub unsafe extern "C" fn plain_list(port: *const u64, records: *mut u64, words: usize, answer: Answer) -> u32 {
+pub unsafe extern "C" fn plain_list(port: *const Words, records: *mut u64, words: usize, answer: *mut Answer) -> u32 {
     let (port, records) = unsafe { (&*port.cast::<Port>(), slice::from_raw_parts_mut(records, words)) };
     unsafe { wrote(port.list(records), answer) }
 }

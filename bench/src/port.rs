@@ -35,7 +35,7 @@ struct Channel {
     max_piece: u32,
     crsolnt: bool,
     losolnt: bool,
-    /// Document 01's W, A and D; H is the number of open commands.
+    /// Document 01's W, A and D; H, the number of open commands, is W - A - D.
     wanted: u32,
     announced: u32,
     owed: i32,

@@ -1,15 +1,15 @@
 //! The two sides that are compared: the library and the plain Rust port, behind the same functions.
 
+use srp_target_sys::{Answer, Own, Settings, Store, Words};
+
 use crate::plain;
 use crate::port::Port;
 
-type Answer = *mut [u64; 8];
-
 pub type Login =
-    unsafe extern "C" fn(*mut u64, *const [u32; 5], *const [u8; 16], *const u8, usize, *mut u8, usize, Answer) -> u32;
+    unsafe extern "C" fn(*mut Words, *const Settings, *const Own, *const u8, usize, *mut u8, usize, *mut Answer) -> u32;
 pub type Take = unsafe extern "C" fn(
-    *mut u64,
-    *mut u8,
+    *mut Words,
+    *mut Store,
     *const u8,
     usize,
     *const u8,
@@ -18,23 +18,23 @@ pub type Take = unsafe extern "C" fn(
     usize,
     *mut u8,
     usize,
-    Answer,
+    *mut Answer,
 ) -> u32;
-pub type Plan = unsafe extern "C" fn(*mut u64, u64, u32, u32) -> u32;
-pub type Step = unsafe extern "C" fn(*mut u64, *const u8, u64, u32, Answer) -> u32;
-pub type Finish = unsafe extern "C" fn(*mut u64, u64, u8, *const u8, usize, *mut u8, usize, Answer) -> u32;
-pub type Buffers = unsafe extern "C" fn(*mut u64, u32) -> u32;
-pub type Grant = unsafe extern "C" fn(*mut u64, *mut u8, usize, Answer) -> u32;
-pub type Close = unsafe extern "C" fn(*mut u64, u32, *mut u8, usize, Answer) -> u32;
-pub type Counters = unsafe extern "C" fn(*const u64, Answer) -> u32;
-pub type List = unsafe extern "C" fn(*const u64, *mut u64, usize, Answer) -> u32;
+pub type Plan = unsafe extern "C" fn(*mut Words, u64, u32, u32) -> u32;
+pub type Step = unsafe extern "C" fn(*mut Words, *const Store, u64, u32, *mut Answer) -> u32;
+pub type Finish = unsafe extern "C" fn(*mut Words, u64, u8, *const u8, usize, *mut u8, usize, *mut Answer) -> u32;
+pub type Buffers = unsafe extern "C" fn(*mut Words, u32) -> u32;
+pub type Grant = unsafe extern "C" fn(*mut Words, *mut u8, usize, *mut Answer) -> u32;
+pub type Close = unsafe extern "C" fn(*mut Words, u32, *mut u8, usize, *mut Answer) -> u32;
+pub type Counters = unsafe extern "C" fn(*const Words, *mut Answer) -> u32;
+pub type List = unsafe extern "C" fn(*const Words, *mut u64, usize, *mut Answer) -> u32;
 pub type Look = unsafe extern "C" fn(*const u8, usize, u32, u32, *mut u8, usize) -> u32;
 pub type Cut = unsafe extern "C" fn(*const u8, usize, u32, u32, u32, *mut u8, usize) -> u32;
 
 pub struct Side {
     pub name: &'static str,
     /// Memory for a port, zero or closed, which stays until the program ends.
-    pub new_port: fn() -> *mut u64,
+    pub new_port: fn() -> *mut Words,
     pub login: Login,
     pub take: Take,
     pub plan: Plan,
@@ -54,7 +54,7 @@ pub struct Side {
 #[repr(align(64))]
 pub struct Aligned<T>(pub T);
 
-fn plain_port() -> *mut u64 {
+fn plain_port() -> *mut Words {
     let port: *mut Aligned<Port> = Box::leak(Box::new(Aligned(Port::CLOSED)));
     port.cast()
 }

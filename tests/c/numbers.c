@@ -1,4 +1,7 @@
-/* The header's numbers are document 01's and those of the C interface. */
+/*
+ * The header's numbers are document 01's and those of the C interface. SRP_PORT_WORDS is the library's own: each login
+ * of the driver asks for it.
+ */
 #include "srp_target.h"
 
 _Static_assert(SRP_REFUSED_SHORT_BUFFER == 1, "short buffer");
@@ -23,7 +26,6 @@ _Static_assert(SRP_REFUSED_WANTED == 28, "wanted");
 _Static_assert(SRP_REFUSED_UNPLANNED == 29, "unplanned");
 _Static_assert(SRP_REFUSED_PLANNED == 30, "planned");
 
-_Static_assert(SRP_PORT_WORDS == 400, "words of a port");
 _Static_assert(SRP_STORE_BYTES == 16384, "bytes of a store");
 _Static_assert(SRP_ANSWER_WORDS == 8, "words of an answer");
 _Static_assert(SRP_ANSWER_BYTES == 32, "bytes of an answer");

@@ -53,8 +53,9 @@ impl Port {
 
     pub fn counters(&self) -> Result<Counters, Refusal> {
         let channel = self.channel.as_ref().ok_or(Refusal::Closed)?;
-        let held = channel.commands.iter().flatten().count() as u32;
-        Ok(Counters { wanted: channel.wanted, announced: channel.announced, held, owed: channel.owed })
+        let Channel { wanted, announced, owed, .. } = *channel;
+        let held = (wanted as i32 - announced as i32 - owed) as u32; // A + H + D = W
+        Ok(Counters { wanted, announced, held, owed })
     }
 }
 

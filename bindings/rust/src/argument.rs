@@ -1,5 +1,7 @@
 //! What the calls on a port are given.
 
+use srp_target_sys::{DIRECTION_IN, DIRECTION_OUT, SETTINGS};
+
 /// Settings of a login.
 #[derive(Clone, Copy, Debug, PartialEq, Eq, Hash)]
 pub struct Settings {
@@ -17,7 +19,7 @@ pub struct Settings {
 
 impl Settings {
     /// In the order of the C interface.
-    pub(crate) fn words(&self) -> [u32; 5] {
+    pub(crate) fn words(&self) -> [u32; SETTINGS] {
         [self.buffers, self.maximum, self.longest, self.indirect.into(), self.solicited.into()]
     }
 }
@@ -49,8 +51,8 @@ impl Direction {
     /// In the C interface.
     pub(crate) fn number(self) -> u32 {
         match self {
-            Direction::Out => 0,
-            Direction::In => 1,
+            Direction::Out => DIRECTION_OUT,
+            Direction::In => DIRECTION_IN,
         }
     }
 }

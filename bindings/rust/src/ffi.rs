@@ -1,4 +1,4 @@
-//! The calls of libexports.a, declared as include/srp_target.h has them, and the only unsafe code of the crate.
+//! The calls of libexports.a on slices and references, and the only unsafe code of the crate.
 //!
 //! The library asks its caller for memory and for nothing else: every value and every content has its outcome, no
 //! pointer is kept past the call, and there is no state but what is lent. Each function below is safe, since Rust's
@@ -9,87 +9,35 @@
 //!   meanwhile; what is only read is lent by `&`.
 //! - Content: every pattern of bits is a value of the types lent, so whatever the library writes may be read.
 //!
-//! Trusted: that the library linked is the one declared here. [`agrees`] asks it for the size of a port.
+//! Trusted: that the library linked is the one that srp_target_sys declares. [`agrees`] asks it for the size of a port.
+
+use srp_target_sys::*;
 
 use crate::answer::Record;
 
-/// Words of a port, and bytes of its store.
-pub const WORDS: usize = 400;
-pub const STORE: usize = 16_384;
-
-pub type Words = [u64; WORDS];
-pub type Store = [u8; STORE];
-
 /// The answer of look and of the cut.
-pub type Bytes = [u8; 32];
+pub type Bytes = [u8; ANSWER_BYTES];
 
 /// What a call on a port came to: the refusal's number, 0 for none, and the words of its answer.
 pub struct Outcome {
     pub number: u32,
-    pub words: [u64; 8],
-}
-
-extern "C" {
-    fn srp_target_words() -> u64;
-    fn srp_target_login(
-        port: &mut Words,
-        settings: &[u32; 5],
-        own: &[u8; 16],
-        msg: *const u8,
-        msg_len: usize,
-        buf: *mut u8,
-        buf_len: usize,
-        answer: &mut [u64; 8],
-    ) -> u32;
-    fn srp_target_take(
-        port: &mut Words,
-        store: &mut Store,
-        msg: *const u8,
-        msg_len: usize,
-        data_out: *const u8,
-        out_len: usize,
-        data_in: *const u8,
-        in_len: usize,
-        buf: *mut u8,
-        buf_len: usize,
-        answer: &mut [u64; 8],
-    ) -> u32;
-    fn srp_target_plan(port: &mut Words, tag: u64, r_out: u32, r_in: u32) -> u32;
-    fn srp_target_step(port: &mut Words, store: &Store, tag: u64, direction: u32, answer: &mut [u64; 8]) -> u32;
-    fn srp_target_finish(
-        port: &mut Words,
-        tag: u64,
-        status: u8,
-        sense: *const u8,
-        sense_len: usize,
-        buf: *mut u8,
-        buf_len: usize,
-        answer: &mut [u64; 8],
-    ) -> u32;
-    fn srp_target_add(port: &mut Words, k: u32) -> u32;
-    fn srp_target_withdraw(port: &mut Words, k: u32) -> u32;
-    fn srp_target_grant(port: &mut Words, buf: *mut u8, buf_len: usize, answer: &mut [u64; 8]) -> u32;
-    fn srp_target_close(port: &mut Words, reason: u32, buf: *mut u8, buf_len: usize, answer: &mut [u64; 8]) -> u32;
-    fn srp_target_counters(port: &Words, answer: &mut [u64; 8]) -> u32;
-    fn srp_target_list(port: &Words, records: *mut u64, words: usize, answer: &mut [u64; 8]) -> u32;
-    fn srp_look(msg: *const u8, msg_len: usize, agreed: u32, formats: u32, buf: *mut u8, buf_len: usize) -> u32;
-    fn srp_cut(list: *const u8, list_len: usize, m: u32, r: u32, handed: u32, buf: *mut u8, buf_len: usize) -> u32;
+    pub words: Answer,
 }
 
 /// A call with an answer.
-fn answered(call: impl FnOnce(&mut [u64; 8]) -> u32) -> Outcome {
-    let mut words = [0; 8];
+fn answered(call: impl FnOnce(&mut Answer) -> u32) -> Outcome {
+    let mut words = [0; ANSWER_WORDS];
     let number = call(&mut words);
     Outcome { number, words }
 }
 
-/// Whether the library linked has ports of [`WORDS`] words.
+/// Whether the library linked has ports of [`PORT_WORDS`] words.
 pub fn agrees() -> bool {
     // SAFETY: it has no argument.
-    unsafe { srp_target_words() == WORDS as u64 }
+    unsafe { srp_target_words() == PORT_WORDS as u64 }
 }
 
-pub fn login(port: &mut Words, settings: &[u32; 5], own: &[u8; 16], msg: &[u8], buf: &mut [u8]) -> Outcome {
+pub fn login(port: &mut Words, settings: &Settings, own: &Own, msg: &[u8], buf: &mut [u8]) -> Outcome {
     let (to, len) = (buf.as_mut_ptr(), buf.len());
     // SAFETY: lengths, aliasing and content as said at the top, here and below.
     answered(|answer| unsafe { srp_target_login(port, settings, own, msg.as_ptr(), msg.len(), to, len, answer) })
@@ -153,14 +101,12 @@ pub fn counters(port: &Words) -> Outcome {
     answered(|answer| unsafe { srp_target_counters(port, answer) })
 }
 
-/// Words of a record.
-const RECORD: usize = 4;
-
-const _: () = assert!(size_of::<Record>() == size_of::<[u64; RECORD]>() && align_of::<Record>() == align_of::<u64>());
+const _: () = assert!(size_of::<Record>() == 8 * RECORD_WORDS && align_of::<Record>() == align_of::<u64>());
 
 pub fn list(port: &Words, records: &mut [Record]) -> Outcome {
-    // SAFETY: as said at the top. A Record is laid out as in C, four u64, so the slice is RECORD times as many words.
-    answered(|answer| unsafe { srp_target_list(port, records.as_mut_ptr().cast(), RECORD * records.len(), answer) })
+    let (to, words) = (records.as_mut_ptr().cast(), RECORD_WORDS * records.len());
+    // SAFETY: as said at the top. A Record is laid out as in C, RECORD_WORDS of u64, so the slice is as many words.
+    answered(|answer| unsafe { srp_target_list(port, to, words, answer) })
 }
 
 pub fn look(msg: &[u8], agreed: u32, formats: u32, buf: &mut Bytes) -> u32 {

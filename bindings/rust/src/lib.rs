@@ -57,9 +57,9 @@
 //!
 //! # Linking
 //!
-//! The build script looks for libexports.a in `SRP_LIB_DIR`, by default target/staticlib of the project, where
-//! `rt staticlib exports` writes it. The library is for x86-64; of the C library it needs memcpy, memmove, memset and
-//! memcmp at most.
+//! Crate srp_target_sys, beside this one and its only dependency, declares the C interface. Its build script looks for
+//! libexports.a in `SRP_LIB_DIR`, by default target/staticlib of the project, where `rt staticlib exports` writes it.
+//! The library is for x86-64; of the C library it needs memcpy, memmove, memset and memcmp at most.
 
 #![no_std]
 #![deny(unsafe_code)]
@@ -85,10 +85,10 @@ pub use refusal::{LoginRefusal, NoRefusal, Refusal, TakeRefusal};
 pub use stateless::{cut, look, Fetch, Fetches, Piece};
 
 /// The longest message that a port writes, and the shortest buffer that may be lent for one.
-pub const MESSAGE_BYTES: usize = 132;
+pub const MESSAGE_BYTES: usize = srp_target_sys::MESSAGE_BYTES;
 
 /// The longest sense that a response carries.
-pub const SENSE_BYTES: usize = 96;
+pub const SENSE_BYTES: usize = srp_target_sys::SENSE_BYTES;
 
 /// The most commands that are open at once, and the shortest list that may be lent for a listing.
-pub const MOST_BUFFERS: usize = 16;
+pub const MOST_BUFFERS: usize = srp_target_sys::MOST_BUFFERS as usize;

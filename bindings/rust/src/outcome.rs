@@ -1,6 +1,8 @@
 //! The words of a call's outcome, read as answers. By the library's contract each is in its range; a refusal or a kind
 //! that is not declared panics.
 
+use srp_target_sys::{KIND_COMMAND, KIND_CREDIT_RESPONSE, KIND_LOGOUT, KIND_TASK, RDMA_READ, RDMA_WRITE};
+
 use crate::answer::{Kind, Operation, Taken};
 use crate::ffi::Outcome;
 use crate::message::Message;
@@ -23,18 +25,18 @@ pub fn written<'b>(buf: &'b mut [u8], outcome: &Outcome) -> Message<'b> {
 pub fn taken<'m, 'b>(outcome: &Outcome, msg: &'m [u8], message: Message<'b>) -> Taken<'m, 'b> {
     let [_, kind, tag, lun, place, length, ..] = outcome.words;
     match kind {
-        1 => Taken::Command { tag, lun, cdb: &msg[place as usize..][..length as usize] },
-        2 => Taken::Task { tag, lun, message },
-        3 => Taken::Credit,
-        4 => Taken::Logout,
+        KIND_COMMAND => Taken::Command { tag, lun, cdb: &msg[place as usize..][..length as usize] },
+        KIND_TASK => Taken::Task { tag, lun, message },
+        KIND_CREDIT_RESPONSE => Taken::Credit,
+        KIND_LOGOUT => Taken::Logout,
         _ => unreachable!("libexports.a took a message of kind {kind}"),
     }
 }
 
 fn kind_of(number: u64) -> Kind {
     match number {
-        1 => Kind::Read,
-        2 => Kind::Write,
+        RDMA_READ => Kind::Read,
+        RDMA_WRITE => Kind::Write,
         _ => unreachable!("libexports.a handed out an operation of kind {number}"),
     }
 }

@@ -2,15 +2,17 @@
 
 use core::fmt;
 
+use srp_target_sys::{Store, Words, PORT_WORDS, STORE_BYTES};
+
 use crate::answer::{Counters, Operation, Record, Taken};
 use crate::argument::{Direction, Settings, Tables};
-use crate::ffi::{self, Outcome, Store, Words};
+use crate::ffi::{self, Outcome};
 use crate::message::Message;
 use crate::outcome::{checked, operation, taken, written};
 use crate::pieces::Pieces;
 use crate::refusal::{LoginRefusal, Refusal, TakeRefusal};
 
-/// One channel of an SRP target port: 400 words of state and 16,384 bytes for the descriptors of open commands.
+/// One channel of an SRP target port: the words of its state, and a store for the descriptors of open commands.
 ///
 /// Both are part of the value, so that no allocator is needed: firmware has its ports in a `static` or a pool, made by
 /// [`Port::closed`] and logged in by [`Port::renew`] where they stand; a program with a heap may box them. A port holds
@@ -30,7 +32,7 @@ pub struct Port {
 impl Port {
     /// A closed port, as before any login. [`Port::renew`] logs it in.
     pub const fn closed() -> Port {
-        Port { words: [0; ffi::WORDS], store: [0; ffi::STORE] }
+        Port { words: [0; PORT_WORDS], store: [0; STORE_BYTES] }
     }
 
     /// Makes a port from the first message of a channel, an SRP_LOGIN_REQ. `own` is the target port's identifier.

@@ -3,6 +3,8 @@
 use core::error::Error;
 use core::fmt;
 
+use srp_target_sys as sys;
+
 use crate::message::Message;
 
 /// Why a call is refused. The numbers are document 01's; `u32::from` and `Refusal::try_from` convert.
@@ -10,47 +12,47 @@ use crate::message::Message;
 #[repr(u32)]
 pub enum Refusal {
     /// 1: lent buffer under 132 bytes.
-    ShortBuffer = 1,
+    ShortBuffer = sys::REFUSED_SHORT_BUFFER,
     /// 2: setting out of range.
-    Setting = 2,
+    Setting = sys::REFUSED_SETTING,
     /// 3: message under 16 bytes, over the agreed length, or not of its type's length.
-    Length = 3,
+    Length = sys::REFUSED_LENGTH,
     /// 4: message of another type.
-    OtherType = 4,
+    OtherType = sys::REFUSED_OTHER_TYPE,
     /// 5: out format not agreed.
-    OutFormat = 5,
+    OutFormat = sys::REFUSED_OUT_FORMAT,
     /// 6: in format not agreed.
-    InFormat = 6,
+    InFormat = sys::REFUSED_IN_FORMAT,
     /// 7: out count above 32, or more copies than the table's length holds.
-    OutCount = 7,
+    OutCount = sys::REFUSED_OUT_COUNT,
     /// 8: in count, likewise.
-    InCount = 8,
+    InCount = sys::REFUSED_IN_COUNT,
     /// 9: lent table not of the fetched length.
-    TableLength = 9,
+    TableLength = sys::REFUSED_TABLE_LENGTH,
     /// 10: bad fields.
-    Fields = 10,
+    Fields = sys::REFUSED_FIELDS,
     /// 11: argument bad.
-    Argument = 11,
+    Argument = sys::REFUSED_ARGUMENT,
     /// 21: channel closed.
-    Closed = 21,
+    Closed = sys::REFUSED_CLOSED,
     /// 22: request with A = 0.
-    NoCredit = 22,
+    NoCredit = sys::REFUSED_NO_CREDIT,
     /// 23: request with the tag of an open command.
-    TagOpen = 23,
+    TagOpen = sys::REFUSED_TAG_OPEN,
     /// 24: no open command has the tag.
-    TagNotOpen = 24,
+    TagNotOpen = sys::REFUSED_TAG_NOT_OPEN,
     /// 25: SRP_CRED_RSP unexpected, or with another tag.
-    CreditResponse = 25,
+    CreditResponse = sys::REFUSED_CREDIT_RESPONSE,
     /// 26: the last SRP_CRED_REQ is unanswered.
-    Unanswered = 26,
+    Unanswered = sys::REFUSED_UNANSWERED,
     /// 27: D not above 0.
-    NotOwed = 27,
+    NotOwed = sys::REFUSED_NOT_OWED,
     /// 28: W would leave 1 to 16.
-    Wanted = 28,
+    Wanted = sys::REFUSED_WANTED,
     /// 29: step before plan.
-    Unplanned = 29,
+    Unplanned = sys::REFUSED_UNPLANNED,
     /// 30: planned already.
-    Planned = 30,
+    Planned = sys::REFUSED_PLANNED,
 }
 
 impl Refusal {

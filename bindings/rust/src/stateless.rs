@@ -1,5 +1,7 @@
 //! Look and the cut, which need no port.
 
+use srp_target_sys::ANSWER_BYTES;
+
 use crate::ffi::{self, Bytes};
 use crate::outcome::checked;
 use crate::refusal::Refusal;
@@ -45,7 +47,7 @@ pub struct Piece {
 /// over the agreed length; 4 type not 02h; 3 under 48 bytes; 5, 6 a format not agreed; 3 not its length; 7, 8 a count.
 /// A refused command is taken all the same: [`Port::take`](crate::Port::take) hangs up with 3 to 8.
 pub fn look(msg: &[u8], agreed: u32, formats: u32) -> Result<Fetches, Refusal> {
-    let mut answer = [0; 32];
+    let mut answer = [0; ANSWER_BYTES];
     checked(ffi::look(msg, agreed, formats, &mut answer))?;
     Ok(Fetches { data_out: fetch_at(&answer, 0), data_in: fetch_at(&answer, 16) })
 }
@@ -66,7 +68,7 @@ pub fn look(msg: &[u8], agreed: u32, formats: u32) -> Result<Fetches, Refusal> {
 /// # Ok::<(), srp_target::Refusal>(())
 /// ```
 pub fn cut(list: &[u8], m: u32, r: u32, handed: u32) -> Result<Option<Piece>, Refusal> {
-    let mut answer = [0; 32];
+    let mut answer = [0; ANSWER_BYTES];
     checked(ffi::cut(list, m, r, handed, &mut answer))?;
     Ok(fetch_at(&answer, 0).map(|Fetch { address, handle, length }| {
         let offset = number_at(&answer, 16);

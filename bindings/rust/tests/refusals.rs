@@ -1,6 +1,7 @@
 //! Refusals and their numbers, as values and as errors.
 
 use srp_target::{LoginRefusal, Message, NoRefusal, Port, Refusal, TakeRefusal};
+use srp_target_sys::{PORT_WORDS, STORE_BYTES};
 
 const NUMBERED: [(u32, Refusal); 21] = [
     (1, Refusal::ShortBuffer),
@@ -60,10 +61,10 @@ fn refusals_are_errors_with_their_number() {
     );
 }
 
-/// A port is its 400 words and 16,384 bytes, and may go to another thread.
+/// A port is its words and its store, and may go to another thread.
 #[test]
 fn a_port_is_its_memory() {
     fn may_move<T: Send + Sync + 'static>() {}
     may_move::<Port>();
-    assert_eq!(size_of::<Port>(), 8 * 400 + 16_384);
+    assert_eq!(size_of::<Port>(), 8 * PORT_WORDS + STORE_BYTES);
 }

@@ -16,6 +16,24 @@ extern "C" {
 const NO_ACCESS: i32 = 0;
 const READ_WRITE: i32 = 3;
 const PRIVATE_ANONYMOUS: i32 = 0x22;
+const NO_RESERVE: i32 = 0x4000;
+
+/// Fresh memory, zeros where it may be read.
+fn mapped(length: usize, protection: i32, flags: i32) -> *mut u8 {
+    // SAFETY: a mapping of its own, which overlaps no other.
+    let at = unsafe { mmap(ptr::null_mut(), length, protection, PRIVATE_ANONYMOUS | flags, -1, 0) };
+    assert_ne!(at as isize, -1, "mmap");
+    at
+}
+
+/// Memory that starts with these values, and of which only what is touched costs anything. It stays until the end.
+pub fn reserved<T: Number>(count: usize, start: &[T]) -> &'static mut [T] {
+    let at = mapped(count * mem::size_of::<T>(), READ_WRITE, NO_RESERVE);
+    // SAFETY: as long, and any bytes are numbers.
+    let memory = unsafe { slice::from_raw_parts_mut(at.cast::<T>(), count) };
+    memory[..start.len()].copy_from_slice(start);
+    memory
+}
 
 #[derive(Clone, Copy, Debug, PartialEq, Eq)]
 pub enum Side {
@@ -33,15 +51,14 @@ pub struct GuardedMemory {
 }
 
 impl GuardedMemory {
-    /// Of so many pages.
-    pub fn new(pages: usize) -> Self {
-        let bytes = pages * PAGE;
+    /// Of so many pages as hold these bytes.
+    pub fn holding(bytes: usize) -> Self {
+        let bytes = bytes.next_multiple_of(PAGE);
         // Never 0, and unlike its neighbours.
         let guard: Vec<u8> = (0..bytes).map(|i| (i % 251) as u8 + 1).collect();
-        // SAFETY: a fresh mapping, of which all but the first and the last page is opened.
+        let mapping = mapped(bytes + 2 * PAGE, NO_ACCESS, 0);
+        // SAFETY: of the mapping all but the first and the last page is opened.
         unsafe {
-            let mapping = mmap(ptr::null_mut(), bytes + 2 * PAGE, NO_ACCESS, PRIVATE_ANONYMOUS, -1, 0);
-            assert_ne!(mapping as isize, -1, "mmap");
             let memory = mapping.add(PAGE);
             assert_eq!(mprotect(memory, bytes, READ_WRITE), 0, "mprotect");
             slice::from_raw_parts_mut(memory, bytes).copy_from_slice(&guard);
@@ -66,7 +83,7 @@ impl GuardedMemory {
 impl Default for GuardedMemory {
     /// More than any message that is tried.
     fn default() -> Self {
-        GuardedMemory::new(3)
+        GuardedMemory::holding(3 * PAGE)
     }
 }
 

@@ -1,61 +1,13 @@
-//! The functions of include/srp_target.h, on slices.
+//! The functions of srp_target_sys, on slices.
 
 use std::ptr;
 
-/// SRP_PORT_WORDS.
-pub const PORT_WORDS: usize = 400;
-/// SRP_STORE_BYTES.
-pub const STORE_BYTES: usize = 16_384;
+use srp_target_sys::*;
 
-extern "C" {
-    fn srp_look(msg: *const u8, msg_len: usize, agreed: u32, formats: u32, buf: *mut u8, buf_len: usize) -> u32;
-    fn srp_cut(list: *const u8, list_len: usize, m: u32, r: u32, handed: u32, buf: *mut u8, buf_len: usize) -> u32;
-    fn srp_target_words() -> u64;
-    fn srp_target_login(
-        port: *mut u64,
-        settings: *const u32,
-        own: *const u8,
-        msg: *const u8,
-        msg_len: usize,
-        buf: *mut u8,
-        buf_len: usize,
-        answer: *mut u64,
-    ) -> u32;
-    fn srp_target_take(
-        port: *mut u64,
-        store: *mut u8,
-        msg: *const u8,
-        msg_len: usize,
-        out: *const u8,
-        out_len: usize,
-        inn: *const u8,
-        in_len: usize,
-        buf: *mut u8,
-        buf_len: usize,
-        answer: *mut u64,
-    ) -> u32;
-    fn srp_target_plan(port: *mut u64, tag: u64, r_out: u32, r_in: u32) -> u32;
-    fn srp_target_step(port: *mut u64, store: *const u8, tag: u64, direction: u32, answer: *mut u64) -> u32;
-    fn srp_target_finish(
-        port: *mut u64,
-        tag: u64,
-        status: u8,
-        sense: *const u8,
-        sense_len: usize,
-        buf: *mut u8,
-        buf_len: usize,
-        answer: *mut u64,
-    ) -> u32;
-    fn srp_target_add(port: *mut u64, k: u32) -> u32;
-    fn srp_target_withdraw(port: *mut u64, k: u32) -> u32;
-    fn srp_target_grant(port: *mut u64, buf: *mut u8, buf_len: usize, answer: *mut u64) -> u32;
-    fn srp_target_close(port: *mut u64, reason: u32, buf: *mut u8, buf_len: usize, answer: *mut u64) -> u32;
-    fn srp_target_counters(port: *const u64, answer: *mut u64) -> u32;
-    fn srp_target_list(port: *const u64, records: *mut u64, words: usize, answer: *mut u64) -> u32;
-}
+pub use srp_target_sys::{PORT_WORDS, STORE_BYTES};
 
-// SAFETY, of every call below: each pointer leads to as many bytes or words as its length says, or as the function
-// needs, which is asserted; and a `&mut` overlaps nothing.
+// SAFETY, of every call below: each pointer leads to as many bytes or words as its length says, or to an array of the
+// size that the function needs; and a `&mut` overlaps nothing.
 
 /// "A pointer may be NULL only where its length is 0", and is here.
 fn pointer<T>(values: &[T]) -> *const T {
@@ -89,81 +41,65 @@ pub fn port_words() -> u64 {
 /// What a call on a port is lent beside its own arguments: the port's words, its store (take and step), and the answer
 /// words.
 pub struct Port<'a> {
-    words: &'a mut [u64],
+    words: &'a mut Words,
     store: &'a mut [u8],
-    answer: &'a mut [u64],
+    answer: &'a mut Answer,
 }
 
 impl<'a> Port<'a> {
     pub fn new(words: &'a mut [u64], store: &'a mut [u8], answer: &'a mut [u64]) -> Self {
-        assert_eq!((words.len(), answer.len()), (PORT_WORDS, 8));
+        let (words, answer) = (words.try_into().expect("a port's words"), answer.try_into().expect("eight words"));
         Port { words, store, answer }
     }
 
-    pub fn login(self, settings: &[u32; 5], own: &[u8; 16], msg: &[u8], buf: &mut [u8]) -> u32 {
-        let (port, answer) = (self.words.as_mut_ptr(), self.answer.as_mut_ptr());
-        let (settings, own) = (settings.as_ptr(), own.as_ptr());
-        unsafe { srp_target_login(port, settings, own, pointer(msg), msg.len(), pointer_mut(buf), buf.len(), answer) }
+    pub fn login(self, settings: &Settings, own: &Own, msg: &[u8], buf: &mut [u8]) -> u32 {
+        let Port { words, answer, .. } = self;
+        unsafe { srp_target_login(words, settings, own, pointer(msg), msg.len(), pointer_mut(buf), buf.len(), answer) }
     }
 
     pub fn take(self, msg: &[u8], [out, inn]: [&[u8]; 2], buf: &mut [u8]) -> u32 {
-        assert_eq!(self.store.len(), STORE_BYTES);
-        unsafe {
-            srp_target_take(
-                self.words.as_mut_ptr(),
-                self.store.as_mut_ptr(),
-                pointer(msg),
-                msg.len(),
-                pointer(out),
-                out.len(),
-                pointer(inn),
-                inn.len(),
-                pointer_mut(buf),
-                buf.len(),
-                self.answer.as_mut_ptr(),
-            )
-        }
+        let Port { words, store, answer } = self;
+        let store: &mut Store = store.try_into().expect("a store's bytes");
+        let (msg, msg_len, buf, buf_len) = (pointer(msg), msg.len(), pointer_mut(buf), buf.len());
+        let (out, out_len, inn, in_len) = (pointer(out), out.len(), pointer(inn), inn.len());
+        unsafe { srp_target_take(words, store, msg, msg_len, out, out_len, inn, in_len, buf, buf_len, answer) }
     }
 
     pub fn plan(self, tag: u64, r_out: u32, r_in: u32) -> u32 {
-        unsafe { srp_target_plan(self.words.as_mut_ptr(), tag, r_out, r_in) }
+        unsafe { srp_target_plan(self.words, tag, r_out, r_in) }
     }
 
     pub fn step(self, tag: u64, direction: u32) -> u32 {
-        assert_eq!(self.store.len(), STORE_BYTES);
-        let (port, store) = (self.words.as_mut_ptr(), self.store.as_ptr());
-        unsafe { srp_target_step(port, store, tag, direction, self.answer.as_mut_ptr()) }
+        let store: &Store = (&*self.store).try_into().expect("a store's bytes");
+        unsafe { srp_target_step(self.words, store, tag, direction, self.answer) }
     }
 
     pub fn finish(self, tag: u64, status: u8, sense: &[u8], buf: &mut [u8]) -> u32 {
-        let (port, answer) = (self.words.as_mut_ptr(), self.answer.as_mut_ptr());
         let (buf, buf_len) = (pointer_mut(buf), buf.len());
-        unsafe { srp_target_finish(port, tag, status, pointer(sense), sense.len(), buf, buf_len, answer) }
+        unsafe { srp_target_finish(self.words, tag, status, pointer(sense), sense.len(), buf, buf_len, self.answer) }
     }
 
     pub fn add(self, k: u32) -> u32 {
-        unsafe { srp_target_add(self.words.as_mut_ptr(), k) }
+        unsafe { srp_target_add(self.words, k) }
     }
 
     pub fn withdraw(self, k: u32) -> u32 {
-        unsafe { srp_target_withdraw(self.words.as_mut_ptr(), k) }
+        unsafe { srp_target_withdraw(self.words, k) }
     }
 
     pub fn grant(self, buf: &mut [u8]) -> u32 {
-        unsafe { srp_target_grant(self.words.as_mut_ptr(), pointer_mut(buf), buf.len(), self.answer.as_mut_ptr()) }
+        unsafe { srp_target_grant(self.words, pointer_mut(buf), buf.len(), self.answer) }
     }
 
     pub fn close(self, reason: u32, buf: &mut [u8]) -> u32 {
-        let (port, answer) = (self.words.as_mut_ptr(), self.answer.as_mut_ptr());
-        unsafe { srp_target_close(port, reason, pointer_mut(buf), buf.len(), answer) }
+        unsafe { srp_target_close(self.words, reason, pointer_mut(buf), buf.len(), self.answer) }
     }
 
     pub fn counters(self) -> u32 {
-        unsafe { srp_target_counters(self.words.as_ptr(), self.answer.as_mut_ptr()) }
+        unsafe { srp_target_counters(self.words, self.answer) }
     }
 
     pub fn list(self, records: &mut [u64]) -> u32 {
-        let answer = self.answer.as_mut_ptr();
-        unsafe { srp_target_list(self.words.as_ptr(), pointer_mut(records), records.len(), answer) }
+        unsafe { srp_target_list(self.words, pointer_mut(records), records.len(), self.answer) }
     }
 }

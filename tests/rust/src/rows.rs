@@ -3,64 +3,13 @@
 use std::fs;
 use std::path::Path;
 
+use crate::calls::{Cut, Look};
 use crate::tally::Tally;
 
 /// What a row says the call gives: the 32 bytes, or the refusal.
-pub enum Answer {
+enum Answer {
     Ok(Vec<u8>),
     Refused(u32),
-}
-
-pub struct LookRow {
-    pub agreed: u32,
-    pub formats: u32,
-    pub msg: Vec<u8>,
-    pub lent: usize,
-    pub fill: u8,
-    pub answer: Answer,
-}
-
-pub struct CutRow {
-    pub list: Vec<u8>,
-    pub m: u32,
-    pub r: u32,
-    pub handed: u32,
-    pub lent: usize,
-    pub fill: u8,
-    pub answer: Answer,
-}
-
-impl LookRow {
-    pub fn read(words: &[&str]) -> Self {
-        let ["look", agreed, formats, msg, lent, fill, "=", answer @ ..] = words else {
-            panic!("not a look row: {words:?}");
-        };
-        LookRow {
-            agreed: number(agreed),
-            formats: number(formats),
-            msg: bytes(msg),
-            lent: number(lent) as usize,
-            fill: number(fill) as u8,
-            answer: Answer::read(answer),
-        }
-    }
-}
-
-impl CutRow {
-    pub fn read(words: &[&str]) -> Self {
-        let ["cut", list, m, r, handed, lent, fill, "=", answer @ ..] = words else {
-            panic!("not a cut row: {words:?}");
-        };
-        CutRow {
-            list: bytes(list),
-            m: number(m),
-            r: number(r),
-            handed: number(handed),
-            lent: number(lent) as usize,
-            fill: number(fill) as u8,
-            answer: Answer::read(answer),
-        }
-    }
 }
 
 impl Answer {
@@ -73,7 +22,7 @@ impl Answer {
     }
 
     /// Whether a call gave this answer; every byte that the answer does not give must be `fill`.
-    pub fn compare(&self, returned: u32, buf: &[u8], fill: u8) -> Result<(), String> {
+    fn compare(&self, returned: u32, buf: &[u8], fill: u8) -> Result<(), String> {
         let mut expected = vec![fill; buf.len()];
         let number = match self {
             Answer::Ok(answer) => {
@@ -88,6 +37,37 @@ impl Answer {
             Err(format!("expected {number}, {expected:02x?}\n     got {returned}, {buf:02x?}"))
         }
     }
+}
+
+/// Runs the rows of look.
+pub fn run_look(through: &str, look: impl Fn(&Look, &mut [u8]) -> u32) {
+    run(&[("look", 292)], through, |words| {
+        let ["look", agreed, formats, msg, lent, fill, "=", answer @ ..] = words else {
+            panic!("not a look row: {words:?}");
+        };
+        let (agreed, formats, lent) = (number(agreed), number(formats), number(lent) as usize);
+        let call = Look { msg: bytes(msg), agreed, formats, lent };
+        judge(lent, fill, answer, |buf| look(&call, buf))
+    });
+}
+
+/// Runs the rows of the cut.
+pub fn run_cut(through: &str, cut: impl Fn(&Cut, &mut [u8]) -> u32) {
+    run(&[("cut", 267)], through, |words| {
+        let ["cut", list, m, r, handed, lent, fill, "=", answer @ ..] = words else {
+            panic!("not a cut row: {words:?}");
+        };
+        let (m, r, handed, lent) = (number(m), number(r), number(handed), number(lent) as usize);
+        let call = Cut { list: bytes(list), m, r, handed, lent };
+        judge(lent, fill, answer, |buf| cut(&call, buf))
+    });
+}
+
+fn judge(lent: usize, fill: &str, answer: &[&str], call: impl FnOnce(&mut [u8]) -> u32) -> Result<(), String> {
+    let fill = number(fill) as u8;
+    let mut buf = vec![fill; lent];
+    let returned = call(&mut buf);
+    Answer::read(answer).compare(returned, &buf, fill)
 }
 
 /// Runs the rows of these kinds, in the file's order, and panics with the first that failed, or unless there are so

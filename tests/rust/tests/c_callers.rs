@@ -1,8 +1,7 @@
 //! What a caller in C may hand over and one in Rust does not: lengths above 2^32, and registers whose upper half holds
 //! something else than zeros.
 
-use std::{mem, ptr, slice};
-
+use srp_tests::guarded::reserved;
 use srp_tests::interface::{self, Port, PORT_WORDS, STORE_BYTES};
 use srp_tests::port::plain::{self, OWN};
 use srp_tests::port::Call;
@@ -10,26 +9,6 @@ use srp_tests::random::Random;
 
 /// A length whose lower 32 bits are 0.
 const LONG: usize = 1 << 32;
-
-extern "C" {
-    fn mmap(at: *mut u8, length: usize, protection: i32, flags: i32, file: i32, offset: i64) -> *mut u8;
-}
-
-/// Memory of which only what is touched costs anything: PROT_READ and PROT_WRITE, MAP_PRIVATE, MAP_ANONYMOUS and
-/// MAP_NORESERVE of Linux.
-fn reserved<T>(count: usize, start: &[T]) -> &'static mut [T]
-where
-    T: Copy,
-{
-    // SAFETY: a fresh mapping, zeros throughout, and numbers are made of any bytes.
-    let memory = unsafe {
-        let at = mmap(ptr::null_mut(), count * mem::size_of::<T>(), 3, 0x4022, -1, 0);
-        assert_ne!(at as isize, -1, "mmap");
-        slice::from_raw_parts_mut(at.cast::<T>(), count)
-    };
-    memory[..start.len()].copy_from_slice(start);
-    memory
-}
 
 struct Lent {
     words: Vec<u64>,

@@ -64,27 +64,25 @@ const EVENTS: [&str; 46] = [
     "withdraw: refused 28",
 ];
 
+/// Runs the machine until so many events have come; each of EVENTS and of STATES must come up, and these too.
+fn run(name: &str, seed: u64, fair: bool, count: u64, events: &[&str], states: &[&str]) {
+    let mut machine = Machine::new(Library::new(seed), seed);
+    while machine.events.total() < count {
+        machine.list(fair, 1_000);
+    }
+    machine.events.print_as(name, "events");
+    machine.states.print_as(name, "states");
+    machine.events.assert_each(12, &[&EVENTS[..], events].concat());
+    machine.states.assert_each(12, &[&STATES[..], states].concat());
+}
+
 #[test]
 fn a_fair_initiator() {
-    let mut machine = Machine::new(Library::new(11), 11);
-    while machine.events.total() < 220_000 {
-        machine.list(true, 1_000);
-    }
-    machine.events.print_as("machine, a fair initiator", "events");
-    machine.states.print_as("machine, a fair initiator", "states");
-    machine.events.assert_each(12, &EVENTS);
-    machine.states.assert_each(12, &STATES);
+    run("machine, a fair initiator", 11, true, 220_000, &[], &[]);
 }
 
 #[test]
 fn an_initiator_below_its_limit() {
-    let mut machine = Machine::new(Library::new(12), 12);
-    while machine.events.total() < 150_000 {
-        machine.list(false, 1_000);
-    }
-    machine.events.print_as("machine, an initiator below its limit", "events");
-    machine.states.print_as("machine, an initiator below its limit", "states");
     let unfair = ["send: a request below a limit of 1", "take: refused 22", "take: refused 25"];
-    machine.events.assert_each(12, &[&EVENTS[..], &unfair].concat());
-    machine.states.assert_each(12, &[&STATES[..], &["limit below 0"]].concat());
+    run("machine, an initiator below its limit", 12, false, 150_000, &unfair, &["limit below 0"]);
 }

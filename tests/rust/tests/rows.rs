@@ -1,26 +1,17 @@
 //! The rows of tests/rows through the C interface.
 
+use srp_tests::calls::Call;
 use srp_tests::port::{self, library::Library};
-use srp_tests::rows::{self, CutRow, LookRow};
+use srp_tests::rows;
 
 #[test]
 fn look_rows() {
-    rows::run(&[("look", 292)], "the C interface", |words| {
-        let row = LookRow::read(words);
-        let mut buf = vec![row.fill; row.lent];
-        let returned = srp_tests::look(&row.msg, row.agreed, row.formats, &mut buf);
-        row.answer.compare(returned, &buf, row.fill)
-    });
+    rows::run_look("the C interface", |call, buf| call.on_library(&call.msg, buf));
 }
 
 #[test]
 fn cut_rows() {
-    rows::run(&[("cut", 267)], "the C interface", |words| {
-        let row = CutRow::read(words);
-        let mut buf = vec![row.fill; row.lent];
-        let returned = srp_tests::cut(&row.list, row.m, row.r, row.handed, &mut buf);
-        row.answer.compare(returned, &buf, row.fill)
-    });
+    rows::run_cut("the C interface", |call, buf| call.on_library(&call.list, buf));
 }
 
 #[test]

@@ -44,28 +44,18 @@ fn answer(buf: &mut [u8], outcome: impl FnOnce() -> Result<[u8; ANSWER_BYTES], R
 
 #[cfg(test)]
 mod tests {
-    use super::*;
-    use crate::rows::{self, CutRow, LookRow};
+    use crate::calls::Call;
+    use crate::rows;
 
     // The rows through this version: where a row fails through the C interface and not here, the library is wrong.
 
     #[test]
     fn look_rows() {
-        rows::run(&[("look", 292)], "the model", |words| {
-            let row = LookRow::read(words);
-            let mut buf = vec![row.fill; row.lent];
-            let returned = look_in_c(&row.msg, row.agreed, row.formats, &mut buf);
-            row.answer.compare(returned, &buf, row.fill)
-        });
+        rows::run_look("the model", |call, buf| call.on_model(buf));
     }
 
     #[test]
     fn cut_rows() {
-        rows::run(&[("cut", 267)], "the model", |words| {
-            let row = CutRow::read(words);
-            let mut buf = vec![row.fill; row.lent];
-            let returned = cut_in_c(&row.list, row.m, row.r, row.handed, &mut buf);
-            row.answer.compare(returned, &buf, row.fill)
-        });
+        rows::run_cut("the model", |call, buf| call.on_model(buf));
     }
 }

@@ -4,7 +4,7 @@
 use super::call::{Call, Lent, Outcome, Target, UNWRITTEN};
 use super::frame::{self, Change, Memory};
 use crate::guarded::{GuardedMemory, Number, Placed, Side};
-use crate::interface;
+use crate::interface::{self, PORT_WORDS, STORE_BYTES};
 use crate::random::Random;
 
 pub struct Library {
@@ -29,10 +29,10 @@ struct Places {
 
 impl Library {
     pub fn new(seed: u64) -> Self {
-        let page = || GuardedMemory::new(1);
+        let page = || GuardedMemory::holding(1);
         let places = Places {
-            words: page(),
-            store: GuardedMemory::new(4), // just the store's bytes
+            words: GuardedMemory::holding(8 * PORT_WORDS),
+            store: GuardedMemory::holding(STORE_BYTES),
             settings: page(),
             own: page(),
             input: GuardedMemory::default(),
