@@ -1,8 +1,10 @@
 -- The refusals' numbers.
 -- Assumes nothing.
+use mathlib.Core.Path.{_≡_, refl, sym, _∙_, ap}
+use mathlib.Core.Option.{some, Option·some-injective}
 use Prim.Native.Nat.{ℕ, _<_}
 use native.Mathlib.Omega.{arith}
-use Rattle.srp.specs.Refusals.{numberOf}
+use Rattle.srp.specs.Refusals.{numberOf, refusalNumbered}
 use Rattle.srp.specs.declared.Refusal.{Refusal}
 use Rattle.srp.specs.declared.Refusal.the-variants.{ShortBuffer, Setting, Length, OtherType, OutFormat, InFormat, OutCount, InCount, TableLength, Fields, Argument, Closed, NoCredit, TagOpen, TagNotOpen, CreditResponse, Unanswered, NotOwed, Wanted, Unplanned, Planned}
 
@@ -29,3 +31,30 @@ number-range NotOwed = omega arith
 number-range Wanted = omega arith
 number-range Unplanned = omega arith
 number-range Planned = omega arith
+
+-- each is found by its number, so no two have the same
+pub numbered : (r : Refusal) → refusalNumbered (numberOf r) ≡ some r
+numbered ShortBuffer = refl
+numbered Setting = refl
+numbered Length = refl
+numbered OtherType = refl
+numbered OutFormat = refl
+numbered InFormat = refl
+numbered OutCount = refl
+numbered InCount = refl
+numbered TableLength = refl
+numbered Fields = refl
+numbered Argument = refl
+numbered Closed = refl
+numbered NoCredit = refl
+numbered TagOpen = refl
+numbered TagNotOpen = refl
+numbered CreditResponse = refl
+numbered Unanswered = refl
+numbered NotOwed = refl
+numbered Wanted = refl
+numbered Unplanned = refl
+numbered Planned = refl
+
+pub number-injective : (r s : Refusal) → numberOf r ≡ numberOf s → r ≡ s
+number-injective r s e = Option·some-injective r s (sym (numbered r) ∙ ap refusalNumbered e ∙ numbered s)

@@ -26,6 +26,7 @@ use Rattle.srp.specs.declared.Counters.{Counters}
 use Rattle.srp.specs.declared.Record.{Record}
 use Rattle.srp.specs.declared.Reply.the-variants.{Refused, Performed, Operation, Done, Counts, Listed}
 
+-- the outcome o, where no check hits
 abbrev pub unless : Option Refusal → Port → Outcome → Outcome
 unless none p o = o
 unless (some r) p o = silent p (Refused r)
@@ -46,9 +47,11 @@ abbrev pub planChecks : Port → ℕ → List Check
 planChecks p tag = closed p ∷ (not (isOpen p tag), TagNotOpen) ∷ (isPlanned (find (hasTag tag) (p .held)), Planned) ∷ []
 
 -- "Plan states once per command, for each direction, R"
+abbrev pub planOutcome : Port → ℕ → ℕ → ℕ → Outcome
+planOutcome p tag out inn = silent (withHeld p (p .announced) (change (hasTag tag) (planned out inn) (p .held))) Performed
+
 abbrev pub planDef : Port → ℕ → ℕ → ℕ → Outcome
-planDef p tag out inn =
-    unless (firstOf (planChecks p tag)) p (silent (withHeld p (p .announced) (change (hasTag tag) (planned out inn) (p .held))) Performed)
+planDef p tag out inn = unless (firstOf (planChecks p tag)) p (planOutcome p tag out inn)
 
 -- ── step
 
@@ -85,8 +88,11 @@ abbrev pub stepChecks : Port → ℕ → List Check
 stepChecks p tag = closed p ∷ (not (isOpen p tag), TagNotOpen) ∷ (not (isPlanned (find (hasTag tag) (p .held))), Unplanned) ∷ []
 
 -- "Step names a tag and a direction and hands out the next piece there, or says done"
+abbrev pub stepOutcome : Port → ℕ → Direction → Outcome
+stepOutcome p tag d = handOut p tag d (nextOf (p .terms) d (find (hasTag tag) (p .held)))
+
 abbrev pub stepDef : Port → ℕ → Direction → Outcome
-stepDef p tag d = unless (firstOf (stepChecks p tag)) p (handOut p tag d (nextOf (p .terms) d (find (hasTag tag) (p .held))))
+stepDef p tag d = unless (firstOf (stepChecks p tag)) p (stepOutcome p tag d)
 
 -- ── finish
 
@@ -116,10 +122,12 @@ finalResponse (some c) status sense delta = response (finalOf c status sense del
 abbrev pub finishChecks : Port → ℕ → ℕ → ℕ → List ℕ → List Check
 finishChecks p room tag status sense = short room ∷ closed p ∷ (badSense status sense, Argument) ∷ (not (isOpen p tag), TagNotOpen) ∷ []
 
+abbrev pub finishOutcome : Port → ℕ → ℕ → List ℕ → Outcome
+finishOutcome p tag status sense =
+    answering (withHeld p (p .announced) (without (hasTag tag) (p .held))) Performed (finalResponse (find (hasTag tag) (p .held)) status sense)
+
 abbrev pub finishDef : Port → ℕ → ℕ → ℕ → List ℕ → Outcome
-finishDef p room tag status sense =
-    unless (firstOf (finishChecks p room tag status sense)) p
-    (answering (withHeld p (p .announced) (without (hasTag tag) (p .held))) Performed (finalResponse (find (hasTag tag) (p .held)) status sense))
+finishDef p room tag status sense = unless (firstOf (finishChecks p room tag status sense)) p (finishOutcome p tag status sense)
 
 -- ── add, withdraw, grant, close
 
@@ -127,28 +135,41 @@ finishDef p room tag status sense =
 abbrev pub addChecks : Port → ℕ → List Check
 addChecks p k = closed p ∷ (eqb k 0, Argument) ∷ (ltb mostBuffers (p .wanted + k), Wanted) ∷ []
 
+abbrev pub addOutcome : Port → ℕ → Outcome
+addOutcome p k = silent (withWanted p (p .wanted + k)) Performed
+
 abbrev pub addDef : Port → ℕ → Outcome
-addDef p k = unless (firstOf (addChecks p k)) p (silent (withWanted p (p .wanted + k)) Performed)
+addDef p k = unless (firstOf (addChecks p k)) p (addOutcome p k)
 
 -- "Withdraw k: W - k, D - k. W stays in 1 to 16"
 abbrev pub withdrawChecks : Port → ℕ → List Check
 withdrawChecks p k = closed p ∷ (eqb k 0, Argument) ∷ (leb (p .wanted) k, Wanted) ∷ []
 
+abbrev pub withdrawOutcome : Port → ℕ → Outcome
+withdrawOutcome p k = silent (withWanted p (p .wanted - k)) Performed
+
 abbrev pub withdrawDef : Port → ℕ → Outcome
-withdrawDef p k = unless (firstOf (withdrawChecks p k)) p (silent (withWanted p (p .wanted - k)) Performed)
+withdrawDef p k = unless (firstOf (withdrawChecks p k)) p (withdrawOutcome p k)
 
 -- "One may be unanswered"; 27 where D is not above 0
 abbrev pub grantChecks : Port → ℕ → List Check
 grantChecks p room = short room ∷ closed p ∷ (p .unanswered, Unanswered) ∷ (eqb (due p) 0, NotOwed) ∷ []
 
+abbrev pub grantOutcome : Port → Outcome
+grantOutcome p = answering (withUnanswered p true) Performed (creditRequest (p .terms .crsolnt))
+
 abbrev pub grantDef : Port → ℕ → Outcome
-grantDef p room = unless (firstOf (grantChecks p room)) p (answering (withUnanswered p true) Performed (creditRequest (p .terms .crsolnt)))
+grantDef p room = unless (firstOf (grantChecks p room)) p (grantOutcome p)
+
+abbrev pub closeChecks : Port → ℕ → List Check
+closeChecks p room = short room ∷ closed p ∷ []
 
 -- "The owner may also close with a reason"
+abbrev pub closeOutcome : Port → ℕ → Outcome
+closeOutcome p reason = record { reply = Performed; port = closedPort; wrote = targetLogout (p .terms .losolnt) reason ∷ [] }
+
 abbrev pub closeDef : Port → ℕ → ℕ → Outcome
-closeDef p room reason =
-    unless (firstOf (short room ∷ closed p ∷ [])) p
-    (record { reply = Performed; port = closedPort; wrote = targetLogout (p .terms .losolnt) reason ∷ [] })
+closeDef p room reason = unless (firstOf (closeChecks p room)) p (closeOutcome p reason)
 
 -- ── counters and listing
 
@@ -156,8 +177,14 @@ closeDef p room reason =
 abbrev pub countersOf : Port → Counters
 countersOf p = record { wanted = p .wanted; announced = p .announced; held = length (p .held); owed = owed p }
 
+abbrev pub countersChecks : Port → List Check
+countersChecks p = closed p ∷ []
+
+abbrev pub countersOutcome : Port → Outcome
+countersOutcome p = silent p (Counts (countersOf p))
+
 abbrev pub countersDef : Port → Outcome
-countersDef p = unless (firstOf (closed p ∷ [])) p (silent p (Counts (countersOf p)))
+countersDef p = unless (firstOf (countersChecks p)) p (countersOutcome p)
 
 -- "tag, LUN, bytes handed out each way"
 abbrev pub recordOf : Open → Record
@@ -167,8 +194,15 @@ recordOf c =
 abbrev pub listing : Port → List Record
 listing p = map recordOf (p .held)
 
+-- "record list under 16"
+abbrev pub listChecks : Port → ℕ → List Check
+listChecks p room = closed p ∷ (ltb room mostBuffers, Argument) ∷ []
+
+abbrev pub listOutcome : Port → Outcome
+listOutcome p = silent p (Listed (length (p .held)))
+
 abbrev pub listDef : Port → ℕ → Outcome
-listDef p room = unless (firstOf (closed p ∷ (ltb room mostBuffers, Argument) ∷ [])) p (silent p (Listed (length (p .held))))
+listDef p room = unless (firstOf (listChecks p room)) p (listOutcome p)
 
 -- the lent list before and after an unrefused listing: "each command once; their order is free, the rest of the list untouched"
 pub record EachListed (p : Port) (before after : List Record) : Type 0 where

@@ -4,7 +4,8 @@ use mathlib.Core.Bool.{Bool, cond}
 use mathlib.Core.List.{List, [], _∷_}
 use mathlib.Core.Option.{Option, none, some}
 use Prim.Native.Nat.{ℕ}
-use lib.Dec.{ltb}
+use lib.Dec.{ltb, eqb}
+use Rattle.srp.specs.Lists.{find}
 use Rattle.srp.specs.Limits.{bufferSize}
 use Rattle.srp.specs.declared.Refusal.{Refusal}
 use Rattle.srp.specs.declared.Refusal.the-variants.{ShortBuffer, Setting, Length, OtherType, OutFormat, InFormat, OutCount, InCount, TableLength, Fields, Argument, Closed, NoCredit, TagOpen, TagNotOpen, CreditResponse, Unanswered, NotOwed, Wanted, Unplanned, Planned}
@@ -52,6 +53,15 @@ numberOf r = entry r .0
 
 abbrev pub conductOf : Refusal → Conduct
 conductOf r = entry r .1
+
+-- all of them, and the one with a number: no refusal has 0
+abbrev pub refusals : List Refusal
+refusals =
+    ShortBuffer ∷ Setting ∷ Length ∷ OtherType ∷ OutFormat ∷ InFormat ∷ OutCount ∷ InCount ∷ TableLength ∷ Fields ∷ Argument
+    ∷ Closed ∷ NoCredit ∷ TagOpen ∷ TagNotOpen ∷ CreditResponse ∷ Unanswered ∷ NotOwed ∷ Wanted ∷ Unplanned ∷ Planned ∷ []
+
+abbrev pub refusalNumbered : ℕ → Option Refusal
+refusalNumbered n = find (λ (r : Refusal). eqb n (numberOf r)) refusals
 
 -- the reason of a hang-up, 0 where there is none
 abbrev pub reasonIn : Conduct → ℕ
