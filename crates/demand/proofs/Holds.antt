@@ -1,66 +1,95 @@
--- Demand 3, of the code: by the contracts of the calls alone.
+-- Demand 3, of the C functions: by their contracts alone.
 -- Assumes nothing.
-use mathlib.Core.Path.{_≡_, sym, _∙_, ap}
+use mathlib.Core.Path.{_≡_, sym, _∙_, ap, subst}
+use mathlib.Core.Bool.{Bool}
 use mathlib.Core.List.{List, [], _∷_, _++_, map}
-use Prim.Native.Nat.{ℕ, _-_}
-use lib.ListN.{length, replicate}
+use Prim.Native.Nat.{ℕ, _/_, _≤_}
+use native.Mathlib.Omega.{arith}
+use borrow.Author.Tests.{le-ltb}
+use lib.ListN.{length, drop}
 use denote.Ref.{RefT, now}
 use contract.Lifetimes.{Lfts}
 use Rattle.srp.specs.Limits.{mostBuffers}
-use Rattle.srp.specs.Credit.{owed}
+use Rattle.srp.specs.Refusals.{firstOf}
+use Rattle.srp.specs.Credit.{Port, owed}
 use Rattle.srp.specs.Take.{Outcome, silent, Tables, takeDef}
-use Rattle.srp.specs.Calls.{planDef, stepDef, finishDef, addDef, withdrawDef, grantDef, listing, listDef, countersDef}
+use Rattle.srp.specs.Take as def
+use Rattle.srp.specs.Calls.{unless, planDef, stepDef, finishDef, addDef, withdrawDef, grantDef, closeDef, countersDef, listing, listOutcome, listDef}
 use Rattle.srp.specs.Login.{loginDef}
+use Rattle.srp.specs.Answers.{returned, sizeOf}
+use Rattle.srp.specs.declared.Refusal.the-variants.{Argument}
 use Rattle.srp.specs.declared.Settings.{Settings}
 use Rattle.srp.specs.declared.Direction.{Direction}
+use Rattle.srp.specs.declared.Record.{Record}
+use Rattle.srp.specs.declared.Answer.{Answer}
 use Rattle.srp.specs.declared.Reply.{Reply}
 use Rattle.srp.specs.declared.Reply.the-variants.{Performed, Accepted, Counts, Listed}
-use Rattle.srp.specs.declared.Answer.{Answer}
-use Rattle.srp.specs.declared.Record.{Record}
 use Rattle.machine.specs.Machine.{shownAs, Machine, start, requestsHeld, Login, loginOf}
 use Rattle.machine.specs.Actions.{atFront}
 use Rattle.machine.specs.Events.{Event, sends, delivers, takes, plans, steps, finishes, adds, withdraws, grants}
 use Rattle.machine.specs.Demand.{counted, Now, Run, Fair, Demand, Meets}
 use Rattle.machine.proofs.Demand.{demand-3}
+use Rattle.answer.specs.Words.{answerWords}
 use Rattle.words.specs.View.{view}
-use Rattle.report.specs.Reports.{noRecord}
-use Rattle.report.specs.declared.Listing.{Listing}
-use Rattle.report.proofs.counters.Reads as counters-call
-use Rattle.report.proofs.list.Reads as list-call
-use Rattle.login.proofs.login.Reads as login-call
-use Rattle.demand.proofs.Outcomes.{replies, answers, take-single, finish-single, grant-single}
-use Rattle.demand.proofs.Calls.{Memory, seen, Took, Finished, Granted, Planned, Stepped, Added, Withdrew, Untouched, TookFront, Call}
+use Rattle.take.specs.Taking.{tables}
+use Rattle.exports.specs.Arguments.{recordSize, allWords, settingsIn, directionIn}
+use Rattle.exports.specs.Calls.{InC, AnswersInC, RepliesInC, ListsInC}
+use Rattle.exports.proofs.Listing.{counters-unwritten, list-unwritten}
+use Rattle.exports.proofs.port.srp_target_counters.Reads as counters-in-c
+use Rattle.exports.proofs.port.srp_target_list.Reads as list-in-c
+use Rattle.demand.specs.Replies.{performed, loggedIn}
+use Rattle.demand.specs.Calls.{Memory, seen, LoggedIn, Took, Answered, Finished, Granted, Closed, Silently, Planned, Stepped, Added, Withdrew, Untouched, TookFront, Call}
+use Rattle.demand.specs.Holding.{Holds, Reports, Lists}
+use Rattle.demand.proofs.Told as told
 
 -- ── each call that was made is its definition's
 
 module _ {s : Memory} {r : Reply} {ss : List (List ℕ)} {s′ : Memory} where
-  took : (room : ℕ) (t : Tables) (msg : List ℕ) → Took s room t msg r ss s′ → takeDef (seen s) room msg t ≡ record { reply = r; port = seen s′; wrote = ss }
+  pub took : (room : ℕ) (t : Tables) (msg : List ℕ) → Took s room t msg r ss s′ → takeDef (seen s) room msg t ≡ record { reply = r; port = seen s′; wrote = ss }
   took room t msg c =
-      rw (← c .words, ← c .store, ← c .message, ← c .tables, ← c .room-is, ← c .reply, ← c .wrote, ← c .words′, ← c .store′)
-      (answers (c .post) (take-single (view (now (c .p)) (now (c .st))) (length (now (c .b))) (now (c .m)) (record { out = now (c .out); inn = now (c .inn) })))
+      rw (← c .words, ← c .store, ← c .message, ← c .lent, ← c .room-is, ← c .reply, ← c .wrote, ← c .words′, ← c .store′)
+      (told.answers (c .post) (told.take-told (view (now (c .p)) (now (c .st))) (length (now (c .b))) (now (c .m)) (tables (now (c .out)) (now (c .inn)))))
 
-  finished : (room tag status : ℕ) (sense : List ℕ) → Finished s room tag status sense r ss s′
+  -- with a lent message buffer: o is the call's definition, by the port and the buffer's length
+  module _ (o : Port → ℕ → Outcome) (one : (p : Port) (room : ℕ) → told.Told performed (o p room)) {Post : (p q b d w v : RefT (List ℕ)) (n : ℕ) → Type 0}
+    (promises : (p q b d w v : RefT (List ℕ)) (n : ℕ) → Post p q b d w v n → (st : List ℕ) → AnswersInC (now p) st (now b) (now q) st (now d) n (now v) (o (view (now p) st) (length (now b)))) where
+    answered : (room : ℕ) → Answered s room Post r ss s′ → o (seen s) room ≡ record { reply = r; port = seen s′; wrote = ss }
+    answered room c =
+        rw (← c .words, ← c .room-is, ← c .reply, ← c .wrote, ← c .words′, ← c .store′)
+        (told.answers (promises (c .p) (c .q) (c .b) (c .d) (c .w) (c .v) (c .n) (c .post) (s .store)) (one (view (now (c .p)) (s .store)) (length (now (c .b)))))
+
+  pub finished : (room tag status : ℕ) (sense : List ℕ) → Finished s room tag status sense r ss s′
       → finishDef (seen s) room tag status sense ≡ record { reply = r; port = seen s′; wrote = ss }
   finished room tag status sense c =
-      rw (← c .words, ← c .sense-is, ← c .room-is, ← c .reply, ← c .wrote, ← c .words′, ← c .store′)
-      (answers (c .post (s .store)) (finish-single (view (now (c .p)) (s .store)) (length (now (c .b))) tag status (now (c .e))))
+      answered (λ p n. finishDef p n tag status sense) (λ p n. told.finish-told p n tag status sense) (λ p q b d w v n post st. rw (← post .2) (post .3 st)) room c
 
-  granted : (room : ℕ) → Granted s room r ss s′ → grantDef (seen s) room ≡ record { reply = r; port = seen s′; wrote = ss }
-  granted room c =
-      rw (← c .words, ← c .room-is, ← c .reply, ← c .wrote, ← c .words′, ← c .store′)
-      (answers (c .post (s .store)) (grant-single (view (now (c .p)) (s .store)) (length (now (c .b)))))
+  pub granted : (room : ℕ) → Granted s room r ss s′ → grantDef (seen s) room ≡ record { reply = r; port = seen s′; wrote = ss }
+  granted room c = answered (λ p n. grantDef p n) (λ p n. told.grant-told p n) (λ p q b d w v n post. post .1) room c
 
-  planned : (tag out inn : ℕ) → Planned s tag out inn r ss s′ → planDef (seen s) tag out inn ≡ record { reply = r; port = seen s′; wrote = ss }
-  planned tag out inn c = rw (← c .words, ← c .wrote, ← c .words′, ← c .store′) (replies (c .post (s .store)))
+  pub closed : (room reason : ℕ) → Closed s room reason r ss s′ → closeDef (seen s) room reason ≡ record { reply = r; port = seen s′; wrote = ss }
+  closed room reason c = answered (λ p n. closeDef p n reason) (λ p n. told.close-told p n reason) (λ p q b d w v n post. post .1) room c
 
-  stepped : (tag : ℕ) (d : Direction) → Stepped s tag d r ss s′ → stepDef (seen s) tag d ≡ record { reply = r; port = seen s′; wrote = ss }
-  stepped tag d c = rw (← c .words, ← c .wrote, ← c .words′, ← c .store′, ← c .store) (replies (c .post))
+  -- without one
+  module _ (o : Port → Outcome) (one : (p : Port) → told.Silent (o p)) {Post : (p q : RefT (List ℕ)) (n : ℕ) → Type 0}
+    (promises : (p q : RefT (List ℕ)) (n : ℕ) → Post p q n → (st : List ℕ) → RepliesInC (now p) st (now q) n (o (view (now p) st))) where
+    silently : Silently s Post r ss s′ → o (seen s) ≡ record { reply = r; port = seen s′; wrote = ss }
+    silently c =
+        rw (← c .words, ← c .reply, ← c .wrote, ← c .words′, ← c .store′)
+        (told.replies (promises (c .p) (c .q) (c .n) (c .post) (s .store)) (one (view (now (c .p)) (s .store))))
 
-  added : (k : ℕ) → Added s k r ss s′ → addDef (seen s) k ≡ record { reply = r; port = seen s′; wrote = ss }
-  added k c = rw (← c .words, ← c .wrote, ← c .words′, ← c .store′) (replies (c .post (s .store)))
+  pub planned-is : (tag out inn : ℕ) → Planned s tag out inn r ss s′ → planDef (seen s) tag out inn ≡ record { reply = r; port = seen s′; wrote = ss }
+  planned-is tag out inn c = silently (λ p. planDef p tag out inn) (λ p. told.plan-said p tag out inn) (λ p q n post. post .1) c
 
-  withdrew : (k : ℕ) → Withdrew s k r ss s′ → withdrawDef (seen s) k ≡ record { reply = r; port = seen s′; wrote = ss }
-  withdrew k c = rw (← c .words, ← c .wrote, ← c .words′, ← c .store′) (replies (c .post (s .store)))
+  pub added : (k : ℕ) → Added s k r ss s′ → addDef (seen s) k ≡ record { reply = r; port = seen s′; wrote = ss }
+  added k c = silently (λ p. addDef p k) (λ p. told.add-said p k) (λ p q n post. post .1) c
+
+  pub withdrew : (k : ℕ) → Withdrew s k r ss s′ → withdrawDef (seen s) k ≡ record { reply = r; port = seen s′; wrote = ss }
+  withdrew k c = silently (λ p. withdrawDef p k) (λ p. told.withdraw-said p k) (λ p q n post. post .1) c
+
+  pub stepped : (tag : ℕ) (d : Direction) → Stepped s tag d r ss s′ → stepDef (seen s) tag d ≡ record { reply = r; port = seen s′; wrote = ss }
+  stepped tag d c =
+      rw (← c .words, ← c .direction-is, ← c .reply, ← c .wrote, ← c .words′, ← c .store′, ← c .store)
+      (told.steps (c .post) (told.step-said (view (now (c .p)) (now (c .st))) tag (directionIn (c .k))))
 
   untouched : Untouched s r ss s′ → silent (seen s) Performed ≡ record { reply = r; port = seen s′; wrote = ss }
   untouched c = λ i. record { reply = c .reply i; port = seen (c .same i); wrote = c .wrote i }
@@ -74,7 +103,7 @@ pub meets : (L : Login) → Meets L seen Call
 meets L s m (sends x) r ss s′ c = untouched c
 meets L s m delivers r ss s′ c = untouched c
 meets L s m (takes room t) r ss s′ c = front s room t (m .wire .toPort) r ss s′ c
-meets L s m (plans tag out inn) r ss s′ c = planned tag out inn c
+meets L s m (plans tag out inn) r ss s′ c = planned-is tag out inn c
 meets L s m (steps tag d) r ss s′ c = stepped tag d c
 meets L s m (finishes room tag status sense) r ss s′ c = finished room tag status sense c
 meets L s m (adds k) r ss s′ c = added k c
@@ -83,47 +112,42 @@ meets L s m (grants room) r ss s′ c = granted room c
 
 -- ── the theorem
 
--- a login was made: the contract of `login` holds of what it was given, and p are the words that it left
-pub record LoggedIn (c : Settings) (own msg : List ℕ) (room : ℕ) (answer : Answer) (p : List ℕ) : Type 0 where
-  pub κs : Lfts 4
-  pub before : RefT (List ℕ)
-  pub after : RefT (List ℕ)
-  pub id : RefT (List ℕ)
-  pub m : RefT (List ℕ)
-  pub b : RefT (List ℕ)
-  pub d : RefT (List ℕ)
-  pub own-is : now id ≡ own
-  pub message : now m ≡ msg
-  pub room-is : length (now b) ≡ room
-  pub post : login-call.Post κs (before, (c, (id, (m, (b, tt))))) answer (after, (c, (id, (m, (d, tt)))))
-  pub words : now after ≡ p
+-- a login's reply, port and message are the definition's, whatever the store
+pub logged-in : {settings own msg : List ℕ} {room : ℕ} {r : Reply} {ss : List (List ℕ)} {p : List ℕ} → LoggedIn settings own msg room r ss p → (store : List ℕ)
+    → loginDef (settingsIn settings) own room msg ≡ record { reply = r; port = view p store; wrote = ss }
+logged-in l store =
+    rw (← l .settings-are, ← l .own-is, ← l .message, ← l .room-is, ← l .reply, ← l .wrote, ← l .words)
+    (told.logs-in (l .post store) (told.login-told (settingsIn (now (l .c))) (now (l .id)) (length (now (l .b))) (now (l .m))))
 
--- the theorem: of every list of events that follows an accepted login, each call being made on the words and the store that the last one left.
--- `store` is whatever the owner lent
-pub holds : (c : Settings) (own msg : List ℕ) (room : ℕ) (answer : Answer) (p store : List ℕ) → LoggedIn c own msg room answer p → answer .reply ≡ Accepted
-    → (es : List Event) (run : Run (loginOf c msg) seen Call (record { words = p; store = store }) (start (c .buffers)) es)
-    → Fair (loginOf c msg) seen Call (record { words = p; store = store }) (start (c .buffers)) es run
-    → Demand (loginOf c msg) seen Call (record { words = p; store = store }) (start (c .buffers)) es run
-holds c own msg room answer p store l e es run f =
-    let o : Outcome = loginDef c own room msg in
-    let w = l .post store in
-    let a : o .reply ≡ Accepted = rw (← l .own-is, ← l .message, ← l .room-is) (sym (ap (λ (x : Answer). x .reply) (w .answer)) ∙ e) in
-    let v : view p store ≡ o .port = rw (← l .own-is, ← l .message, ← l .room-is, ← l .words) (w .port) in
-    demand-3 c own room msg a seen Call (meets (loginOf c msg)) (record { words = p; store = store }) v es run f
+pub holds : (settings own msg : List ℕ) (room : ℕ) (ss : List (List ℕ)) (p store : List ℕ) → Holds settings own msg room ss p store
+holds settings own msg room ss p store l es run f =
+    let c : Settings = settingsIn settings in
+    let e = logged-in l store in
+    demand-3 c own room msg (ap (λ (o : Outcome). o .reply) e) seen Call (meets (loginOf c msg)) (record { words = p; store = store }) (sym (ap (λ (o : Outcome). o .port) e)) es run f
 
--- ── what the owner reads while the channel is open, by the contracts of `counters` and `list`: document 01's "Owed is the D that the port reports"
+-- ── what the owner reads while the channel is open: document 01's "Owed is the D that the port reports"
 
-module _ (L : Login) (m : Machine) (s : Memory) (n : Now L m (seen s)) (κs : Lfts 1) (p : RefT (List ℕ)) (words : now p ≡ s .words) where
-  -- W, A and H as the machine has counted them, and D
-  pub reports : (r : Reply) → counters-call.Post κs (p, tt) r (p, tt) → r ≡ Counts (counted L m (owed (seen s)))
-  reports r post = post (s .store) ∙ ap (λ (l : List ℕ). countersDef (view l (s .store)) .reply) words ∙ n .reports
-
-  -- each open command once, and as many as the machine holds
-  pub lists : (g : Listing) → list-call.Post κs (p, tt) g (p, tt)
-      → (g .reply ≡ Listed (requestsHeld m)) × (g .records ≡ map shownAs (m .work .tracks) ++ replicate (mostBuffers - length (seen s .held)) noRecord)
-  lists g post = (
-    post (s .store) .reply ∙ ap (λ (l : List ℕ). listDef (view l (s .store)) mostBuffers .reply) words ∙ n .lists,
-    post (s .store) .records
-        ∙ ap (λ (l : List ℕ). listing (view l (s .store)) ++ replicate (mostBuffers - length (view l (s .store) .held)) noRecord) words
-        ∙ ap (λ (x : List Record). x ++ replicate (mostBuffers - length (seen s .held)) noRecord) (n .listed),
+module _ (L : Login) (m : Machine) (s : Memory) (now-holds : Now L m (seen s)) (p : RefT (List ℕ)) (words : now p ≡ s .words) (w v : RefT (List ℕ)) (n : ℕ) where
+  -- an unrefused call that writes nothing, by its reply
+  in-words : (o : Outcome) (r : Reply) → o .reply ≡ r → o .wrote ≡ [] → InC n (now v) o → (n ≡ returned r) × (now v ≡ answerWords (record { reply = r; wrote = 0 }))
+  in-words o r e f N = (
+    N .number ∙ ap returned e,
+    N .words ∙ ap (λ (a : Answer). answerWords a) (λ i. record { reply = e i; wrote = sizeOf (f i) }),
   )
+
+  pub reports : (κs : Lfts 2) → counters-in-c.Post κs (p, (w, tt)) n (p, (v, tt)) → Reports L m s n (now v)
+  reports κs post =
+      in-words (countersDef (seen s)) (Counts (counted L m (owed (seen s)))) (now-holds .reports) (counters-unwritten (seen s))
+      (subst (λ (l : List ℕ). InC n (now v) (countersDef (view l (s .store)))) words (post (s .store)))
+
+  pub lists : (κs : Lfts 3) (before after : RefT (List ℕ)) → list-in-c.Post κs (p, (before, (w, tt))) n (p, (after, (v, tt))) → Lists m (now before) (now after) n (now v)
+  lists κs before after post room =
+      let R : ListsInC (seen s) (now before) (now after) n (now v) = subst (λ (l : List ℕ). ListsInC (view l (s .store)) (now before) (now after) n (now v)) words (post (s .store)) in
+      let k : ℕ = length (now before) / recordSize in
+      let e : listDef (seen s) k .reply ≡ Listed (requestsHeld m) =
+      ap (λ (b : Bool). unless (firstOf (def.closed (seen s) ∷ (b, Argument) ∷ [])) (seen s) (listOutcome (seen s)) .reply) (le-ltb k mostBuffers room) ∙ now-holds .lists in
+      let N = in-words (listDef (seen s) k) (Listed (requestsHeld m)) e (list-unwritten (seen s) k) (R .numbers) in (
+        N .0,
+        N .1,
+        R .listed (N .0) ∙ ap (λ (x : List Record). allWords x ++ drop (length (allWords x)) (now before)) (now-holds .listed),
+      )

@@ -1,4 +1,3 @@
-pub mod Outcomes
-pub mod Calls
-pub mod Judged
+pub mod Told
+pub mod Judging
 pub mod Holds

@@ -1,0 +1,4 @@
+pub mod Replies
+pub mod Calls
+pub mod Judged
+pub mod Holding

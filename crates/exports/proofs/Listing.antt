@@ -40,7 +40,7 @@ unwritten (some f) p o e = refl
 pub counters-unwritten : (p : Port) → countersDef p .wrote ≡ []
 counters-unwritten p = unwritten (firstOf (closed p ∷ [])) p (silent p (Counts (countersOf p))) refl
 
-list-unwritten : (p : Port) (room : ℕ) → listDef p room .wrote ≡ []
+pub list-unwritten : (p : Port) (room : ℕ) → listDef p room .wrote ≡ []
 list-unwritten p room = unwritten (firstOf (closed p ∷ (ltb room mostBuffers, Argument) ∷ [])) p (silent p (Listed (length (p .held)))) refl
 
 -- ── records in words

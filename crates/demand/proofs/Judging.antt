@@ -1,0 +1,94 @@
+-- How a promise in C says demand 1 of its call. Assumes nothing.
+use mathlib.Core.Path.{_≡_, refl, sym, _∙_, ap}
+use mathlib.Core.Logic.{_↔_}
+use mathlib.Core.List.{List, [], _∷_}
+use mathlib.Core.Option.{Option, none, some, Option·none-ne-some, Option·some-ne-none, Option·some-injective}
+use Prim.Native.Nat.{ℕ}
+use native.Mathlib.Omega.{arith}
+use Rattle.srp.specs.Refusals.{numberOf, Check, firstOf}
+use Rattle.srp.specs.Credit.{Port}
+use Rattle.srp.specs.Writing.{placed}
+use Rattle.srp.specs.Take.{Outcome}
+use Rattle.srp.specs.Calls.{unless}
+use Rattle.srp.specs.Answers.{returned, answerOf}
+use Rattle.srp.specs.declared.Refusal.{Refusal}
+use Rattle.srp.proofs.RefusalLaws.{number-range, number-injective}
+use Rattle.answer.specs.Words.{answerWords}
+use Rattle.words.specs.View.{view}
+use Rattle.exports.specs.Calls.{InC, AnswersInC, StepsInC, RepliesInC}
+use Rattle.demand.specs.Judged.{Judged, Comes, Unaltered, noWords}
+
+-- ── of any call
+
+-- the number that is returned, by the first check that hits
+abbrev pub numberFor : Option Refusal → ℕ
+numberFor none = 0
+numberFor (some f) = numberOf f
+
+not-zero : (f : Refusal) → numberOf f ≡ 0 → ⊥
+not-zero f e = omega (arith, number-range f .0)
+
+module _ (n : ℕ) where
+  numbers-one : (x : Option Refusal) → n ≡ numberFor x → (f : Refusal) → (n ≡ numberOf f) ↔ (x ≡ some f)
+  numbers-one none e f = ((λ q. absurd (not-zero f (sym q ∙ e))), (λ q. absurd (Option·none-ne-some f q)))
+  numbers-one (some g) e f = ((λ q. ap some (number-injective g f (sym e ∙ q))), (λ q. e ∙ ap numberOf (Option·some-injective g f q)))
+
+  numbers-none : (x : Option Refusal) → n ≡ numberFor x → (n ≡ 0) ↔ (x ≡ none)
+  numbers-none none e = ((λ q. refl), (λ q. e))
+  numbers-none (some g) e = ((λ q. absurd (not-zero g (sym e ∙ q))), (λ q. absurd (Option·some-ne-none g q)))
+
+-- a call whose number is that of the first check that hits
+pub judge : (checks : List Check) (n : ℕ) (Performs : Type 0) (Leaves : Refusal → Type 0) → n ≡ numberFor (firstOf checks)
+    → (firstOf checks ≡ none → Performs)
+    → ((f : Refusal) → firstOf checks ≡ some f → Leaves f)
+    → Judged checks n Performs Leaves
+judge checks n P L e p q =
+    record { refuses = numbers-one n (firstOf checks) e; unrefused = numbers-none n (firstOf checks) e; performs = p; leaves = q }
+
+-- ── of a call that is refused by its first check that hits, or comes to the outcome o
+
+module _ (p : Port) (o : Outcome) (unrefused : returned (o .reply) ≡ 0) where
+  number-is : (x : Option Refusal) → returned (unless x p o .reply) ≡ numberFor x
+  number-is none = unrefused
+  number-is (some f) = refl
+
+  -- with words and a lent buffer
+  pub judge-answers : (checks : List Check) (l st b l′ st′ b′ : List ℕ) (n : ℕ) (w : List ℕ) → AnswersInC l st b l′ st′ b′ n w (unless (firstOf checks) p o)
+      → Judged checks n (Comes o l′ st′ b b′ w) (λ f. Unaltered l b l′ b′ w)
+  judge-answers checks l st b l′ st′ b′ n w A =
+      judge checks n (Comes o l′ st′ b b′ w) (λ f. Unaltered l b l′ b′ w) (A .numbers .number ∙ number-is (firstOf checks)) comes left
+    where
+      comes : firstOf checks ≡ none → Comes o l′ st′ b b′ w
+      comes e =
+          let is : unless (firstOf checks) p o ≡ o = ap (λ (x : Option Refusal). unless x p o) e in
+          record {
+            words = A .numbers .words ∙ ap (λ (x : Outcome). answerWords (answerOf x)) is;
+            port = A .call .port ∙ ap (λ (x : Outcome). x .port) is;
+            buffer = A .call .buffer ∙ ap (λ (x : Outcome). placed (x .wrote) b) is;
+          }
+
+      left : (f : Refusal) → firstOf checks ≡ some f → Unaltered l b l′ b′ w
+      left f e =
+          let is : unless (firstOf checks) p o ≡ unless (some f) p o = ap (λ (x : Option Refusal). unless x p o) e in
+          let raw = A .call .raw (λ z. not-zero f (sym (ap (λ (x : Outcome). returned (x .reply)) is) ∙ z)) (ap (λ (x : Outcome). answerOf x .wrote) is) in
+          record {
+            words = A .numbers .words ∙ ap (λ (x : Outcome). answerWords (answerOf x)) is;
+            port = raw .0;
+            buffer = A .call .buffer ∙ ap (λ (x : Outcome). placed (x .wrote) b) is;
+          }
+
+  -- without words and buffer
+  pub judge-replies : (checks : List Check) (l st l′ : List ℕ) (n : ℕ) → RepliesInC l st l′ n (unless (firstOf checks) p o)
+      → Judged checks n (view l′ st ≡ o .port) (λ f. l′ ≡ l)
+  judge-replies checks l st l′ n R =
+      judge checks n (view l′ st ≡ o .port) (λ f. l′ ≡ l) (R .number ∙ number-is (firstOf checks))
+      (λ e. R .call .port ∙ ap (λ (x : Option Refusal). unless x p o .port) e)
+      (λ f e. R .call .raw (λ z. not-zero f (sym (ap (λ (x : Option Refusal). returned (unless x p o .reply)) e) ∙ z)) .0)
+
+  -- with words alone
+  pub judge-numbers : (checks : List Check) (n : ℕ) (w : List ℕ) → InC n w (unless (firstOf checks) p o)
+      → Judged checks n (w ≡ answerWords (answerOf o)) (λ f. w ≡ noWords)
+  judge-numbers checks n w N =
+      judge checks n (w ≡ answerWords (answerOf o)) (λ f. w ≡ noWords) (N .number ∙ number-is (firstOf checks))
+      (λ e. N .words ∙ ap (λ (x : Option Refusal). answerWords (answerOf (unless x p o))) e)
+      (λ f e. N .words ∙ ap (λ (x : Option Refusal). answerWords (answerOf (unless x p o))) e)

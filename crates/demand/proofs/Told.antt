@@ -1,0 +1,207 @@
+-- What the numbers of a call from C tell: its reply is read back from the number and the words, its message from the lent buffer. Assumes nothing.
+use mathlib.Core.Path.{_≡_, refl, sym, _∙_, ap}
+use mathlib.Core.Bool.{true, false, true≢false}
+use mathlib.Core.List.{List, [], _∷_}
+use mathlib.Core.Option.{Option, none, some}
+use Prim.Native.Nat.{ℕ, suc, _≤_}
+use native.Mathlib.Omega.{arith}
+use native.Mathlib.Nat.{not-suc-le-zero}
+use borrow.Author.Tests.{not-false, ne-eqb}
+use lib.Dec.{eqb}
+use lib.ListN.{length, getD}
+use lib.Seq.{take-append-seam}
+use Rattle.srp.specs.Bytes.{write}
+use Rattle.srp.specs.Lists.{find, isSome}
+use Rattle.srp.specs.Refusals.{Conduct, hangsUp, answered, stays, altersNothing, conductOf, numberOf, refusalNumbered, firstOf}
+use Rattle.srp.specs.Writing.{placed}
+use Rattle.srp.specs.Credit.{Open, Port}
+use Rattle.srp.specs.Take.{Outcome, silent, hasTag, isOpen, Tables, takeChecks, conducted, refusedBy, accepted, takeBy, takeDef}
+use Rattle.srp.specs.Calls.{unless, planChecks, planOutcome, planDef, addChecks, addOutcome, addDef, withdrawChecks, withdrawOutcome, withdrawDef, handOut, nextOf, stepChecks, stepOutcome, stepDef, finalResponse, finishChecks, finishOutcome, finishDef, grantChecks, grantOutcome, grantDef, closeChecks, closeOutcome, closeDef}
+use Rattle.srp.specs.Login.{loginChecks, rejections, judged, loginBy, loginDef}
+use Rattle.srp.specs.Answers.{returned, sizeOf, answerOf}
+use Rattle.srp.specs.declared.Settings.{Settings}
+use Rattle.srp.specs.declared.Direction.{Direction}
+use Rattle.srp.specs.declared.Direction.the-variants.{Out, In}
+use Rattle.srp.specs.declared.Piece.{Piece}
+use Rattle.srp.specs.declared.Refusal.{Refusal}
+use Rattle.srp.specs.declared.Message.{Message}
+use Rattle.srp.specs.declared.Message.the-variants.{Bad, Cmd, TskMgmt, CredRsp, ILogout}
+use Rattle.srp.specs.declared.Reply.{Reply}
+use Rattle.srp.specs.declared.Reply.the-variants.{Refused, Performed}
+use Rattle.srp.proofs.RefusalLaws.{numbered}
+use Rattle.srp.proofs.Checks.{passes, hit}
+use Rattle.answer.specs.Words.{answerWords}
+use Rattle.words.specs.View.{view}
+use Rattle.exports.specs.Calls.{InC, AnswersInC, StepsInC, RepliesInC, LogsInC}
+use Rattle.demand.specs.Replies.{unlessRefused, replyBy, performed, taken, stepped, loggedIn, written, messageIn}
+use Rattle.demand.specs.Judged.{readOn}
+
+-- ── one message at most
+
+-- and no empty one
+abbrev pub Single : List (List ℕ) → Type 0
+Single [] = Unit {0}
+Single (s ∷ []) = 1 ≤ length s
+Single (s ∷ t ∷ ss) = ⊥
+
+-- such a message is read back from the buffer in which it was placed
+back : (ws : List (List ℕ)) (b : List ℕ) → Single ws → written (sizeOf ws) (placed ws b) ≡ ws
+back [] b h = refl
+back ([] ∷ []) b h = absurd (not-suc-le-zero h)
+back ((x ∷ s) ∷ []) b h = rw (take-append-seam (x ∷ s) _)
+back (s ∷ t ∷ ss) b h = absurd h
+
+-- ── what is told
+
+-- an outcome whose reply the number and the words tell, as `said` reads them, with its message's length first
+pub record Told (said : List ℕ → Reply) (o : Outcome) : Type 0 where
+  pub reply : replyBy said (returned (o .reply)) (answerWords (answerOf o)) ≡ o .reply
+  pub size : getD (answerWords (answerOf o)) 0 0 ≡ sizeOf (o .wrote)
+  pub single : Single (o .wrote)
+
+-- a refusal, whatever the words
+refused : (said : List ℕ → Reply) (f : Refusal) (w : List ℕ) → replyBy said (numberOf f) w ≡ Refused f
+refused said f w = ap (λ (x : Option Refusal). unlessRefused x (said w)) (numbered f)
+
+refused-told : (said : List ℕ → Reply) (f : Refusal) (p : Port) (ws : List (List ℕ)) → Single ws → Told said (record { reply = Refused f; port = p; wrote = ws })
+refused-told said f p ws h = record { reply = refused said f _; size = refl; single = h }
+
+-- a call with its checks
+unless-told : (said : List ℕ → Reply) (x : Option Refusal) (p : Port) (o : Outcome) → (x ≡ none → Told said o) → Told said (unless x p o)
+unless-told said none p o h = h refl
+unless-told said (some f) p o h = refused-told said f p [] tt
+
+-- one that is performed
+performed-told : (p : Port) (ws : List (List ℕ)) → Single ws → Told performed (record { reply = Performed; port = p; wrote = ws })
+performed-told p ws h = record { reply = refl; size = refl; single = h }
+
+-- ── each call
+
+module _ (p : Port) where
+  conducted-told : (m : Message) (f : Refusal) (c : Conduct) → Told taken (conducted c p m f)
+  conducted-told m f (hangsUp reason) = refused-told taken f _ _ (omega arith)
+  conducted-told m f answered = refused-told taken f _ _ (omega arith)
+  conducted-told m f stays = refused-told taken f _ [] tt
+  conducted-told m f altersNothing = refused-told taken f _ [] tt
+
+  accepted-told : (s : List ℕ) (t : Tables) (m : Message) → Told taken (accepted p s t m)
+  accepted-told s t (Bad r) = conducted-told (Bad r) r (conductOf r)
+  accepted-told s t (Cmd c) = record { reply = refl; size = refl; single = tt }
+  accepted-told s t (TskMgmt k) = record { reply = refl; size = refl; single = omega arith }
+  accepted-told s t (CredRsp g) = record { reply = refl; size = refl; single = tt }
+  accepted-told s t ILogout = record { reply = refl; size = refl; single = tt }
+
+  pub take-told : (room : ℕ) (s : List ℕ) (t : Tables) → Told taken (takeDef p room s t)
+  take-told room s t = go (firstOf (takeChecks p room s t (readOn p s))) (readOn p s)
+    where
+      go : (v : Option Refusal) (m : Message) → Told taken (takeBy v p s t m)
+      go none m = accepted-told s t m
+      go (some f) m = conducted-told m f (conductOf f)
+
+  pub grant-told : (room : ℕ) → Told performed (grantDef p room)
+  grant-told room = unless-told performed (firstOf (grantChecks p room)) p (grantOutcome p) λ _. performed-told _ _ (omega arith)
+
+  pub close-told : (room reason : ℕ) → Told performed (closeDef p room reason)
+  close-told room reason = unless-told performed (firstOf (closeChecks p room)) p (closeOutcome p reason) λ _. performed-told _ _ (omega arith)
+
+  -- a command that is open has a response
+  response-single : (v : Option Open) (status : ℕ) (sense : List ℕ) (d : ℕ) → isSome v ≡ true → 1 ≤ length (finalResponse v status sense d)
+  response-single none status sense d e = absurd (true≢false (sym e))
+  response-single (some c) status sense d e = omega arith
+
+  pub finish-told : (room tag status : ℕ) (sense : List ℕ) → Told performed (finishDef p room tag status sense)
+  finish-told room tag status sense =
+      unless-told performed (firstOf (finishChecks p room tag status sense)) p (finishOutcome p tag status sense) λ e.
+      performed-told _ _
+      (response-single (find (hasTag tag) (p .held)) status sense _ (not-false (isOpen p tag) (passes (finishChecks p room tag status sense) e .1 .1 .1 .0)))
+
+  -- its words have no message's length
+  pub step-said : (tag : ℕ) (d : Direction) → replyBy stepped (returned (stepDef p tag d .reply)) (answerWords (answerOf (stepDef p tag d))) ≡ stepDef p tag d .reply
+  step-said tag d = go (firstOf (stepChecks p tag)) d (nextOf (p .terms) d (find (hasTag tag) (p .held)))
+    where
+      go : (x : Option Refusal) (d : Direction) (y : Option Piece)
+          → let o : Outcome = unless x p (handOut p tag d y) in
+          replyBy stepped (returned (o .reply)) (answerWords (answerOf o)) ≡ o .reply
+      go (some f) d y = refused stepped f (answerWords (answerOf (silent p (Refused f))))
+      go none d none = refl
+      go none Out (some o) = refl
+      go none In (some o) = refl
+
+-- plan, add, withdraw: they have no words
+abbrev pub Silent : Outcome → Type 0
+Silent o = (replyBy performed (returned (o .reply)) [] ≡ o .reply)
+
+silently-said : (x : Option Refusal) (p q : Port) → Silent (unless x p (silent q Performed))
+silently-said none p q = refl
+silently-said (some f) p q = refused performed f []
+
+module _ (p : Port) where
+  pub plan-said : (tag out inn : ℕ) → Silent (planDef p tag out inn)
+  plan-said tag out inn = silently-said (firstOf (planChecks p tag)) p (planOutcome p tag out inn .port)
+
+  pub add-said : (k : ℕ) → Silent (addDef p k)
+  add-said k = silently-said (firstOf (addChecks p k)) p (addOutcome p k .port)
+
+  pub withdraw-said : (k : ℕ) → Silent (withdrawDef p k)
+  withdraw-said k = silently-said (firstOf (withdrawChecks p k)) p (withdrawOutcome p k .port)
+
+pub login-told : (c : Settings) (own : List ℕ) (room : ℕ) (s : List ℕ) → Told loggedIn (loginDef c own room s)
+login-told c own room s = go (firstOf (loginChecks c room s)) (firstOf (rejections c own s)) refl
+  where
+    -- no rejection has the reason 0
+    some-reason : (reason : ℕ) → firstOf (rejections c own s) ≡ some reason → 1 ≤ reason
+    some-reason reason e =
+        hit (λ n. 1 ≤ n) (rejections c own s)
+        ((λ _. omega arith), ((λ _. omega arith), ((λ _. omega arith), ((λ _. omega arith), ((λ _. omega arith), ((λ _. omega arith), tt)))))) reason e
+
+    go : (x : Option Refusal) (y : Option ℕ) → firstOf (rejections c own s) ≡ y → Told loggedIn (loginBy x c own s)
+    go (some f) y e = refused-told loggedIn f _ [] tt
+    go none none e = rw e (record { reply = refl; size = refl; single = omega arith })
+    go none (some reason) e =
+        let z : eqb reason 0 ≡ false = ne-eqb reason 0 (λ q. let h : 1 ≤ reason = some-reason reason e in omega arith) in
+        rw e (record { reply = rw z; size = refl; single = omega arith })
+
+-- ── of the contracts in C
+
+outcome : (o : Outcome) (r : Reply) (p : Port) (ss : List (List ℕ)) → o .reply ≡ r → o .port ≡ p → o .wrote ≡ ss → o ≡ record { reply = r; port = p; wrote = ss }
+outcome o r p ss e f g = λ i. record { reply = e i; port = f i; wrote = g i }
+
+module _ {o : Outcome} {n : ℕ} {w : List ℕ} (N : InC n w o) where
+  -- the reply that the numbers say is the outcome's
+  reply-is : (said : List ℕ → Reply) → replyBy said (returned (o .reply)) (answerWords (answerOf o)) ≡ o .reply → o .reply ≡ replyBy said n w
+  reply-is said e = sym (ap (λ (k : ℕ). replyBy said k w) (N .number) ∙ ap (λ (l : List ℕ). replyBy said (returned (o .reply)) l) (N .words) ∙ e)
+
+  -- and the message, placed in the buffer b
+  message-is : (b b′ : List ℕ) → b′ ≡ placed (o .wrote) b → getD (answerWords (answerOf o)) 0 0 ≡ sizeOf (o .wrote) → Single (o .wrote) → o .wrote ≡ messageIn w b′
+  message-is b b′ e z h =
+      sym
+      (ap (λ (l : List ℕ). written (getD l 0 0) b′) (N .words)
+      ∙ ap (λ (k : ℕ). written k b′) z
+      ∙ ap (written (sizeOf (o .wrote))) e
+      ∙ back (o .wrote) b h)
+
+-- a call with a lent message buffer
+pub answers : {l st b l′ st′ b′ : List ℕ} {n : ℕ} {w : List ℕ} {o : Outcome} {said : List ℕ → Reply} → AnswersInC l st b l′ st′ b′ n w o → Told said o
+    → o ≡ record { reply = replyBy said n w; port = view l′ st′; wrote = messageIn w b′ }
+answers {l} {st} {b} {l′} {st′} {b′} {n} {w} {o} {said} A T =
+    outcome o (replyBy said n w) (view l′ st′) (messageIn w b′) (reply-is (A .numbers) said (T .reply)) (sym (A .call .port))
+    (message-is (A .numbers) b b′ (A .call .buffer) (T .size) (T .single))
+
+-- login
+pub logs-in : {st l′ b b′ : List ℕ} {n : ℕ} {w : List ℕ} {o : Outcome} {said : List ℕ → Reply} → LogsInC st l′ b b′ n w o → Told said o
+    → o ≡ record { reply = replyBy said n w; port = view l′ st; wrote = messageIn w b′ }
+logs-in {st} {l′} {b} {b′} {n} {w} {o} {said} A T =
+    outcome o (replyBy said n w) (view l′ st) (messageIn w b′) (reply-is (A .numbers) said (T .reply)) (sym (A .call .port))
+    (message-is (A .numbers) b b′ (A .call .buffer) (T .size) (T .single))
+
+-- step
+pub steps : {l st l′ : List ℕ} {n : ℕ} {w : List ℕ} {o : Outcome} → StepsInC l st l′ n w o
+    → replyBy stepped (returned (o .reply)) (answerWords (answerOf o)) ≡ o .reply
+    → o ≡ record { reply = replyBy stepped n w; port = view l′ st; wrote = [] }
+steps {l} {st} {l′} {n} {w} {o} S e = outcome o (replyBy stepped n w) (view l′ st) [] (reply-is (S .numbers) stepped e) (sym (S .call .port)) (S .call .wrote)
+
+-- a call without the answer's words
+pub replies : {l st l′ : List ℕ} {n : ℕ} {o : Outcome} → RepliesInC l st l′ n o → Silent o
+    → o ≡ record { reply = replyBy performed n []; port = view l′ st; wrote = [] }
+replies {l} {st} {l′} {n} {o} R e =
+    outcome o (replyBy performed n []) (view l′ st) [] (sym (ap (λ (k : ℕ). replyBy performed k []) (R .number) ∙ e)) (sym (R .call .port)) (R .call .wrote)

@@ -1,0 +1,181 @@
+-- A call was made: the contract of the C function holds of what it was given, what it returned and what it left. The contract is the function's own (the
+-- generated `Post`), so a weaker contract makes the theorems of proofs/ fail. The reply is what the number and the words say, the message stands in
+-- the lent buffer. κs are the lifetimes; p and q the lent words before and after, st and st′ the store, b and d the message buffer, w and v the answer.
+use mathlib.Core.Path.{_≡_}
+use mathlib.Core.List.{List, [], _∷_}
+use Prim.Native.Nat.{ℕ}
+use lib.ListN.{length}
+use denote.Ref.{RefT, now}
+use contract.Lifetimes.{Lfts}
+use Rattle.srp.specs.Credit.{Port}
+use Rattle.srp.specs.Take.{Tables}
+use Rattle.srp.specs.declared.Direction.{Direction}
+use Rattle.srp.specs.declared.Reply.{Reply}
+use Rattle.srp.specs.declared.Reply.the-variants.{Performed}
+use Rattle.machine.specs.Machine.{Machine}
+use Rattle.machine.specs.Events.{Event, sends, delivers, takes, plans, steps, finishes, adds, withdraws, grants}
+use Rattle.words.specs.View.{view}
+use Rattle.take.specs.Taking.{tables}
+use Rattle.exports.specs.Arguments.{directionIn}
+use Rattle.exports.proofs.port.srp_target_login.Reads as login-in-c
+use Rattle.exports.proofs.port.srp_target_take.Reads as take-in-c
+use Rattle.exports.proofs.port.srp_target_plan.Reads as plan-in-c
+use Rattle.exports.proofs.port.srp_target_step.Reads as step-in-c
+use Rattle.exports.proofs.port.srp_target_finish.Reads as finish-in-c
+use Rattle.exports.proofs.port.srp_target_add.Reads as add-in-c
+use Rattle.exports.proofs.port.srp_target_withdraw.Reads as withdraw-in-c
+use Rattle.exports.proofs.port.srp_target_grant.Reads as grant-in-c
+use Rattle.exports.proofs.port.srp_target_close.Reads as close-in-c
+use Rattle.demand.specs.Replies.{replyBy, performed, taken, stepped, loggedIn, messageIn}
+
+-- what the owner keeps of a port: its words and its store
+pub record Memory : Type 0 where
+  pub words : List ℕ
+  pub store : List ℕ
+
+abbrev pub seen : Memory → Port
+seen s = view (s .words) (s .store)
+
+-- ── login, with the five settings as numbers; p are the words that it left, r its reply, ss what it wrote
+
+pub record LoggedIn (settings own msg : List ℕ) (room : ℕ) (r : Reply) (ss : List (List ℕ)) (p : List ℕ) : Type 0 where
+  pub κs : Lfts 6
+  pub before : RefT (List ℕ)
+  pub after : RefT (List ℕ)
+  pub c : RefT (List ℕ)
+  pub id : RefT (List ℕ)
+  pub m : RefT (List ℕ)
+  pub b : RefT (List ℕ)
+  pub d : RefT (List ℕ)
+  pub w : RefT (List ℕ)
+  pub v : RefT (List ℕ)
+  pub n : ℕ
+  pub settings-are : now c ≡ settings
+  pub own-is : now id ≡ own
+  pub message : now m ≡ msg
+  pub room-is : length (now b) ≡ room
+  pub post : login-in-c.Post κs (before, (c, (id, (m, (b, (w, tt)))))) n (after, (c, (id, (m, (d, (v, tt))))))
+  pub reply : replyBy loggedIn n (now v) ≡ r
+  pub wrote : messageIn (now v) (now d) ≡ ss
+  pub words : now after ≡ p
+
+-- ── the calls with a lent message buffer
+
+pub record Took (s : Memory) (room : ℕ) (t : Tables) (msg : List ℕ) (r : Reply) (ss : List (List ℕ)) (s′ : Memory) : Type 0 where
+  pub κs : Lfts 5
+  pub p : RefT (List ℕ)
+  pub q : RefT (List ℕ)
+  pub st : RefT (List ℕ)
+  pub st′ : RefT (List ℕ)
+  pub m : RefT (List ℕ)
+  pub out : RefT (List ℕ)
+  pub inn : RefT (List ℕ)
+  pub b : RefT (List ℕ)
+  pub d : RefT (List ℕ)
+  pub w : RefT (List ℕ)
+  pub v : RefT (List ℕ)
+  pub n : ℕ
+  pub words : now p ≡ s .words
+  pub store : now st ≡ s .store
+  pub message : now m ≡ msg
+  pub lent : tables (now out) (now inn) ≡ t
+  pub room-is : length (now b) ≡ room
+  pub post : take-in-c.Post κs (p, (st, (m, (out, (inn, (b, (w, tt))))))) n (q, (st′, (m, (out, (inn, (d, (v, tt)))))))
+  pub reply : replyBy taken n (now v) ≡ r
+  pub wrote : messageIn (now v) (now d) ≡ ss
+  pub words′ : now q ≡ s′ .words
+  pub store′ : now st′ ≡ s′ .store
+
+-- finish, grant, close: Post is the function's contract, whatever its lifetimes
+pub record Answered (s : Memory) (room : ℕ) (Post : (p q b d w v : RefT (List ℕ)) (n : ℕ) → Type 0) (r : Reply) (ss : List (List ℕ)) (s′ : Memory) : Type 0 where
+  pub p : RefT (List ℕ)
+  pub q : RefT (List ℕ)
+  pub b : RefT (List ℕ)
+  pub d : RefT (List ℕ)
+  pub w : RefT (List ℕ)
+  pub v : RefT (List ℕ)
+  pub n : ℕ
+  pub words : now p ≡ s .words
+  pub room-is : length (now b) ≡ room
+  pub post : Post p q b d w v n
+  pub reply : replyBy performed n (now v) ≡ r
+  pub wrote : messageIn (now v) (now d) ≡ ss
+  pub words′ : now q ≡ s′ .words
+  pub store′ : s .store ≡ s′ .store
+
+abbrev pub Finished : Memory → (room tag status : ℕ) → List ℕ → Reply → List (List ℕ) → Memory → Type 0
+Finished s room tag status sense =
+    Answered s room λ p q b d w v n.
+    (κs : Lfts 4) × (e : RefT (List ℕ)) × (now e ≡ sense) × finish-in-c.Post κs (p, (tag, (status, (e, (b, (w, tt)))))) n (q, (tag, (status, (e, (d, (v, tt))))))
+
+abbrev pub Granted : Memory → (room : ℕ) → Reply → List (List ℕ) → Memory → Type 0
+Granted s room = Answered s room λ p q b d w v n. (κs : Lfts 3) × grant-in-c.Post κs (p, (b, (w, tt))) n (q, (d, (v, tt)))
+
+abbrev pub Closed : Memory → (room reason : ℕ) → Reply → List (List ℕ) → Memory → Type 0
+Closed s room reason = Answered s room λ p q b d w v n. (κs : Lfts 3) × close-in-c.Post κs (p, (reason, (b, (w, tt)))) n (q, (reason, (d, (v, tt))))
+
+-- ── the calls without one
+
+-- plan, add, withdraw: there are no words either
+pub record Silently (s : Memory) (Post : (p q : RefT (List ℕ)) (n : ℕ) → Type 0) (r : Reply) (ss : List (List ℕ)) (s′ : Memory) : Type 0 where
+  pub p : RefT (List ℕ)
+  pub q : RefT (List ℕ)
+  pub n : ℕ
+  pub words : now p ≡ s .words
+  pub post : Post p q n
+  pub reply : replyBy performed n [] ≡ r
+  pub wrote : [] ≡ ss
+  pub words′ : now q ≡ s′ .words
+  pub store′ : s .store ≡ s′ .store
+
+abbrev pub Planned : Memory → (tag out inn : ℕ) → Reply → List (List ℕ) → Memory → Type 0
+Planned s tag out inn = Silently s λ p q n. (κs : Lfts 1) × plan-in-c.Post κs (p, (tag, (out, (inn, tt)))) n (q, (tag, (out, (inn, tt))))
+
+abbrev pub Added : Memory → (k : ℕ) → Reply → List (List ℕ) → Memory → Type 0
+Added s k = Silently s λ p q n. (κs : Lfts 1) × add-in-c.Post κs (p, (k, tt)) n (q, (k, tt))
+
+abbrev pub Withdrew : Memory → (k : ℕ) → Reply → List (List ℕ) → Memory → Type 0
+Withdrew s k = Silently s λ p q n. (κs : Lfts 1) × withdraw-in-c.Post κs (p, (k, tt)) n (q, (k, tt))
+
+-- the direction as a number
+pub record Stepped (s : Memory) (tag : ℕ) (direction : Direction) (r : Reply) (ss : List (List ℕ)) (s′ : Memory) : Type 0 where
+  pub κs : Lfts 3
+  pub p : RefT (List ℕ)
+  pub q : RefT (List ℕ)
+  pub st : RefT (List ℕ)
+  pub w : RefT (List ℕ)
+  pub v : RefT (List ℕ)
+  pub k : ℕ
+  pub n : ℕ
+  pub words : now p ≡ s .words
+  pub store : now st ≡ s .store
+  pub direction-is : directionIn k ≡ direction
+  pub post : step-in-c.Post κs (p, (st, (tag, (k, (w, tt))))) n (q, (st, (tag, (k, (v, tt)))))
+  pub reply : replyBy stepped n (now v) ≡ r
+  pub wrote : [] ≡ ss
+  pub words′ : now q ≡ s′ .words
+  pub store′ : s .store ≡ s′ .store
+
+-- no call is made: sending and delivering do not touch the port, and with an empty queue no take happens
+pub record Untouched (s : Memory) (r : Reply) (ss : List (List ℕ)) (s′ : Memory) : Type 0 where
+  pub reply : Performed ≡ r
+  pub wrote : [] ≡ ss
+  pub same : s ≡ s′
+
+-- ── the call that an event makes
+
+abbrev pub TookFront : Memory → ℕ → Tables → List (List ℕ) → Reply → List (List ℕ) → Memory → Type 0
+TookFront s room t [] r ss s′ = Untouched s r ss s′
+TookFront s room t (msg ∷ rest) r ss s′ = Took s room t msg r ss s′
+
+-- on s with the machine m it replied r, wrote ss and left s′
+abbrev pub Call : Memory → Machine → Event → Reply → List (List ℕ) → Memory → Type 0
+Call s m (sends x) r ss s′ = Untouched s r ss s′
+Call s m delivers r ss s′ = Untouched s r ss s′
+Call s m (takes room t) r ss s′ = TookFront s room t (m .wire .toPort) r ss s′
+Call s m (plans tag out inn) r ss s′ = Planned s tag out inn r ss s′
+Call s m (steps tag d) r ss s′ = Stepped s tag d r ss s′
+Call s m (finishes room tag status sense) r ss s′ = Finished s room tag status sense r ss s′
+Call s m (adds k) r ss s′ = Added s k r ss s′
+Call s m (withdraws k) r ss s′ = Withdrew s k r ss s′
+Call s m (grants room) r ss s′ = Granted s room r ss s′

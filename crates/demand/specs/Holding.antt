@@ -1,0 +1,37 @@
+-- Demand 3, of the C functions: of every list of events that follows an accepted login, and what the owner then reads.
+use mathlib.Core.Path.{_≡_}
+use mathlib.Core.List.{List, [], _∷_, _++_, map}
+use Prim.Native.Nat.{ℕ, _*_, _/_, _≤_}
+use lib.ListN.{length, drop, replicate}
+use Rattle.srp.specs.Limits.{mostBuffers}
+use Rattle.srp.specs.Credit.{owed}
+use Rattle.srp.specs.declared.Settings.{Settings}
+use Rattle.srp.specs.declared.Reply.the-variants.{Accepted, Counts}
+use Rattle.machine.specs.Machine.{shownAs, Machine, start, requestsHeld, Login, loginOf}
+use Rattle.machine.specs.Events.{Event}
+use Rattle.machine.specs.Demand.{counted, Run, Fair, Demand}
+use Rattle.answer.specs.Words.{answerWords}
+use Rattle.exports.specs.Arguments.{recordSize, allWords, settingsIn}
+use Rattle.demand.specs.Calls.{Memory, seen, LoggedIn, Call}
+
+-- the login with these settings and this message was accepted and left the words p, and each call is made on the words and the store that the last
+-- one left; `store` is whatever the owner lent
+abbrev pub Holds : (settings own msg : List ℕ) (room : ℕ) (ss : List (List ℕ)) (p store : List ℕ) → Type 0
+Holds settings own msg room ss p store =
+    LoggedIn settings own msg room Accepted ss p
+    → let c : Settings = settingsIn settings in
+    let L : Login = loginOf c msg in
+    let s : Memory = record { words = p; store = store } in
+    (es : List Event) (run : Run L seen Call s (start (c .buffers)) es) → Fair L seen Call s (start (c .buffers)) es run → Demand L seen Call s (start (c .buffers)) es run
+
+-- what the counters answer, the number n and the words w: "W, A, H and D", the first three as the machine has counted them
+abbrev pub Reports : (L : Login) (m : Machine) (s : Memory) (n : ℕ) (w : List ℕ) → Type 0
+Reports L m s n w = (n ≡ 0) × (w ≡ answerWords (record { reply = Counts (counted L m (owed (seen s))); wrote = 0 }))
+
+-- what the listing answers and leaves of the lent words, where they have room for 16 records: "each command once", as many as the machine holds,
+-- "the rest of the list untouched"
+abbrev pub Lists : (m : Machine) (before after : List ℕ) (n : ℕ) (w : List ℕ) → Type 0
+Lists m before after n w =
+    mostBuffers ≤ length before / recordSize
+    → let records : List ℕ = allWords (map shownAs (m .work .tracks)) in
+    (n ≡ 0) × (w ≡ requestsHeld m ∷ replicate 7 0) × (after ≡ records ++ drop (length records) before)

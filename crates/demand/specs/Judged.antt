@@ -1,0 +1,163 @@
+-- Demand 1, of the C functions: "A message handed to the port .. is taken, or draws the refusal that document 01 names for it and no other. Every public
+-- call makes its own checks and returns, and after a refusal the port's state and each lent buffer hold what document 01 says". l and st are the port's
+-- words and store before the call, l′ and st′ after it; b and b′ the lent buffer; n is returned, w are the words of the answer.
+use mathlib.Core.Path.{_≡_}
+use mathlib.Core.Logic.{_↔_}
+use mathlib.Core.List.{List, [], _∷_, _++_}
+use mathlib.Core.Option.{none, some}
+use Prim.Native.Nat.{ℕ, _/_, min}
+use lib.Dec.{ltb}
+use lib.ListN.{length, drop, replicate}
+use Rattle.srp.specs.Refusals.{hangsUp, answered, stays, altersNothing, numberOf, conductOf, Check, firstOf}
+use Rattle.srp.specs.Descriptors.{segmentsOf, sumOf, fetchOf}
+use Rattle.srp.specs.Requests.{readMessage, lookChecks, outDescriptor, inDescriptor}
+use Rattle.srp.specs.Cutting.{upTo, next, cutNext, cutChecks}
+use Rattle.srp.specs.Credit.{Port, closedPort}
+use Rattle.srp.specs.Writing.{targetLogout, placed}
+use Rattle.srp.specs.Take.{Outcome, Tables, answerBad, refusedBy, accepted}
+use Rattle.srp.specs.Order.{takeOrder}
+use Rattle.srp.specs.Calls.{planChecks, planOutcome, stepChecks, stepOutcome, finishChecks, finishOutcome, addChecks, addOutcome, withdrawChecks, withdrawOutcome, grantChecks, grantOutcome, closeChecks, closeOutcome, countersChecks, countersOutcome, listing, listChecks, listOutcome}
+use Rattle.srp.specs.Login.{loginChecks, rejections, opened, loginResponse, loginReject, judged}
+use Rattle.srp.specs.Outside.{fetchBytes, cutAnswer}
+use Rattle.srp.specs.Answers.{answerOf}
+use Rattle.srp.specs.declared.Refusal.{Refusal}
+use Rattle.srp.specs.declared.Refusal.the-variants.{ShortBuffer}
+use Rattle.srp.specs.declared.Settings.{Settings}
+use Rattle.srp.specs.declared.Message.{Message}
+use Rattle.srp.specs.declared.Reply.the-variants.{Accepted, Rejected}
+use Rattle.answer.specs.Words.{answerWords}
+use Rattle.words.specs.View.{view, closedWords}
+use Rattle.exports.specs.Arguments.{recordSize, allWords, settingsIn, directionIn}
+use Rattle.demand.specs.Replies.{replyBy, loggedIn}
+
+-- ── one record for every call
+
+-- of a call with these checks, in document 01's order: what it does where none hits, and what each refusal leaves
+pub record Judged (checks : List Check) (n : ℕ) (Performs : Type 0) (Leaves : Refusal → Type 0) : Type 0 where
+  -- refused with f exactly if f is the first of the checks that hits
+  pub refuses : (f : Refusal) → (n ≡ numberOf f) ↔ (firstOf checks ≡ some f)
+  pub unrefused : (n ≡ 0) ↔ (firstOf checks ≡ none)
+  pub performs : firstOf checks ≡ none → Performs
+  pub leaves : (f : Refusal) → firstOf checks ≡ some f → Leaves f
+
+-- the words of a refusal without a message
+abbrev pub noWords : List ℕ
+noWords = replicate 8 0
+
+-- the outcome o of a call with a lent buffer: the words, the port and every byte of the buffer
+pub record Comes (o : Outcome) (l′ st′ b b′ w : List ℕ) : Type 0 where
+  pub words : w ≡ answerWords (answerOf o)
+  pub port : view l′ st′ ≡ o .port
+  pub buffer : b′ ≡ placed (o .wrote) b
+
+-- "returns its number and alters nothing": no word of the port, no byte of the buffer
+pub record Unaltered (l b l′ b′ w : List ℕ) : Type 0 where
+  pub words : w ≡ noWords
+  pub port : l′ ≡ l
+  pub buffer : b′ ≡ b
+
+-- ── take, of every message s with the tables t
+
+-- the message as the port p reads it
+abbrev pub readOn : Port → List ℕ → Message
+readOn p s = readMessage (p .terms .agreed) (p .terms .formats) s
+
+-- what is left after take refused it with f, a part for each conduct
+pub record Left (l st b l′ st′ b′ s w : List ℕ) (f : Refusal) : Type 0 where
+  -- the length of the message written, and nothing else
+  pub words : w ≡ answerWords (answerOf (refusedBy (view l st) (readOn (view l st) s) f))
+  -- 3 to 8, 22, 23 and 25 "write SRP_T_LOGOUT, drop all commands and close": every word is the closed port's
+  pub hung-up : (reason : ℕ) → conductOf f ≡ hangsUp reason
+      → (l′ ≡ closedWords) × (view l′ st′ ≡ closedPort) × (b′ ≡ placed (targetLogout (view l st .terms .losolnt) reason ∷ []) b)
+  -- 10 "is taken and answered in the same call"
+  pub responded : conductOf f ≡ answered
+      → let o : Outcome = answerBad (view l st) (readOn (view l st) s) f in
+      (view l′ st′ ≡ o .port) × (b′ ≡ placed (o .wrote) b)
+  -- "Every other refusal returns its number and alters nothing": 1 and 9, on which the message stays in its queue
+  pub stayed : conductOf f ≡ stays → Unaltered l b l′ b′ w
+  -- and those on which it leaves
+  pub unaltered : conductOf f ≡ altersNothing → Unaltered l b l′ b′ w
+  -- whatever the refusal, no byte of the store
+  pub store : st′ ≡ st
+
+abbrev pub JudgesTake : (l st b l′ st′ b′ s : List ℕ) → Tables → (n : ℕ) (w : List ℕ) → Type 0
+JudgesTake l st b l′ st′ b′ s t n w =
+    Judged (takeOrder (view l st) (length b) s t) n (Comes (accepted (view l st) s t (readOn (view l st) s)) l′ st′ b b′ w) (Left l st b l′ st′ b′ s w)
+
+-- ── login with the settings c, whose own identifier is `own`, by its rejections
+
+pub record LoginJudged (c : Settings) (own s l′ st b b′ : List ℕ) (n : ℕ) (w : List ℕ) : Type 0 where
+  -- rejected for a reason exactly if it is the first that fits, and accepted exactly if none does
+  pub rejects : (reason : ℕ) → (replyBy loggedIn n w ≡ Rejected reason) ↔ (firstOf (rejections c own s) ≡ some reason)
+  pub accepts : (replyBy loggedIn n w ≡ Accepted) ↔ (firstOf (rejections c own s) ≡ none)
+  pub comes : Comes (judged (firstOf (rejections c own s)) c s) l′ st b b′ w
+  -- a rejection leaves the closed port's words
+  pub closed : (reason : ℕ) → firstOf (rejections c own s) ≡ some reason → l′ ≡ closedWords
+
+-- "without an accepted login it is closed": a refused login leaves the closed port's words too
+abbrev pub JudgesLogin : (b l′ b′ settings own s : List ℕ) (n : ℕ) (w : List ℕ) → Type 0
+JudgesLogin b l′ b′ settings own s n w =
+    (st : List ℕ)
+    → Judged (loginChecks (settingsIn settings) (length b) s) n (LoginJudged (settingsIn settings) own s l′ st b b′ n w) (λ f. Unaltered closedWords b l′ b′ w)
+
+-- ── the other calls on a port; those that are not lent the store, for every store
+
+abbrev pub JudgesPlan : (l l′ : List ℕ) (tag out inn n : ℕ) → Type 0
+JudgesPlan l l′ tag out inn n = (st : List ℕ) → Judged (planChecks (view l st) tag) n (view l′ st ≡ planOutcome (view l st) tag out inn .port) (λ f. l′ ≡ l)
+
+abbrev pub JudgesStep : (l l′ st : List ℕ) (tag direction n : ℕ) (w : List ℕ) → Type 0
+JudgesStep l l′ st tag direction n w =
+    Judged (stepChecks (view l st) tag) n (Comes (stepOutcome (view l st) tag (directionIn direction)) l′ st [] [] w) (λ f. Unaltered l [] l′ [] w)
+
+abbrev pub JudgesFinish : (l b l′ b′ : List ℕ) (tag status : ℕ) (sense : List ℕ) (n : ℕ) (w : List ℕ) → Type 0
+JudgesFinish l b l′ b′ tag status sense n w =
+    (st : List ℕ)
+    → Judged (finishChecks (view l st) (length b) tag status sense) n (Comes (finishOutcome (view l st) tag status sense) l′ st b b′ w) (λ f. Unaltered l b l′ b′ w)
+
+abbrev pub JudgesAdd : (l l′ : List ℕ) (k n : ℕ) → Type 0
+JudgesAdd l l′ k n = (st : List ℕ) → Judged (addChecks (view l st) k) n (view l′ st ≡ addOutcome (view l st) k .port) (λ f. l′ ≡ l)
+
+abbrev pub JudgesWithdraw : (l l′ : List ℕ) (k n : ℕ) → Type 0
+JudgesWithdraw l l′ k n = (st : List ℕ) → Judged (withdrawChecks (view l st) k) n (view l′ st ≡ withdrawOutcome (view l st) k .port) (λ f. l′ ≡ l)
+
+abbrev pub JudgesGrant : (l b l′ b′ : List ℕ) (n : ℕ) (w : List ℕ) → Type 0
+JudgesGrant l b l′ b′ n w =
+    (st : List ℕ) → Judged (grantChecks (view l st) (length b)) n (Comes (grantOutcome (view l st)) l′ st b b′ w) (λ f. Unaltered l b l′ b′ w)
+
+-- an unrefused close leaves the closed port's words
+abbrev pub JudgesClose : (l b l′ b′ : List ℕ) (reason n : ℕ) (w : List ℕ) → Type 0
+JudgesClose l b l′ b′ reason n w =
+    (st : List ℕ)
+    → Judged (closeChecks (view l st) (length b)) n (Comes (closeOutcome (view l st) reason) l′ st b b′ w × (l′ ≡ closedWords)) (λ f. Unaltered l b l′ b′ w)
+
+-- ── counters and listing, which change no word
+
+abbrev pub JudgesCounters : (l : List ℕ) (n : ℕ) (w : List ℕ) → Type 0
+JudgesCounters l n w = (st : List ℕ) → Judged (countersChecks (view l st)) n (w ≡ answerWords (answerOf (countersOutcome (view l st)))) (λ f. w ≡ noWords)
+
+-- the lent words before and after it hold a fourth as many records
+abbrev pub JudgesList : (l before after : List ℕ) (n : ℕ) (w : List ℕ) → Type 0
+JudgesList l before after n w =
+    (st : List ℕ)
+    → let records : List ℕ = allWords (listing (view l st)) in
+    Judged (listChecks (view l st) (length before / recordSize)) n
+    ((w ≡ answerWords (answerOf (listOutcome (view l st)))) × (after ≡ records ++ drop (length records) before))
+    (λ f. (w ≡ noWords) × (after ≡ before))
+
+-- ── look and the cut
+
+-- "In C the answer takes 32 bytes (a shorter buffer draws 1 first)"
+abbrev pub shortAnswer : ℕ → Check
+shortAnswer room = (ltb room 32, ShortBuffer)
+
+abbrev pub JudgesLook : (agreed formats : ℕ) (s b b′ : List ℕ) (n : ℕ) → Type 0
+JudgesLook agreed formats s b b′ n =
+    Judged (shortAnswer (length b) ∷ lookChecks agreed formats s) n
+    (b′ ≡ placed ((fetchBytes (fetchOf (outDescriptor s) s) ++ fetchBytes (fetchOf (inDescriptor s) s)) ∷ []) b)
+    (λ f. b′ ≡ b)
+
+abbrev pub JudgesCut : (list : List ℕ) (M R handed : ℕ) (b b′ : List ℕ) (n : ℕ) → Type 0
+JudgesCut list M R handed b b′ n =
+    Judged (shortAnswer (length b) ∷ cutChecks list M R handed) n
+    (b′ ≡ placed (cutAnswer (cutNext (next (upTo M) handed (min R (sumOf (segmentsOf list))) (segmentsOf list))) .wrote) b)
+    (λ f. b′ ≡ b)
