@@ -1,9 +1,11 @@
 -- How a promise in C says demand 1 of its call. Assumes nothing.
 use mathlib.Core.Path.{_≡_, refl, sym, _∙_, ap}
 use mathlib.Core.Logic.{_↔_}
+use mathlib.Core.Bool.{Bool, true, false, cond}
 use mathlib.Core.List.{List, [], _∷_}
 use mathlib.Core.Option.{Option, none, some, Option·none-ne-some, Option·some-ne-none, Option·some-injective}
 use Prim.Native.Nat.{ℕ}
+use lib.Dec.{ltb}
 use native.Mathlib.Omega.{arith}
 use Rattle.srp.specs.Refusals.{numberOf, Check, firstOf}
 use Rattle.srp.specs.Credit.{Port}
@@ -11,12 +13,15 @@ use Rattle.srp.specs.Writing.{placed}
 use Rattle.srp.specs.Take.{Outcome}
 use Rattle.srp.specs.Calls.{unless}
 use Rattle.srp.specs.Answers.{returned, answerOf}
+use Rattle.srp.specs.Outside.{CReturn, refusingC, inBuffer}
 use Rattle.srp.specs.declared.Refusal.{Refusal}
+use Rattle.srp.specs.declared.Refusal.the-variants.{ShortBuffer}
 use Rattle.srp.proofs.RefusalLaws.{number-range, number-injective}
 use Rattle.answer.specs.Words.{answerWords}
 use Rattle.words.specs.View.{view}
+use Rattle.exports.specs.Answered.{Answered}
 use Rattle.exports.specs.Calls.{InC, AnswersInC, StepsInC, RepliesInC}
-use Rattle.demand.specs.Judged.{Judged, Comes, Unaltered, noWords}
+use Rattle.demand.specs.Judged.{Judged, Comes, Unaltered, noWords, shortAnswer}
 
 -- ── of any call
 
@@ -25,7 +30,7 @@ abbrev pub numberFor : Option Refusal → ℕ
 numberFor none = 0
 numberFor (some f) = numberOf f
 
-not-zero : (f : Refusal) → numberOf f ≡ 0 → ⊥
+pub not-zero : (f : Refusal) → numberOf f ≡ 0 → ⊥
 not-zero f e = omega (arith, number-range f .0)
 
 module _ (n : ℕ) where
@@ -92,3 +97,41 @@ module _ (p : Port) (o : Outcome) (unrefused : returned (o .reply) ≡ 0) where
       judge checks n (w ≡ answerWords (answerOf o)) (λ f. w ≡ noWords) (N .number ∙ number-is (firstOf checks))
       (λ e. N .words ∙ ap (λ (x : Option Refusal). answerWords (answerOf (unless x p o))) e)
       (λ f e. N .words ∙ ap (λ (x : Option Refusal). answerWords (answerOf (unless x p o))) e)
+
+  -- step: with words and no buffer
+  pub judge-steps : (checks : List Check) (l st l′ : List ℕ) (n : ℕ) (w : List ℕ) → o .wrote ≡ [] → StepsInC l st l′ n w (unless (firstOf checks) p o)
+      → Judged checks n (Comes o l′ st [] [] w) (λ f. Unaltered l [] l′ [] w)
+  judge-steps checks l st l′ n w nothing S =
+      judge checks n (Comes o l′ st [] [] w) (λ f. Unaltered l [] l′ [] w) (S .numbers .number ∙ number-is (firstOf checks))
+      (λ e. record {
+        words = S .numbers .words ∙ ap (λ (x : Option Refusal). answerWords (answerOf (unless x p o))) e;
+        port = S .call .port ∙ ap (λ (x : Option Refusal). unless x p o .port) e;
+        buffer = ap (λ (ss : List (List ℕ)). placed ss []) (sym nothing);
+      })
+      (λ f e. record {
+        words = S .numbers .words ∙ ap (λ (x : Option Refusal). answerWords (answerOf (unless x p o))) e;
+        port = S .call .raw (λ z. not-zero f (sym (ap (λ (x : Option Refusal). returned (unless x p o .reply)) e) ∙ z)) .0;
+        buffer = refl;
+      })
+
+-- ── look and the cut: g is what C is given, by the first check that hits
+
+module _ (g : Option Refusal → CReturn) (refused : (f : Refusal) → g (some f) ≡ refusingC f) (unrefused : g none .returns ≡ 0) where
+  pub judge-bytes : (checks : List Check) (room n : ℕ) (b b′ : List ℕ) → Answered n b b′ (inBuffer room (g (firstOf checks)))
+      → Judged (shortAnswer room ∷ checks) n (b′ ≡ placed (g none .wrote) b) (λ f. b′ ≡ b)
+  judge-bytes checks room n b b′ A =
+      judge (shortAnswer room ∷ checks) n (b′ ≡ placed (g none .wrote) b) (λ f. b′ ≡ b)
+      (A .number ∙ ap (λ (a : CReturn). a .returns) first ∙ number (firstOf (shortAnswer room ∷ checks)))
+      (λ e. A .buffer ∙ ap (λ (a : CReturn). placed (a .wrote) b) (first ∙ ap g e))
+      (λ f e. A .buffer ∙ ap (λ (a : CReturn). placed (a .wrote) b) (first ∙ ap g e ∙ refused f))
+    where
+      first-of : (t : Bool) (x : Option Refusal) → cond t (refusingC ShortBuffer) (g x) ≡ g (cond t (some ShortBuffer) x)
+      first-of true x = sym (refused ShortBuffer)
+      first-of false x = refl
+
+      first : inBuffer room (g (firstOf checks)) ≡ g (firstOf (shortAnswer room ∷ checks))
+      first = first-of (ltb room 32) (firstOf checks)
+
+      number : (x : Option Refusal) → g x .returns ≡ numberFor x
+      number none = unrefused
+      number (some f) = ap (λ (a : CReturn). a .returns) (refused f)

@@ -1,3 +1,6 @@
 pub mod Told
 pub mod Judging
+pub mod Judges
+pub mod JudgesTake
+pub mod JudgesLogin
 pub mod Holds

@@ -77,8 +77,6 @@ pub record Left (l st b l′ st′ b′ s w : List ℕ) (f : Refusal) : Type 0 w
   pub stayed : conductOf f ≡ stays → Unaltered l b l′ b′ w
   -- and those on which it leaves
   pub unaltered : conductOf f ≡ altersNothing → Unaltered l b l′ b′ w
-  -- whatever the refusal, no byte of the store
-  pub store : st′ ≡ st
 
 abbrev pub JudgesTake : (l st b l′ st′ b′ s : List ℕ) → Tables → (n : ℕ) (w : List ℕ) → Type 0
 JudgesTake l st b l′ st′ b′ s t n w =

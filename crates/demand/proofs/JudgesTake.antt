@@ -1,0 +1,149 @@
+-- Demand 1 of `srp_target_take`: a message is taken, or draws the refusal that document 01 names and no other, and after a refusal the port and each
+-- lent buffer hold what document 01 says.
+-- Assumes nothing.
+use mathlib.Core.Path.{_≡_, refl, sym, _∙_, ap}
+use mathlib.Core.Bool.{Bool, true, false, cond, not, true≢false}
+use mathlib.Core.List.{List, [], _∷_}
+use mathlib.Core.Option.{Option, none, some, Option·some-injective}
+use Prim.Native.Nat.{ℕ}
+use native.Mathlib.Omega.{arith}
+use lib.Dec.{ltb}
+use lib.ListN.{length}
+use denote.Ref.{RefT, now}
+use contract.Lifetimes.{Lfts}
+use Rattle.srp.specs.Limits.{bufferSize}
+use Rattle.srp.specs.Refusals.{Conduct, hangsUp, answered, stays, altersNothing, numberOf, conductOf, firstOf}
+use Rattle.srp.specs.Credit.{Port}
+use Rattle.srp.specs.Writing.{placed}
+use Rattle.srp.specs.Take.{Outcome, Tables, laterChecks, takeChecks, conducted, refusedBy, accepted, takeBy, takeDef}
+use Rattle.srp.specs.Order.{takeOrder}
+use Rattle.srp.specs.Answers.{returned, sizeOf, answerOf}
+use Rattle.srp.specs.declared.Refusal.{Refusal}
+use Rattle.srp.specs.declared.Refusal.the-variants.{ShortBuffer, Closed}
+use Rattle.srp.specs.declared.Message.{Message}
+use Rattle.srp.specs.declared.Message.the-variants.{Bad, Cmd, TskMgmt, CredRsp, ILogout}
+use Rattle.srp.proofs.Checks.{passes}
+use Rattle.srp.proofs.Refusing.{take-order}
+use Rattle.answer.specs.Words.{answerWords}
+use Rattle.words.specs.View.{view}
+use Rattle.take.specs.Taking.{tables}
+use Rattle.exports.specs.Calls.{TakeInC}
+use Rattle.exports.proofs.port.srp_target_take.Reads as take-in-c
+use Rattle.demand.specs.Judged.{noWords, Comes, Unaltered, readOn, Left, JudgesTake}
+use Rattle.demand.proofs.Judging.{numberFor, not-zero, judge}
+
+-- ── of the definition
+
+module _ (p : Port) (room : ℕ) (s : List ℕ) (t : Tables) where
+  -- what is returned where a refusal is drawn
+  refused-number : (m : Message) (f : Refusal) (c : Conduct) → returned (conducted c p m f .reply) ≡ numberOf f
+  refused-number m f (hangsUp reason) = refl
+  refused-number m f answered = refl
+  refused-number m f stays = refl
+  refused-number m f altersNothing = refl
+
+  take-number : (m : Message) (x : Option Refusal) → firstOf (takeChecks p room s t m) ≡ x → returned (takeBy x p s t m .reply) ≡ numberFor x
+  take-number m (some f) e = refused-number m f (conductOf f)
+  take-number (Bad r) none e = absurd (true≢false (passes (takeChecks p room s t (Bad r)) e .1 .1 .0))
+  take-number (Cmd c) none e = refl
+  take-number (TskMgmt k) none e = refl
+  take-number (CredRsp g) none e = refl
+  take-number ILogout none e = refl
+
+  -- take goes by the first of document 01's list that hits
+  by-order : takeDef p room s t ≡ takeBy (firstOf (takeOrder p room s t)) p s t (readOn p s)
+  by-order = ap (λ (x : Option Refusal). takeBy x p s t (readOn p s)) (sym (take-order p room s t))
+
+  order-number : returned (takeDef p room s t .reply) ≡ numberFor (firstOf (takeOrder p room s t))
+  order-number = take-number (readOn p s) (firstOf (takeChecks p room s t (readOn p s))) refl ∙ ap numberFor (sym (take-order p room s t))
+
+  -- it hangs up only while the channel is open: 1 and 21 do not hang up
+  hangs-open : (f : Refusal) → firstOf (takeOrder p room s t) ≡ some f → (reason : ℕ) → conductOf f ≡ hangsUp reason → p .live ≡ true
+  hangs-open f e reason h = go (ltb room bufferSize) (p .live) (firstOf (laterChecks p s t (readOn p s))) (sym (take-order p room s t) ∙ e)
+    where
+      -- what the first check's refusal does
+      does : (r : Refusal) → some r ≡ some f → conductOf r ≡ hangsUp reason
+      does r q = ap conductOf (Option·some-injective r f q) ∙ h
+
+      go : (a b : Bool) (v : Option Refusal) → cond a (some ShortBuffer) (cond (not b) (some Closed) v) ≡ some f → b ≡ true
+      go true b v q = let z : stays ≡ hangsUp reason = does ShortBuffer q in cc
+      go false true v q = refl
+      go false false v q = let z : altersNothing ≡ hangsUp reason = does Closed q in cc
+
+-- ── of the contract
+
+module _ {l st b l′ st′ b′ : List ℕ} {n : ℕ} {w : List ℕ} (s : List ℕ) (t : Tables) (A : TakeInC l st b l′ st′ b′ s t n w) where
+  -- where none of document 01's checks hits, the message is taken
+  taken : firstOf (takeOrder (view l st) (length b) s t) ≡ none → Comes (accepted (view l st) s t (readOn (view l st) s)) l′ st′ b b′ w
+  taken e =
+      let is : takeDef (view l st) (length b) s t ≡ accepted (view l st) s t (readOn (view l st) s) =
+      by-order (view l st) (length b) s t ∙ ap (λ (x : Option Refusal). takeBy x (view l st) s t (readOn (view l st) s)) e in
+      record {
+        words = A .numbers .words ∙ ap (λ (x : Outcome). answerWords (answerOf x)) is;
+        port = A .call .port ∙ ap (λ (x : Outcome). x .port) is;
+        buffer = A .call .buffer ∙ ap (λ (x : Outcome). placed (x .wrote) b) is;
+      }
+
+  module _ (f : Refusal) (e : firstOf (takeOrder (view l st) (length b) s t) ≡ some f) where
+    refused : takeDef (view l st) (length b) s t ≡ refusedBy (view l st) (readOn (view l st) s) f
+    refused = by-order (view l st) (length b) s t ∙ ap (λ (x : Option Refusal). takeBy x (view l st) s t (readOn (view l st) s)) e
+
+    words-are : w ≡ answerWords (answerOf (refusedBy (view l st) (readOn (view l st) s) f))
+    words-are = A .numbers .words ∙ ap (λ (x : Outcome). answerWords (answerOf x)) refused
+
+    -- what it comes to, by its conduct
+    module _ (c : Conduct) (is : conductOf f ≡ c) where
+      outcome : takeDef (view l st) (length b) s t ≡ conducted c (view l st) (readOn (view l st) s) f
+      outcome = refused ∙ ap (λ (x : Conduct). conducted x (view l st) (readOn (view l st) s) f) is
+
+      port-is : view l′ st′ ≡ conducted c (view l st) (readOn (view l st) s) f .port
+      port-is = A .call .port ∙ ap (λ (x : Outcome). x .port) outcome
+
+      buffer-is : b′ ≡ placed (conducted c (view l st) (readOn (view l st) s) f .wrote) b
+      buffer-is = A .call .buffer ∙ ap (λ (x : Outcome). placed (x .wrote) b) outcome
+
+      -- nothing is altered where nothing is written
+      same : conducted c (view l st) (readOn (view l st) s) f .wrote ≡ [] → Unaltered l b l′ b′ w
+      same z =
+          let size : answerOf (takeDef (view l st) (length b) s t) .wrote ≡ 0 = ap (λ (x : Outcome). sizeOf (x .wrote)) outcome ∙ ap sizeOf z in
+          let not-zero-is : returned (takeDef (view l st) (length b) s t .reply) ≡ 0 → ⊥ =
+          λ q. not-zero f (sym (ap numberFor e) ∙ sym (order-number (view l st) (length b) s t) ∙ q) in
+          record {
+            words =
+                A .numbers .words
+                ∙ ap (λ (x : Outcome). answerWords (answerOf x)) outcome
+                ∙ ap (λ (k : ℕ). answerWords (record { reply = conducted c (view l st) (readOn (view l st) s) f .reply; wrote = k })) (ap sizeOf z)
+                ∙ refusal-words c;
+            port = A .call .raw not-zero-is size .0;
+            buffer = buffer-is ∙ ap (λ (x : List (List ℕ)). placed x b) z;
+          }
+        where
+          refusal-words : (c : Conduct) → answerWords (record { reply = conducted c (view l st) (readOn (view l st) s) f .reply; wrote = 0 }) ≡ noWords
+          refusal-words (hangsUp reason) = refl
+          refusal-words answered = refl
+          refusal-words stays = refl
+          refusal-words altersNothing = refl
+
+    left : Left l st b l′ st′ b′ s w f
+    left =
+        record {
+          words = words-are;
+          hung-up = λ reason h.
+              let v = port-is (hangsUp reason) h in (
+                A .call .closed (hangs-open (view l st) (length b) s t f e reason h) (ap (λ (x : Port). x .live) v),
+                v,
+                buffer-is (hangsUp reason) h,
+              );
+          responded = λ h. (port-is answered h, buffer-is answered h);
+          stayed = λ h. same stays h refl;
+          unaltered = λ h. same altersNothing h refl;
+        }
+
+-- the theorem: κs are the lifetimes of the lent words, store, message, tables, buffer and answer
+pub judges-take : (κs : Lfts 5) (p q st st′ m out inn b d w v : RefT (List ℕ)) (n : ℕ)
+    → take-in-c.Post κs (p, (st, (m, (out, (inn, (b, (w, tt))))))) n (q, (st′, (m, (out, (inn, (d, (v, tt)))))))
+    → JudgesTake (now p) (now st) (now b) (now q) (now st′) (now d) (now m) (tables (now out) (now inn)) n (now v)
+judges-take κs p q st st′ m out inn b d w v n post =
+    let P : Port = view (now p) (now st) in
+    let t : Tables = tables (now out) (now inn) in
+    judge (takeOrder P (length (now b)) (now m) t) n _ _ (post .numbers .number ∙ order-number P (length (now b)) (now m) t) (taken (now m) t post) (left (now m) t post)
