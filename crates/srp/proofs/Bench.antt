@@ -14,7 +14,8 @@ use Rattle.srp.specs.Credit.{closedPort}
 use Rattle.srp.specs.Calls.{wrapped, countersOf}
 use Rattle.srp.specs.Answers.{returned, valuesOf}
 use Rattle.srp.specs.declared.Reply.{Reply}
-use Rattle.srp.proofs.Layouts.{whole, bitsOf}
+use Rattle.srp.specs.ReadBack.{whole}
+use Rattle.srp.proofs.Layouts.{bitsOf}
 use Rattle.srp.specs.Rows.{found, expected, no-data, cmd-bytes}
 use Rattle.srp.specs.Table.{table, two-entries}
 use Rattle.srp.specs.FurtherRows.{rows}

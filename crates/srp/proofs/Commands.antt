@@ -9,12 +9,11 @@ use lib.ListN.{length, take, drop, length-append}
 use lib.Seq.{take-at, drop-at, drop-drop, getD-drop}
 use Rattle.srp.specs.Bytes.{Field, bytes, bits, bit, get, behind, gets, puts, zeros, typeOf, write, InRange, sound}
 use Rattle.srp.specs.Messages.{cmd, tag, lun, ucsolnt, scsolnt, outFormat, inFormat, outCount, inCount, additional, address, handle, segmentLength, totalLength, memoryDescriptor, tableDescriptor}
-use Rattle.srp.specs.Descriptors.{segmentsIn, segmentsOf, descriptorSize, descriptorOf, copies, segmentBytes, segments}
-use Rattle.srp.specs.Requests.{flag, requestOf, cdbLength, outAt, inAt, exactLength, outDescriptor, inDescriptor, commandOf}
-use Rattle.srp.specs.Initiator.{Buffer, noData, direct, indirect, formatOf, countOf, bufferBytes, CommandFields, values, commandBytes}
-use Rattle.srp.specs.declared.Descriptor.{Descriptor}
-use Rattle.srp.specs.declared.Command.{Command}
-use Rattle.srp.proofs.Layouts.{gets-append, read-back, Written, written}
+use Rattle.srp.specs.Descriptors.{segmentsIn, segmentsOf, descriptorSize, descriptorOf}
+use Rattle.srp.specs.Requests.{flag, requestOf, cdbLength, outAt, inAt, outDescriptor, inDescriptor}
+use Rattle.srp.specs.Initiator.{Buffer, noData, direct, indirect, formatOf, countOf, bufferBytes, CommandFields, values, commandBytes, Fit, Table, Says, commandIn, Reads}
+use Rattle.srp.specs.ReadBack.{Written}
+use Rattle.srp.proofs.Layouts.{gets-append, read-back, written}
 
 -- a field behind n bytes
 pub get-behind : (f : Field) (n : ℕ) (s : List ℕ) → get (behind n f) s ≡ get f (drop n s)
@@ -30,26 +29,6 @@ module _ (s a b : List ℕ) (at n : ℕ) (e : drop at s ≡ a ++ b) (l : length 
   beyond = rw (← (drop-drop n at s), e, drop-at a b n l)
 
 -- ── one descriptor
-
--- a buffer that its descriptor has room for, with whole copies
-abbrev pub Fit : Buffer → Type 0
-Fit noData = Unit {0}
-Fit (direct a h n) = InRange memoryDescriptor (a ∷ h ∷ n ∷ [])
-Fit (indirect a h n t w) = InRange tableDescriptor (a ∷ h ∷ n ∷ t ∷ []) × (length w % 16 ≡ 0)
-
--- what a table descriptor d of the message s says
-pub record Table (a h n t : ℕ) (w : List ℕ) (d : Descriptor) (s : List ℕ) : Type 0 where
-  pub address : get (behind (d .at) address) s ≡ a
-  pub handle : get (behind (d .at) handle) s ≡ h
-  pub len : d .len ≡ n
-  pub total : d .total ≡ t
-  pub copied : copies d s ≡ w
-
--- the descriptor d of the message s says the buffer
-abbrev pub Says : Buffer → Descriptor → List ℕ → Type 0
-Says noData d s = (table : List ℕ) → segmentBytes d s table ≡ []
-Says (direct a h n) d s = (table : List ℕ) → segments d s table ≡ record { address = a; handle = h; len = n } ∷ []
-Says (indirect a h n t w) d s = Table a h n t w d s
 
 -- a buffer's bytes are as many as its format and count say
 pub buffer-long : (b : Buffer) → Fit b → length (bufferBytes b) ≡ descriptorSize (formatOf b) (countOf b)
@@ -90,26 +69,6 @@ buffer-says (indirect a h n t c) f s rest at e =
     table-read (puts tableDescriptor (a ∷ h ∷ n ∷ t ∷ []) (zeros 20)) c rest s at a h n t e (r .1) (r .0) (f .1)
 
 -- ── a command
-
--- the command c, its descriptors in the message s
-abbrev pub commandIn : CommandFields → List ℕ → Command
-commandIn c s =
-    record {
-      request = c .request;
-      cdb = 16 + 4 * c .n;
-      out = descriptorOf (formatOf (c .out)) (countOf (c .out)) (48 + 4 * c .n) s;
-      inn = descriptorOf (formatOf (c .inn)) (countOf (c .inn)) (48 + 4 * c .n + length (bufferBytes (c .out))) s;
-    }
-
--- what the bytes s of the command c are read as
-pub record Reads (c : CommandFields) (s : List ℕ) : Type 0 where
-  pub code : typeOf s ≡ cmd .code
-  pub fields : gets (cmd .fields) s ≡ values c
-  pub long : length s ≡ exactLength s
-  pub cdb : take (cdbLength s) (drop 32 s) ≡ c .cdb
-  pub command : commandOf s ≡ commandIn c s
-  pub out : Says (c .out) (commandOf s .out) s
-  pub inn : Says (c .inn) (commandOf s .inn) s
 
 -- where a buffer starts, the descriptor of its format and count says it
 said : (b : Buffer) → Fit b → (format count at : ℕ) (s rest : List ℕ) → format ≡ formatOf b → count ≡ countOf b → drop at s ≡ bufferBytes b ++ rest

@@ -7,9 +7,10 @@ use Prim.Native.Nat.{ℕ, _+_, _*_, _<_}
 use lib.Dec.{ltb}
 use lib.ListN.{length, length-replicate}
 use borrow.Author.Tests.{ltb-true}
-use Rattle.srp.specs.Bytes.{Field, bytes, bits, get, put, gets, puts, zeros, Layout, kind, typeOf, write, bound, InRange, inside, apart, apartFrom, sound}
+use Rattle.srp.specs.Bytes.{Field, bytes, bits, get, put, gets, puts, zeros, Layout, write, bound, InRange, inside, apart, apartFrom, sound}
 use Rattle.srp.specs.Lists.{All}
 use Rattle.srp.specs.Messages.{layouts}
+use Rattle.srp.specs.ReadBack.{whole, Written}
 use Rattle.srp.proofs.FieldLaws.{both, length-put, get-put, get-put-apart, apart-sym, get-append, zeros-read}
 
 -- fields apart from the one that is written are as they were
@@ -60,24 +61,9 @@ bitsOf [] = 0
 bitsOf (bytes at wide ∷ fs) = 8 * wide + bitsOf fs
 bitsOf (bits at low count ∷ fs) = count + bitsOf fs
 
--- a message's fields, its type among them
-abbrev pub whole : Layout → List Field
-whole l = kind ∷ l .fields
-
 -- a layout is sound, and its code is a byte
 abbrev pub fine : Layout → Bool
 fine l = sound (l .size) (whole l) && ltb (l .code) 256
-
--- what holds of a message written by layout l from the values vs
-pub record Written (l : Layout) (vs : List ℕ) : Type 0 where
-  pub long : length (write l vs) ≡ l .size
-  -- what is written is read back, whatever follows
-  pub code : typeOf (write l vs) ≡ l .code
-  pub values : gets (l .fields) (write l vs) ≡ vs
-  pub code-before : (t : List ℕ) → typeOf (write l vs ++ t) ≡ l .code
-  pub values-before : (t : List ℕ) → gets (l .fields) (write l vs ++ t) ≡ vs
-  -- and any other bytes or bits are 0
-  pub zero-elsewhere : (g : Field) → apartFrom g (whole l) ≡ true → get g (write l vs) ≡ 0
 
 -- a message written by a sound layout is read back
 pub written : (l : Layout) → fine l ≡ true → (vs : List ℕ) → InRange (l .fields) vs → Written l vs

@@ -16,7 +16,7 @@ use Rattle.srp.specs.Messages.{outFormat, inFormat, loginReq, tskMgmt, c
 use Rattle.srp.specs.Refusals.{Check, firstOf}
 use Rattle.srp.specs.Descriptors.{agrees, descriptorOf, badCount, fetchOf}
 use Rattle.srp.specs.Requests.{flag, exactLength, outDescriptor, inDescriptor, commandOf, commandChecks, taskOf, unlessBad, lengthChecks, byType, readMessage, otherFormats, lookChecks, lookDef, badLength}
-use Rattle.srp.specs.Initiator.{Buffer, noData, direct, indirect, formatOf, countOf, CommandFields, values, commandBytes}
+use Rattle.srp.specs.Initiator.{Buffer, noData, direct, indirect, formatOf, countOf, CommandFields, values, commandBytes, Fit, Copied, Says, commandIn, Reads}
 use Rattle.srp.specs.Login.{termsBy, openedWith, opened, loginDef}
 use Rattle.srp.specs.declared.Settings.{Settings}
 use Rattle.srp.specs.declared.Refusal.{Refusal}
@@ -28,8 +28,9 @@ use Rattle.srp.specs.declared.Message.{Message}
 use Rattle.srp.specs.declared.Message.the-variants.{Bad, Cmd, TskMgmt, CredRsp, ILogout}
 use Rattle.srp.specs.declared.Reply.the-variants.{Accepted}
 use Rattle.srp.proofs.Checks.{clear}
-use Rattle.srp.proofs.Layouts.{Written, written}
-use Rattle.srp.proofs.Commands.{Fit, Says, commandIn, Reads, command-read}
+use Rattle.srp.specs.ReadBack.{Written}
+use Rattle.srp.proofs.Layouts.{written}
+use Rattle.srp.proofs.Commands.{command-read}
 use Rattle.srp.proofs.Opened.{opens}
 
 -- ── requests, credit responses and logouts
@@ -68,12 +69,6 @@ module _ (agreed formats : ℕ) where
   credit-received t r h = let w : Written credRsp (t ∷ []) = written credRsp refl _ r in credit-read _ t (w .long) (w .code) (w .values) h
 
 -- ── commands
-
--- copies of at most 32 entries, and no more than the table has
-abbrev pub Copied : Buffer → Type 0
-Copied noData = Unit {0}
-Copied (direct a h n) = Unit {0}
-Copied (indirect a h n t w) = (length w ≤ 512) × (length w ≤ n)
 
 good-count : (b : Buffer) (at : ℕ) (d : Descriptor) (s : List ℕ) → Copied b → d ≡ descriptorOf (formatOf b) (countOf b) at s → Says b d s → badCount d ≡ false
 good-count noData at d s k e y = ap badCount e

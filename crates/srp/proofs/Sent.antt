@@ -2,14 +2,14 @@
 -- layout's fields, so that it reads back as those values, and none is longer than 132 bytes.
 -- Assumes nothing.
 use mathlib.Core.Path.{_≡_, refl, ap, _∙_}
-use mathlib.Core.Logic.{_⊎_, inl, inr, ⊎-elim}
+use mathlib.Core.Logic.{inl, inr, ⊎-elim}
 use mathlib.Core.Bool.{Bool, true, false, cond, not, _&&_, _||_, true≢false}
 use mathlib.Core.List.{List, [], _∷_, _++_}
 use mathlib.Core.Option.{Option, none, some}
 use Prim.Native.Nat.{ℕ, _+_, _-_, _^_, _≤_, _<_}
 use native.Mathlib.Omega.{arith}
 use lib.Dec.{ltb, eqb}
-use lib.ListN.{length, take, drop, length-append}
+use lib.ListN.{length, drop, length-append}
 use lib.Seq.{take-all}
 use borrow.Author.Tests.{ltb-false}
 use Rattle.srp.specs.Bytes.{bit, get, gets, typeOf, write, InRange}
@@ -31,7 +31,9 @@ use Rattle.srp.specs.declared.Message.{Message}
 use Rattle.srp.specs.declared.Message.the-variants.{Bad, Cmd, TskMgmt, CredRsp, ILogout}
 use Rattle.srp.specs.Bytes.{Bytes}
 use Rattle.srp.proofs.FieldLaws.{get-below}
-use Rattle.srp.proofs.Layouts.{Written, written}
+use Rattle.srp.specs.ReadBack.{Written}
+use Rattle.srp.specs.Sent.{Responds, Code, Behind, Sent, a-response, credit-request, target-logout, login-response, login-rejection, Writes}
+use Rattle.srp.proofs.Layouts.{written}
 use Rattle.srp.proofs.Commands.{there, beyond}
 use Rattle.srp.proofs.ListLaws.{all-find}
 use Rattle.srp.proofs.Checks.{passes, hit, both-false}
@@ -41,14 +43,6 @@ use Rattle.srp.proofs.Ranges.{reached}
 use Rattle.srp.specs.Ranges.{SideRanges, OpenRanges, Reached}
 
 -- ── a response is read back
-
--- what the bytes s of the response r are read as
-pub record Responds (r : Response) (s : List ℕ) : Type 0 where
-  pub code : typeOf s ≡ rsp .code
-  pub fields : gets (rsp .fields) s ≡ responseValues r
-  pub long : length s ≡ 36 + get responseLength s + get senseLength s
-  pub bytes : take (get responseLength s) (drop 36 s) ≡ responseBytes (r .code)
-  pub sense : take (get senseLength s) (drop (36 + get responseLength s) s) ≡ r .sense
 
 -- the fixed part w read, the rest is
 responds : (r : Response) (w s : List ℕ) → s ≡ w ++ (responseBytes (r .code) ++ r .sense) → length w ≡ 36 → typeOf s ≡ rsp .code → gets (rsp .fields) s ≡ responseValues r
@@ -73,24 +67,7 @@ response-read r h =
     let m : Written rsp (responseValues r) = written rsp refl (responseValues r) h in
     responds r (write rsp (responseValues r)) (response r) refl (m .long) (m .code-before rest) (m .values-before rest)
 
--- ── the five kinds
-
--- a response code that the port writes
-abbrev pub Code : ℕ → Type 0
-Code n = (n ≡ 0) ⊎ ((n ≡ 2) ⊎ (n ≡ 4))
-
--- behind a response's fixed part: sense of up to 96 bytes, or response bytes
-abbrev pub Behind : Option ℕ → List ℕ → Type 0
-Behind none sense = length sense ≤ 96
-Behind (some code) sense = Code code × (sense ≡ [])
-
--- the messages that the port writes, each by its layout with values in the fields' ranges
-pub data Sent : List ℕ → Type 0 where
-  a-response : (r : Response) → InRange (rsp .fields) (responseValues r) → Behind (r .code) (r .sense) → Sent (response r)
-  credit-request : (vs : List ℕ) → InRange (credReq .fields) vs → Sent (write credReq vs)
-  target-logout : (vs : List ℕ) → InRange (tLogout .fields) vs → Sent (write tLogout vs)
-  login-response : (vs : List ℕ) → InRange (loginRsp .fields) vs → Sent (write loginRsp vs)
-  login-rejection : (vs : List ℕ) → InRange (loginRej .fields) vs → Sent (write loginRej vs)
+-- ── the length of a message
 
 few : (o : Option ℕ) (sense : List ℕ) → Behind o sense → length (responseBytes o) + length sense ≤ 96
 few none sense h = omega (arith, h)
@@ -204,13 +181,6 @@ module _ (p : Port) (w : p .wanted ≤ 16) (o : All OpenRanges (p .held)) where
 
   close-sent : (room reason : ℕ) → reason < 2 ^ 32 → All Sent (closeDef p room reason .wrote)
   close-sent room reason h = unless-sent (firstOf (short room ∷ closed p ∷ [])) _ λ _. (logout-sent (p .terms .losolnt) reason h, tt)
-
--- what the calls on the port p write
-pub record Writes (p : Port) : Type 0 where
-  pub taking : (room : ℕ) (s : List ℕ) (t : Tables) → Bytes s → All Sent (takeDef p room s t .wrote)
-  pub finishing : (room tag status : ℕ) (sense : List ℕ) → status < 256 → All Sent (finishDef p room tag status sense .wrote)
-  pub granting : (room : ℕ) → All Sent (grantDef p room .wrote)
-  pub closing : (room reason : ℕ) → reason < 2 ^ 32 → All Sent (closeDef p room reason .wrote)
 
 -- every message that a call writes on a port that a login made is of the five kinds, with values in range
 pub every-write : {p : Port} → Reached p → Writes p

@@ -3,6 +3,7 @@ pub mod Lists
 pub mod Both
 pub mod Bytes
 pub mod Messages
+pub mod ReadBack
 pub mod Refusals
 pub mod Credit
 pub mod Descriptors
@@ -16,6 +17,7 @@ pub mod Order
 pub mod Calls
 pub mod Login
 pub mod Ranges
+pub mod Sent
 pub mod Outside
 pub mod Initiator
 pub mod Rows
