@@ -18,7 +18,7 @@ use Rattle.srp.specs.Descriptors.{descriptorSize, descriptorOf, fetchOf,
 use Rattle.srp.specs.Requests.{outAt, inAt, outDescriptor, inDescriptor, commandOf, commandChecks, taskOf, unlessBad, sized, lengthChecks, readMessage, lookDef}
 use Rattle.srp.specs.Credit.{Open, Port}
 use Rattle.srp.specs.Take.{Tables, aborted, laterChecks, accepted, requestIn, conducted, takeBy, takeChecks, takeRead, takeDef}
-use Rattle.srp.specs.Login.{loginChecks, rejections, judged, loginBy, loginDef}
+use Rattle.srp.specs.Login.{loginDef}
 use Rattle.srp.specs.declared.Settings.{Settings}
 use Rattle.srp.specs.Unread.{also, changed, ChangeOf}
 use Rattle.srp.specs.declared.Refusal.{Refusal}
@@ -236,12 +236,4 @@ module _ (p : Port) (t : Tables) (s s′ : List ℕ) where
 
 -- login's outcome is the same for two messages alike in what a login reads
 pub login-alike : (c : Settings) (own : List ℕ) (room : ℕ) (s s′ : List ℕ) → Alike loginReads 48 s s′ → loginDef c own room s ≡ loginDef c own room s′
-login-alike c own room s s′ a = cc (by (firstOf (loginChecks c room s′)))
-  where
-    judge : (o : Option ℕ) → judged o c s ≡ judged o c s′
-    judge none = cc
-    judge (some r) = cc
-
-    by : (o : Option Refusal) → loginBy o c own s ≡ loginBy o c own s′
-    by none = cc (judge (firstOf (rejections c own s′)))
-    by (some r) = refl
+login-alike c own room s s′ a = cc

@@ -13,7 +13,7 @@ use lib.ListN.{length, take, drop, getD, set, length-append, length-drop, take-a
 use lib.Seq.{length-take-le, take-append-le, drop-append-le, take-at, drop-at, drop-drop, drop-nil, take-nil, set-split, getD-set-same, getD-set-other}
 use lib.Pow.{pow-pos}
 use borrow.Author.Tests.{ltb-true, leb-true, eqb-true, eqb-false, eq-eqb, ne-eqb}
-use Rattle.srp.specs.Bytes.{number, bytesOf, Field, bytes, bits, get, put, replaced, zeros, bound, inside, apart}
+use Rattle.srp.specs.Bytes.{number, bytesOf, Field, bytes, bits, get, part, put, replaced, zeros, bound, inside, apart}
 use Rattle.srp.proofs.ListLaws.{all-drop}
 use Rattle.srp.proofs.Numbers.{length-bytes, number-below, number-read, bits-read, bits-apart}
 use Rattle.srp.specs.Bytes.{Bytes}
@@ -156,10 +156,13 @@ module _ (f : Field) (v : ℕ) (s : List ℕ) (ok : inside (length s) f ≡ true
   put-read : take (size f) (drop (start f) (put f v s)) ≡ piece f v s
   put-read = rw (is-over, ← (piece-long f v s)) (over-read (start f) (piece f v s) s room)
 
-  -- a write leaves the fields of other bytes
+  -- a write leaves other bytes
+  bytes-clear : (at wide : ℕ) → (ends f ≤ at) ⊎ (at + wide ≤ start f) → take wide (drop at (put f v s)) ≡ take wide (drop at s)
+  bytes-clear at wide h = rw is-over (over-apart (start f) (piece f v s) s room at wide (rw (piece-long f v s) h))
+
+  -- and their fields
   get-clear : (g : Field) → (ends f ≤ start g) ⊎ (ends g ≤ start f) → get g (put f v s) ≡ get g s
-  get-clear g h = get-same g (put f v s) s
-      (rw is-over (over-apart (start f) (piece f v s) s room (start g) (size g) (rw (piece-long f v s) h)))
+  get-clear g h = get-same g (put f v s) s (bytes-clear (start g) (size g) h)
 
 -- a value below a field's bound is read back
 pub get-put : (f : Field) (v : ℕ) (s : List ℕ) → inside (length s) f ≡ true → v < bound f → get f (put f v s) ≡ v
@@ -168,6 +171,18 @@ get-put f v s ok h = get-is f (put f v s) ∙ ap (λ (x : List ℕ). taken f (nu
     value : (f : Field) → v < bound f → taken f (number 0 (piece f v s)) ≡ v
     value (bytes at wide) h = number-read wide v h
     value (bits at low count) h = rw zero-add (bits-read low count v (getD s at 0) h)
+
+-- the bytes of a field of whole bytes, as they were written
+pub part-put : (at wide v : ℕ) (s : List ℕ) → inside (length s) (bytes at wide) ≡ true → part (bytes at wide) (put (bytes at wide) v s) ≡ bytesOf wide v
+part-put at wide v s ok = put-read (bytes at wide) v s ok
+
+-- the bytes of a field apart from the one that is written are as they were
+pub part-put-apart : (f g : Field) (v : ℕ) (s : List ℕ) → inside (length s) f ≡ true → apart f g ≡ true → part g (put f v s) ≡ part g s
+part-put-apart (bytes a m) (bytes b n) v s ok e =
+    bytes-clear (bytes a m) v s ok b n (one-of (leb (a + m) b) (leb (b + n) a) (leb-true (a + m) b) (leb-true (b + n) a) e)
+part-put-apart (bits a l c) (bytes b n) v s ok e =
+    bytes-clear (bits a l c) v s ok b n (one-of (ltb a b) (leb (b + n) a) (λ q. omega (arith, ltb-true)) (leb-true (b + n) a) e)
+part-put-apart f (bits b k d) v s ok e = refl
 
 -- fields apart from the one that is written are as they were
 pub get-put-apart : (f g : Field) (v : ℕ) (s : List ℕ) → inside (length s) f ≡ true → v < bound f → apart f g ≡ true → get g (put f v s) ≡ get g s

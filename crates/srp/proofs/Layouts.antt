@@ -7,11 +7,11 @@ use Prim.Native.Nat.{ℕ, _+_, _*_, _<_}
 use lib.Dec.{ltb}
 use lib.ListN.{length, length-replicate}
 use borrow.Author.Tests.{ltb-true}
-use Rattle.srp.specs.Bytes.{Field, bytes, bits, get, put, gets, puts, zeros, Layout, write, bound, InRange, inside, apart, apartFrom, sound}
+use Rattle.srp.specs.Bytes.{Field, bytes, bits, get, part, put, gets, puts, zeros, Layout, write, bound, InRange, inside, apart, apartFrom, sound}
 use Rattle.srp.specs.Lists.{All}
 use Rattle.srp.specs.Messages.{layouts}
 use Rattle.srp.specs.ReadBack.{whole, Written}
-use Rattle.srp.proofs.FieldLaws.{both, length-put, get-put, get-put-apart, apart-sym, get-append, zeros-read}
+use Rattle.srp.proofs.FieldLaws.{both, length-put, get-put, get-put-apart, part-put-apart, apart-sym, get-append, zeros-read}
 
 -- fields apart from the one that is written are as they were
 pub gets-apart : (f : Field) (fs : List Field) (v : ℕ) (s : List ℕ) → inside (length s) f ≡ true → v < bound f → apartFrom f fs ≡ true → gets fs (put f v s) ≡ gets fs s
@@ -52,6 +52,18 @@ reserved n g (f ∷ fs) (v ∷ vs) s l ok r e =
     let c = both (apart g f) (apartFrom g fs) e in
     let i : inside (length (puts fs vs s)) f ≡ true = rw (read-back n fs vs s l (b .1) (r .1) .1) (a .0) in
     get-put-apart f g v (puts fs vs s) i (r .0) (apart-sym f g ∙ c .0) ∙ reserved n g fs vs s l (b .1) (r .1) (c .1)
+
+-- and so are its bytes
+pub part-reserved : (n : ℕ) (g : Field) (fs : List Field) (vs s : List ℕ) → length s ≡ n → sound n fs ≡ true → InRange fs vs → apartFrom g fs ≡ true
+    → part g (puts fs vs s) ≡ part g s
+part-reserved n g [] vs s l ok r e = refl
+part-reserved n g (f ∷ fs) [] s l ok r e = absurd r
+part-reserved n g (f ∷ fs) (v ∷ vs) s l ok r e =
+    let a = both (inside n f) (apartFrom f fs && sound n fs) ok in
+    let b = both (apartFrom f fs) (sound n fs) (a .1) in
+    let c = both (apart g f) (apartFrom g fs) e in
+    let i : inside (length (puts fs vs s)) f ≡ true = rw (read-back n fs vs s l (b .1) (r .1) .1) (a .0) in
+    part-put-apart f g v (puts fs vs s) i (apart-sym f g ∙ c .0) ∙ part-reserved n g fs vs s l (b .1) (r .1) (c .1)
 
 -- ── layouts
 

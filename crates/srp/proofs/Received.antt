@@ -11,13 +11,13 @@ use lib.Dec.{eqb}
 use lib.ListN.{length}
 use borrow.Author.Tests.{le-ltb, eq-eqb}
 use Rattle.srp.specs.Limits.{bothFormats}
-use Rattle.srp.specs.Bytes.{get, gets, typeOf, write, InRange}
-use Rattle.srp.specs.Messages.{outFormat, inFormat, loginReq, tskMgmt, cmd, iLogout, credRsp}
+use Rattle.srp.specs.Bytes.{bytesOf, get, part, put, gets, zeros, kind, typeOf, write, InRange}
+use Rattle.srp.specs.Messages.{tag, formatBits, requestedLength, loginCrsolnt, loginLosolnt, channelAction, initiatorIdentifier, targetIdentifier, outFormat, inFormat, loginReq, tskMgmt, cmd, iLogout, credRsp}
 use Rattle.srp.specs.Refusals.{Check, firstOf}
 use Rattle.srp.specs.Descriptors.{agrees, descriptorOf, badCount, fetchOf}
 use Rattle.srp.specs.Requests.{flag, exactLength, outDescriptor, inDescriptor, commandOf, commandChecks, taskOf, unlessBad, lengthChecks, byType, readMessage, otherFormats, lookChecks, lookDef, badLength}
 use Rattle.srp.specs.Initiator.{Buffer, noData, direct, indirect, formatOf, countOf, CommandFields, values, commandBytes, Fit, Copied, Says, commandIn, Reads}
-use Rattle.srp.specs.Login.{termsBy, openedWith, opened, loginDef}
+use Rattle.srp.specs.Login.{loginByValues, settingChecks, loginChecks, loginDef}
 use Rattle.srp.specs.declared.Settings.{Settings}
 use Rattle.srp.specs.declared.Refusal.{Refusal}
 use Rattle.srp.specs.declared.Refusal.the-variants.{OtherType}
@@ -26,12 +26,11 @@ use Rattle.srp.specs.declared.Look.{Look}
 use Rattle.srp.specs.declared.Look.the-variants.{LookRefused, Fetches}
 use Rattle.srp.specs.declared.Message.{Message}
 use Rattle.srp.specs.declared.Message.the-variants.{Bad, Cmd, TskMgmt, CredRsp, ILogout}
-use Rattle.srp.specs.declared.Reply.the-variants.{Accepted}
 use Rattle.srp.proofs.Checks.{clear}
 use Rattle.srp.specs.ReadBack.{Written}
-use Rattle.srp.proofs.Layouts.{written}
+use Rattle.srp.proofs.FieldLaws.{part-put}
+use Rattle.srp.proofs.Layouts.{part-reserved, written}
 use Rattle.srp.proofs.Commands.{command-read}
-use Rattle.srp.proofs.Opened.{opens}
 
 -- ── requests, credit responses and logouts
 
@@ -101,16 +100,29 @@ command-received agreed formats c h l fo fi ko ki ao ai n = go (commandBytes c) 
 
 -- ── login
 
-login-read : (c : Settings) (s : List ℕ) (t n f r o a i g : ℕ) → gets (loginReq .fields) s ≡ t ∷ n ∷ f ∷ r ∷ o ∷ a ∷ i ∷ g ∷ [] → opened c s ≡ openedWith (c .buffers) (termsBy c n f r o)
-login-read c s t n f r o a i g v = cc
+login-read : (c : Settings) (own : List ℕ) (room : ℕ) (s : List ℕ) (t n f r o a i g : ℕ) → length s ≡ 64 → typeOf s ≡ 0x00
+    → gets (loginReq .fields) s ≡ t ∷ n ∷ f ∷ r ∷ o ∷ a ∷ i ∷ g ∷ [] → part targetIdentifier s ≡ bytesOf 16 g
+    → loginDef c own room s ≡ loginByValues c own room t n f r o a (bytesOf 16 g)
+login-read c own room s t n f r o a i g l k v b =
+    let e : firstOf (loginChecks c room s) ≡ firstOf (settingChecks c room) = rw (l, k) in
+    cc
 
--- a login request that is accepted opens the port with the length, formats, CRSOLNT and LOSOLNT that were written into it
+-- the target identifier's bytes are those of the number that was written
+target-read : (t n f r o a i g : ℕ) → InRange (loginReq .fields) (t ∷ n ∷ f ∷ r ∷ o ∷ a ∷ i ∷ g ∷ [])
+    → part targetIdentifier (write loginReq (t ∷ n ∷ f ∷ r ∷ o ∷ a ∷ i ∷ g ∷ [])) ≡ bytesOf 16 g
+target-read t n f r o a i g h =
+    part-reserved 64 targetIdentifier (kind ∷ tag ∷ requestedLength ∷ formatBits ∷ loginCrsolnt ∷ loginLosolnt ∷ channelAction ∷ initiatorIdentifier ∷ [])
+    (0x00 ∷ t ∷ n ∷ f ∷ r ∷ o ∷ a ∷ i ∷ []) (put targetIdentifier g (zeros 64)) refl refl
+    (omega arith, (h .0, (h .1 .0, (h .1 .1 .0, (h .1 .1 .1 .0, (h .1 .1 .1 .1 .0, (h .1 .1 .1 .1 .1 .0, (h .1 .1 .1 .1 .1 .1 .0, tt)))))))) refl
+    ∙ part-put 48 16 g (zeros 64) refl
+
+-- what a login request draws, from the values that were written into it: 1 or 2, the first rejection that fits, or the port with its terms
 pub login-received : (c : Settings) (own : List ℕ) (room t n f r o a i g : ℕ) → InRange (loginReq .fields) (t ∷ n ∷ f ∷ r ∷ o ∷ a ∷ i ∷ g ∷ [])
-    → loginDef c own room (write loginReq (t ∷ n ∷ f ∷ r ∷ o ∷ a ∷ i ∷ g ∷ [])) .reply ≡ Accepted
-    → loginDef c own room (write loginReq (t ∷ n ∷ f ∷ r ∷ o ∷ a ∷ i ∷ g ∷ [])) .port ≡ openedWith (c .buffers) (termsBy c n f r o)
-login-received c own room t n f r o a i g h e =
-    let s : List ℕ = write loginReq (t ∷ n ∷ f ∷ r ∷ o ∷ a ∷ i ∷ g ∷ []) in
-    opens c own room s e ∙ login-read c s t n f r o a i g (written loginReq refl _ h .values)
+    → loginDef c own room (write loginReq (t ∷ n ∷ f ∷ r ∷ o ∷ a ∷ i ∷ g ∷ [])) ≡ loginByValues c own room t n f r o a (bytesOf 16 g)
+login-received c own room t n f r o a i g h =
+    let vs : List ℕ = t ∷ n ∷ f ∷ r ∷ o ∷ a ∷ i ∷ g ∷ [] in
+    let w : Written loginReq vs = written loginReq refl vs h in
+    login-read c own room (write loginReq vs) t n f r o a i g (w .long) (w .code) (w .values) (target-read t n f r o a i g h)
 
 -- ── look
 
