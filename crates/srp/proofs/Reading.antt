@@ -1,42 +1,80 @@
--- What a message is read as: one of five; it goes with its type byte, and what is wrong with it hangs up.
+-- What a message is read as: one of five, with the fields of its type's layout; it goes with its type byte, and what is wrong with it hangs up.
 -- Assumes nothing.
 use mathlib.Core.Path.{_≡_, refl}
 use mathlib.Core.Bool.{Bool, true, false, cond, or-true}
 use mathlib.Core.List.{List}
 use mathlib.Core.Option.{Option, none, some}
-use Prim.Native.Nat.{ℕ, _^_, _<_}
+use Prim.Native.Nat.{ℕ, _^_, _≤_, _<_}
 use native.Mathlib.Omega.{arith}
 use lib.Dec.{eqb}
 use lib.ListN.{length}
+use borrow.Author.Tests.{ltb-false, eqb-true, not-false}
+use Rattle.srp.specs.Limits.{shortestMessage}
 use Rattle.srp.specs.Bytes.{get, typeOf}
 use Rattle.srp.specs.Messages.{tag}
 use Rattle.srp.specs.Refusals.{hangsUp, numberOf, conductOf, firstOf}
-use Rattle.srp.specs.Requests.{isRequest, commandChecks, commandOf, taskOf, unlessBad, sized, lengthChecks, byType, readMessage}
+use Rattle.srp.specs.Requests.{isRequest, exactLength, commandOf, commandChecks, taskOf, unlessBad, sized, lengthChecks, byType, readMessage, OfType, ReadAs}
 use Rattle.srp.specs.declared.Refusal.{Refusal}
-use Rattle.srp.specs.declared.Refusal.the-variants.{Length, OtherType}
 use Rattle.srp.specs.declared.Message.{Message}
 use Rattle.srp.specs.declared.Message.the-variants.{Bad, Cmd, TskMgmt, CredRsp, ILogout}
-use Rattle.srp.proofs.Checks.{hit}
+use Rattle.srp.proofs.Checks.{passes, hit}
 
--- a message is read as one of five
-module _ (P : Message → Type 0) (bad : (r : Refusal) → P (Bad r)) (s : List ℕ) where
-  pick : (c : Bool) (x y : Message) → P x → P y → P (cond c x y)
-  pick true x y a b = a
-  pick false x y a b = b
+-- ── a test or a check, by both its outcomes
 
-  otherwise : (r : Option Refusal) (m : Message) → P m → P (unlessBad r m)
-  otherwise none m a = a
-  otherwise (some r) m a = bad r
+module _ (P : Message → Type 0) where
+  either : (c : Bool) (x y : Message) → (c ≡ true → P x) → (c ≡ false → P y) → P (cond c x y)
+  either true x y f g = f refl
+  either false x y f g = g refl
 
-  -- so it has what each of them has
-  pub read-has : P (Cmd (commandOf s)) → P (TskMgmt (taskOf s)) → P ILogout → P (CredRsp (get tag s)) → (agreed formats : ℕ) → P (readMessage agreed formats s)
+  unless-bad : (o : Option Refusal) (m : Message) → ((r : Refusal) → o ≡ some r → P (Bad r)) → (o ≡ none → P m) → P (unlessBad o m)
+  unless-bad none m f g = g refl
+  unless-bad (some r) m f g = f r refl
+
+-- ── by its layout
+
+module _ (agreed formats : ℕ) (s : List ℕ) where
+  abbrev As : Message → Type 0
+  As = ReadAs agreed s
+
+  layout-read : shortestMessage ≤ length s → length s ≤ agreed → As (byType (typeOf s) formats s)
+  layout-read least most =
+      either As (eqb (typeOf s) 0x02) _ _
+      (λ k.
+      unless-bad As (firstOf (commandChecks formats s)) (Cmd (commandOf s)) (λ _ _. tt) λ e.
+      let q = passes (commandChecks formats s) e in
+      let l = eqb-true (length s) (exactLength s) (not-false (eqb (length s) (exactLength s)) (q .1 .1 .1 .0)) in
+      (of 0x02 (exactLength s) k l, ltb-false (length s) 48 (q .0), refl)) λ _.
+      either As (eqb (typeOf s) 0x01) _ _ (λ k. sizes 48 (TskMgmt (taskOf s)) λ l. (of 0x01 48 k l, refl)) λ _.
+      either As (eqb (typeOf s) 0x03) _ _ (λ k. sizes 16 ILogout λ l. of 0x03 16 k l) λ _.
+      either As (eqb (typeOf s) 0x41) _ _ (λ k. sizes 16 (CredRsp (get tag s)) λ l. (of 0x41 16 k l, refl)) (λ _. tt)
+    where
+      of : (k n : ℕ) → eqb (typeOf s) k ≡ true → length s ≡ n → OfType agreed k n s
+      of k n e l = record { code = eqb-true (typeOf s) k e; long = l; least = least; most = most }
+
+      sizes : (n : ℕ) (m : Message) → (length s ≡ n → As m) → As (sized n s m)
+      sizes n m f = either As (eqb (length s) n) m _ (λ e. f (eqb-true (length s) n e)) (λ _. tt)
+
+  -- a message is read as the fields of its type's layout
+  pub read-as : ReadAs agreed s (readMessage agreed formats s)
   unfolding readMessage
-  read-has command task logout credit agreed formats =
-      otherwise (firstOf (lengthChecks agreed s)) _
-      (pick (eqb (typeOf s) 0x02) _ _ (otherwise (firstOf (commandChecks formats s)) _ command)
-      (pick (eqb (typeOf s) 0x01) _ _ (pick (eqb (length s) 48) _ _ task (bad Length))
-      (pick (eqb (typeOf s) 0x03) _ _ (pick (eqb (length s) 16) _ _ logout (bad Length))
-      (pick (eqb (typeOf s) 0x41) _ _ (pick (eqb (length s) 16) _ _ credit (bad Length)) (bad OtherType)))))
+  read-as =
+      unless-bad As (firstOf (lengthChecks agreed s)) (byType (typeOf s) formats s) (λ _ _. tt) λ e.
+      let q = passes (lengthChecks agreed s) e in
+      layout-read (ltb-false (length s) 16 (q .0)) (ltb-false agreed (length s) (q .1 .0))
+
+-- so it is one of five, and has what each of them has
+module _ (P : Message → Type 0) (bad : (r : Refusal) → P (Bad r)) (s : List ℕ) where
+  pub read-has : P (Cmd (commandOf s)) → P (TskMgmt (taskOf s)) → P ILogout → P (CredRsp (get tag s)) → (agreed formats : ℕ) → P (readMessage agreed formats s)
+  read-has command task logout credit agreed formats = go (readMessage agreed formats s) (read-as agreed formats s)
+    where
+      go : (m : Message) → ReadAs agreed s m → P m
+      go (Bad r) a = bad r
+      go (Cmd c) a = rw (a .2) command
+      go (TskMgmt k) a = rw (a .1) task
+      go (CredRsp g) a = rw (a .1) credit
+      go ILogout a = logout
+
+-- ── by its type
 
 -- what is wrong with a message itself: take hangs up, and not for credit
 pub record Wrong (r : Refusal) : Type 0 where
@@ -56,19 +94,10 @@ ByType b (TskMgmt k) = b ≡ true
 ByType b (CredRsp g) = b ≡ false
 ByType b ILogout = b ≡ false
 
-module _ (b : Bool) where
-  either : (c : Bool) (x y : Message) → (c ≡ true → ByType b x) → (c ≡ false → ByType b y) → ByType b (cond c x y)
-  either true x y f g = f refl
-  either false x y f g = g refl
-
-  unless-bad : (o : Option Refusal) (m : Message) → ((r : Refusal) → o ≡ some r → Wrong r) → ByType b m → ByType b (unlessBad o m)
-  unless-bad none m f k = k
-  unless-bad (some r) m f k = f r refl
-
-  of-size : (n : ℕ) (s : List ℕ) (m : Message) → ByType b m → ByType b (sized n s m)
-  of-size n s m k = either (eqb (length s) n) m _ (λ _. k) (λ _. wrong _ _ refl (omega arith) (λ z. omega arith))
-
 module _ (agreed formats : ℕ) (s : List ℕ) where
+  abbrev By : Message → Type 0
+  By = ByType (isRequest s)
+
   short-or-long : (r : Refusal) → firstOf (lengthChecks agreed s) ≡ some r → Wrong r
   short-or-long = hit Wrong (lengthChecks agreed s) ((λ _. wrong _ _ refl (omega arith) (λ z. omega arith)), ((λ _. wrong _ _ refl (omega arith) (λ z. omega arith)), tt))
 
@@ -80,15 +109,18 @@ module _ (agreed formats : ℕ) (s : List ℕ) where
   neither : eqb (typeOf s) 0x02 ≡ false → eqb (typeOf s) 0x01 ≡ false → isRequest s ≡ false
   neither e f = rw (e, f)
 
-  by-type : ByType (isRequest s) (byType (typeOf s) formats s)
+  of-size : (n : ℕ) (m : Message) → By m → By (sized n s m)
+  of-size n m k = either By (eqb (length s) n) m _ (λ _. k) (λ _. wrong _ _ refl (omega arith) (λ z. omega arith))
+
+  by-type : By (byType (typeOf s) formats s)
   by-type =
-      either (isRequest s) (eqb (typeOf s) 0x02) _ _
-      (λ e. unless-bad (isRequest s) (firstOf (commandChecks formats s)) (Cmd (commandOf s)) of-command (rw e (or-true (eqb (typeOf s) 0x01)))) λ e₂.
-      either (isRequest s) (eqb (typeOf s) 0x01) _ _ (λ e. of-size (isRequest s) 48 s (TskMgmt (taskOf s)) (rw e)) λ e₁.
-      either (isRequest s) (eqb (typeOf s) 0x03) _ _ (λ _. of-size (isRequest s) 16 s ILogout (neither e₂ e₁)) λ _.
-      either (isRequest s) (eqb (typeOf s) 0x41) _ _ (λ _. of-size (isRequest s) 16 s (CredRsp _) (neither e₂ e₁)) (λ _. wrong _ _ refl (omega arith) (λ z. omega arith))
+      either By (eqb (typeOf s) 0x02) _ _
+      (λ e. unless-bad By (firstOf (commandChecks formats s)) (Cmd (commandOf s)) of-command (λ _. rw e (or-true (eqb (typeOf s) 0x01)))) λ e₂.
+      either By (eqb (typeOf s) 0x01) _ _ (λ e. of-size 48 (TskMgmt (taskOf s)) (rw e)) λ e₁.
+      either By (eqb (typeOf s) 0x03) _ _ (λ _. of-size 16 ILogout (neither e₂ e₁)) λ _.
+      either By (eqb (typeOf s) 0x41) _ _ (λ _. of-size 16 (CredRsp _) (neither e₂ e₁)) (λ _. wrong _ _ refl (omega arith) (λ z. omega arith))
 
   -- a message is read as its type byte says
   pub read-by-type : ByType (isRequest s) (readMessage agreed formats s)
   unfolding readMessage
-  read-by-type = unless-bad (isRequest s) (firstOf (lengthChecks agreed s)) (byType (typeOf s) formats s) short-or-long by-type
+  read-by-type = unless-bad By (firstOf (lengthChecks agreed s)) (byType (typeOf s) formats s) short-or-long (λ _. by-type)

@@ -1,8 +1,9 @@
 -- Document 01, "Requests", and of "Descriptors" look: how a message is read, with the refusals 3 to 8 in take's order.
+use mathlib.Core.Path.{_≡_}
 use mathlib.Core.Bool.{Bool, cond, not, _||_}
 use mathlib.Core.List.{List, [], _∷_, _++_}
 use mathlib.Core.Option.{Option, none, some}
-use Prim.Native.Nat.{ℕ, _+_, _*_, _%_}
+use Prim.Native.Nat.{ℕ, _+_, _*_, _%_, _≤_}
 use lib.Dec.{ltb, eqb}
 use lib.ListN.{length, take, drop}
 use Rattle.srp.specs.Limits.{shortestAgreed, longestAgreed, shortestMessage, shortestCommand, bothFormats}
@@ -104,6 +105,21 @@ byType k formats s =
 -- a message to a port with this agreed length and these agreed formats
 unfoldable pub readMessage : ℕ → ℕ → List ℕ → Message
 readMessage agreed formats s = unlessBad (firstOf (lengthChecks agreed s)) (byType (typeOf s) formats s)
+
+-- a message s of the type with code k, n bytes long, from 16 bytes to the agreed length
+pub record OfType (agreed k n : ℕ) (s : List ℕ) : Type 0 where
+  pub code : typeOf s ≡ k
+  pub long : length s ≡ n
+  pub least : shortestMessage ≤ length s
+  pub most : length s ≤ agreed
+
+-- what a message s is read as: the fields of its type's layout, as they stand in it. What a bad one draws is said by the checks
+abbrev pub ReadAs : (agreed : ℕ) (s : List ℕ) → Message → Type 0
+ReadAs agreed s (Bad r) = Unit {0}
+ReadAs agreed s (Cmd c) = OfType agreed (cmd .code) (exactLength s) s × (shortestCommand ≤ length s) × (c ≡ commandOf s)
+ReadAs agreed s (TskMgmt k) = OfType agreed (tskMgmt .code) (tskMgmt .size) s × (k ≡ taskOf s)
+ReadAs agreed s (CredRsp g) = OfType agreed (credRsp .code) (credRsp .size) s × (g ≡ get tag s)
+ReadAs agreed s ILogout = OfType agreed (iLogout .code) (iLogout .size) s
 
 -- ── look
 
