@@ -1,10 +1,10 @@
 -- Demand 2, "what the port writes follows them too": every message that a call writes is one of five kinds, with values in the ranges of its
 -- layout's fields, so that it reads back as those values, and none is longer than 132 bytes.
 -- Assumes nothing.
-use mathlib.Core.Path.{_≡_, refl, ap, _∙_}
-use mathlib.Core.Logic.{inl, inr, ⊎-elim}
+use mathlib.Core.Path.{_≡_, refl, sym, ap, _∙_}
+use mathlib.Core.Logic.{_⊎_, inl, inr, ⊎-elim}
 use mathlib.Core.Bool.{Bool, true, false, cond, not, _&&_, _||_, true≢false}
-use mathlib.Core.List.{List, [], _∷_, _++_}
+use mathlib.Core.List.{List, [], _∷_, _++_, append-nil, List·Memᴰ, List·Memᴰ·head, List·Memᴰ·tail}
 use mathlib.Core.Option.{Option, none, some}
 use Prim.Native.Nat.{ℕ, _+_, _-_, _^_, _≤_, _<_}
 use native.Mathlib.Omega.{arith}
@@ -12,8 +12,8 @@ use lib.Dec.{ltb, eqb}
 use lib.ListN.{length, drop, length-append}
 use lib.Seq.{take-all}
 use borrow.Author.Tests.{ltb-false}
-use Rattle.srp.specs.Bytes.{bit, get, gets, typeOf, write, InRange}
-use Rattle.srp.specs.Messages.{tag, requestedLength, rsp, credReq, tLogout, loginRsp, loginRej, responseLength, senseLength}
+use Rattle.srp.specs.Bytes.{bit, get, gets, Layout, typeOf, write, InRange, inside}
+use Rattle.srp.specs.Messages.{tag, requestedLength, rsp, credReq, tLogout, loginRsp, loginRej, portLayouts, responseLength, senseLength}
 use Rattle.srp.specs.Lists.{find, without, isSome, All}
 use Rattle.srp.specs.Limits.{bufferSize}
 use Rattle.srp.specs.Refusals.{Conduct, hangsUp, answered, stays, altersNothing, conductOf, firstOf, short}
@@ -30,10 +30,10 @@ use Rattle.srp.specs.declared.Refusal.{Refusal}
 use Rattle.srp.specs.declared.Message.{Message}
 use Rattle.srp.specs.declared.Message.the-variants.{Bad, Cmd, TskMgmt, CredRsp, ILogout}
 use Rattle.srp.specs.Bytes.{Bytes}
-use Rattle.srp.proofs.FieldLaws.{get-below}
+use Rattle.srp.proofs.FieldLaws.{get-below, get-append}
 use Rattle.srp.specs.ReadBack.{Written}
-use Rattle.srp.specs.Sent.{Responds, Code, Behind, Sent, a-response, credit-request, target-logout, login-response, login-rejection, Writes}
-use Rattle.srp.proofs.Layouts.{written}
+use Rattle.srp.specs.Sent.{Responds, Follows, Code, Behind, Sent, a-response, credit-request, target-logout, login-response, login-rejection, Writes}
+use Rattle.srp.proofs.Layouts.{fine, written}
 use Rattle.srp.proofs.Commands.{there, beyond}
 use Rattle.srp.proofs.ListLaws.{all-find}
 use Rattle.srp.proofs.Checks.{passes, hit, both-false}
@@ -80,6 +80,47 @@ sent-fits (credit-request vs h) = omega (arith, written credReq refl vs h .long)
 sent-fits (target-logout vs h) = omega (arith, written tLogout refl vs h .long)
 sent-fits (login-response vs h) = omega (arith, written loginRsp refl vs h .long)
 sent-fits (login-rejection vs h) = omega (arith, written loginRej refl vs h .long)
+
+-- ── a message that the port writes follows its layout
+
+-- whatever stands behind the fixed part
+follows : (l : Layout) → fine l ≡ true → List·Memᴰ l portLayouts → (vs : List ℕ) → InRange (l .fields) vs → (s rest : List ℕ) → s ≡ write l vs ++ rest
+    → (typeOf s ≡ rsp .code) ⊎ (rest ≡ []) → (typeOf s ≡ rsp .code → (r : Response) × Responds r s) → length s ≤ bufferSize → Follows s
+follows l ok m vs r s rest e alone responds fits =
+    let w : Written l vs = written l ok vs r in
+    record {
+      layout = l;
+      among = m;
+      values = vs;
+      ranged = r;
+      behind = rest;
+      alone = alone;
+      written = e;
+      code = ap typeOf e ∙ w .code-before rest;
+      fields = ap (gets (l .fields)) e ∙ w .values-before rest;
+      responds = responds;
+      elsewhere = λ g i a. ap (get g) e ∙ get-append g (write l vs) rest (ap (λ (k : ℕ). inside k g) (w .long) ∙ i) ∙ w .zero-elsewhere g a;
+      fits = fits;
+    }
+
+-- nothing stands behind it, and its type is another than SRP_RSP's
+follows-alone : (l : Layout) → fine l ≡ true → List·Memᴰ l portLayouts → (l .code ≡ rsp .code → ⊥) → (vs : List ℕ) → InRange (l .fields) vs
+    → length (write l vs) ≤ bufferSize → Follows (write l vs)
+follows-alone l ok m other vs r fits =
+    follows l ok m vs r (write l vs) [] (sym (append-nil (write l vs))) (inr refl) (λ k. absurd (other (sym (written l ok vs r .code) ∙ k))) fits
+
+-- every message of the five kinds
+pub sent-follows : {s : List ℕ} → Sent s → Follows s
+sent-follows (a-response r h b) =
+    let a : Responds r (response r) = response-read r h in
+    follows rsp refl (List·Memᴰ·tail (List·Memᴰ·tail (List·Memᴰ·head refl))) (responseValues r) h (response r) (responseBytes (r .code) ++ r .sense) refl
+    (inl (a .code)) (λ _. (r, a)) (sent-fits (a-response r h b))
+sent-follows (credit-request vs h) =
+    follows-alone credReq refl (List·Memᴰ·tail (List·Memᴰ·tail (List·Memᴰ·tail (List·Memᴰ·head refl)))) (λ z. omega arith) vs h (sent-fits (credit-request vs h))
+sent-follows (target-logout vs h) =
+    follows-alone tLogout refl (List·Memᴰ·tail (List·Memᴰ·tail (List·Memᴰ·tail (List·Memᴰ·tail (List·Memᴰ·head refl))))) (λ z. omega arith) vs h (sent-fits (target-logout vs h))
+sent-follows (login-response vs h) = follows-alone loginRsp refl (List·Memᴰ·head refl) (λ z. omega arith) vs h (sent-fits (login-response vs h))
+sent-follows (login-rejection vs h) = follows-alone loginRej refl (List·Memᴰ·tail (List·Memᴰ·head refl)) (λ z. omega arith) vs h (sent-fits (login-rejection vs h))
 
 -- ── the values of each kind are in range
 

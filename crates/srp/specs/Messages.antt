@@ -1,6 +1,6 @@
 -- The layouts of the ten messages: document 01's "Requests", "What the port writes" and "Login", from source document 000.
 -- Each field has one name wherever it stands at one place. What is not named here is reserved.
-use mathlib.Core.List.{List, [], _∷_}
+use mathlib.Core.List.{List, [], _∷_, _++_}
 use Rattle.srp.specs.Bytes.{Field, bytes, bits, Layout}
 
 -- ── fields of several messages
@@ -180,8 +180,14 @@ tLogout = record { code = 0x80; size = 16; fields = solnt ∷ reason ∷ tag ∷
 
 -- ── all of them
 
+abbrev pub initiatorLayouts : List Layout
+initiatorLayouts = loginReq ∷ tskMgmt ∷ cmd ∷ iLogout ∷ credRsp ∷ []
+
+abbrev pub portLayouts : List Layout
+portLayouts = loginRsp ∷ loginRej ∷ rsp ∷ credReq ∷ tLogout ∷ []
+
 abbrev pub layouts : List Layout
-layouts = loginReq ∷ tskMgmt ∷ cmd ∷ iLogout ∷ credRsp ∷ loginRsp ∷ loginRej ∷ rsp ∷ credReq ∷ tLogout ∷ []
+layouts = initiatorLayouts ++ portLayouts
 
 -- ── a memory descriptor, and what follows it in a table descriptor
 

@@ -1,14 +1,16 @@
--- Demand 2, "what the port writes follows them too": the messages that the port writes, and how a response is read back. The laws are `every-write`,
--- `login-writes` and `response-read` of proofs/Sent.antt.
+-- Demand 2, "what the port writes follows them too": the messages that the port writes, and what it is to follow a layout. The laws are `every-write`,
+-- `login-writes` and `sent-follows` of proofs/Sent.antt.
 use mathlib.Core.Path.{_≡_}
 use mathlib.Core.Logic.{_⊎_}
-use mathlib.Core.List.{List, []}
+use mathlib.Core.Bool.{true}
+use mathlib.Core.List.{List, [], _++_, List·Memᴰ}
 use mathlib.Core.Option.{Option, none, some}
 use Prim.Native.Nat.{ℕ, _+_, _^_, _≤_, _<_}
 use lib.ListN.{length, take, drop}
-use Rattle.srp.specs.Limits.{longestSense}
-use Rattle.srp.specs.Bytes.{Bytes, get, gets, typeOf, write, InRange}
-use Rattle.srp.specs.Messages.{rsp, credReq, tLogout, loginRsp, loginRej, responseLength, senseLength}
+use Rattle.srp.specs.Limits.{bufferSize, longestSense}
+use Rattle.srp.specs.Bytes.{Bytes, Field, get, gets, Layout, typeOf, write, InRange, inside, apartFrom}
+use Rattle.srp.specs.Messages.{rsp, credReq, tLogout, loginRsp, loginRej, portLayouts, responseLength, senseLength}
+use Rattle.srp.specs.ReadBack.{whole}
 use Rattle.srp.specs.Lists.{All}
 use Rattle.srp.specs.Credit.{Port}
 use Rattle.srp.specs.Writing.{Response, responseBytes, responseValues, response}
@@ -22,6 +24,25 @@ pub record Responds (r : Response) (s : List ℕ) : Type 0 where
   pub long : length s ≡ rsp .size + get responseLength s + get senseLength s
   pub bytes : take (get responseLength s) (drop (rsp .size) s) ≡ responseBytes (r .code)
   pub sense : take (get senseLength s) (drop (rsp .size + get responseLength s) s) ≡ r .sense
+
+-- the message s follows a layout: written by it from values in the fields' ranges, it reads back as those values
+pub record Follows (s : List ℕ) : Type 0 where
+  -- one of the five that a port writes
+  pub layout : Layout
+  pub among : List·Memᴰ layout portLayouts
+  pub values : List ℕ
+  pub ranged : InRange (layout .fields) values
+  -- what stands behind the fixed part: an SRP_RSP's response bytes and sense, nothing else's
+  pub behind : List ℕ
+  pub alone : (typeOf s ≡ rsp .code) ⊎ (behind ≡ [])
+  pub written : s ≡ write layout values ++ behind
+  pub code : typeOf s ≡ layout .code
+  pub fields : gets (layout .fields) s ≡ values
+  pub responds : typeOf s ≡ rsp .code → (r : Response) × Responds r s
+  -- every other byte and bit of the fixed part is 0
+  pub elsewhere : (g : Field) → inside (layout .size) g ≡ true → apartFrom g (whole layout) ≡ true → get g s ≡ 0
+  -- it fits into a lent buffer
+  pub fits : length s ≤ bufferSize
 
 -- ── the five kinds
 
