@@ -1,13 +1,13 @@
 -- The store with one command's memory descriptors more, and the port with one command more.
 -- Assumes nothing.
-use mathlib.Core.Path.{_≡_, refl, _∙_, ap}
+use mathlib.Core.Path.{_≡_, refl, sym, _∙_, ap}
 use mathlib.Core.List.{List, [], _∷_, _++_, map, map-append}
-use mathlib.Core.Logic.{inl, inr, ⊎-elim}
+use mathlib.Core.Logic.{_⊎_, inl, inr, ⊎-elim}
 use Prim.Native.Nat.{ℕ, suc, _+_, _-_, _*_, _/_, _≤_, _<_}
 use native.Mathlib.Omega.{arith}
 use native.Mathlib.Numerals.{add-one}
-use lib.ListN.{length, getD, take, drop, set}
-use lib.Seq.{paste, length-paste, take-suc-set, getD-take}
+use lib.ListN.{length, getD, take, drop, set, length-drop}
+use lib.Seq.{paste, length-paste, take-all, take-suc-set, getD-take, getD-set-same}
 use Rattle.words.specs.declared.Head.{Head}
 use Rattle.srp.specs.Credit.{Open}
 use Rattle.words.specs.declared.Slot.{Slot}
@@ -18,7 +18,7 @@ use Rattle.words.specs.Head.{HeadIs, CountsFit, headOf, countedOf, SlotChanged,
 use Rattle.words.specs.View.{opens, openOf, openPort}
 use Rattle.words.proofs.Slots.{apart, written, either, slots-long}
 use Rattle.words.proofs.Ports.{opens-long, slot-fits}
-use Rattle.store.specs.Places.{Free, Segments, Entered, newPart, newSlot, enteredSide, enteredOpen}
+use Rattle.store.specs.Places.{Free, Segments, OwnPlace, Entered, newPlace, newPart, newSlot, enteredSide, enteredOpen}
 
 -- maps that agree on the elements of a list
 map-same : {A B : Type 0} (f g : A → B) (l : List A) (d : A) → ((j : ℕ) → j < length l → f (getD l j d) ≡ g (getD l j d)) → map f l ≡ map g l
@@ -28,6 +28,10 @@ map-same f g (x ∷ xs) d h = rw (h 0 (omega arith), map-same f g xs d (λ j q. 
 -- as many bytes as the descriptors counted
 whole-list : (l : List ℕ) → Segments l → 16 * (length l / 16) ≡ length l
 whole-list l S = omega (arith, S .whole)
+
+-- as many bytes as the store has, from one on, are all from that on
+to-end : (l : List ℕ) (at : ℕ) → length l ≡ storeSize → take storeSize (drop at l) ≡ drop at l
+to-end l at e = take-all storeSize (drop at l) (simp length-drop (omega arith))
 
 -- an open command is in its ranges
 open-fits : (l : List ℕ) (j : ℕ) → j < headOf l .held → SlotFits (getD (opens l) j noSlot)
@@ -64,13 +68,31 @@ module _ (st out inn : List ℕ) (long : length st ≡ storeSize) (So : Segments
   out-long : length with-out ≡ storeSize
   out-long = length-paste st (k * placeSize) out (length out) (omega (arith, So .short)) (omega arith) ∙ long
 
+  both-long : length with-both ≡ storeSize
+  both-long = length-paste with-out (k * placeSize + listSize) inn (length inn) (omega (arith, Si .short, out-long)) (omega arith) ∙ out-long
+
+  -- what is before or behind the place stays
+  outside : (at n : ℕ) → (at + n ≤ k * placeSize) ⊎ (k * placeSize + placeSize ≤ at) → take n (drop at with-both) ≡ take n (drop at st)
+  outside at n h =
+      apart with-out (k * placeSize + listSize) inn (length inn) (omega (arith, Si .short, out-long)) (omega arith) at n
+      (⊎-elim (λ g. inl (omega arith)) (λ g. inr (omega (arith, Si .short))) h)
+      ∙ apart st (k * placeSize) out (length out) (omega (arith, So .short)) (omega arith) at n
+      (⊎-elim (λ g. inl (omega arith)) (λ g. inr (omega (arith, So .short))) h)
+
+  -- so all bytes before it stay
+  before : take (placeSize * k) with-both ≡ take (placeSize * k) st
+  before = outside 0 (placeSize * k) (inl (omega arith))
+
+  -- and all bytes behind it
+  behind : drop (placeSize * k + placeSize) with-both ≡ drop (placeSize * k + placeSize) st
+  behind =
+      sym (to-end with-both (placeSize * k + placeSize) both-long)
+      ∙ outside (placeSize * k + placeSize) storeSize (inr (omega arith))
+      ∙ to-end st (placeSize * k + placeSize) long
+
   -- the descriptors of another place stay
   elsewhere : (j at n : ℕ) → (j ≡ k → ⊥) → j * placeSize ≤ at → at + n ≤ j * placeSize + placeSize → take n (drop at with-both) ≡ take n (drop at st)
-  elsewhere j at n ne lo hi =
-      apart with-out (k * placeSize + listSize) inn (length inn) (omega (arith, Si .short, out-long)) (omega arith) at n
-      (⊎-elim (λ h. inl (omega arith)) (λ h. inr (omega (arith, Si .short))) (either j k ne))
-      ∙ apart st (k * placeSize) out (length out) (omega (arith, So .short)) (omega arith) at n
-      (⊎-elim (λ h. inl (omega arith)) (λ h. inr (omega (arith, So .short))) (either j k ne))
+  elsewhere j at n ne lo hi = outside at n (⊎-elim (λ h. inl (omega arith)) (λ h. inr (omega arith)) (either j k ne))
 
   -- so a command of another place stays
   others : (c : Slot) → SlotFits c → (c .place ≡ k → ⊥) → openOf with-both c ≡ openOf st c
@@ -114,6 +136,14 @@ module _ (st out inn : List ℕ) (long : length st ≡ storeSize) (So : Segments
         (add-one, take-suc-set (slots l) (headOf l .held) slot (rw (slots-long mostSlots 0 l) room), map-append, here r n m, map-same (openOf with-both) (openOf st) (opens l) noSlot (λ j q. others (getD (opens l) j noSlot) (open-fits l j (omega (arith, opens-long l))) (free .apart j q)))
         refl
 
+    -- the store has changed at the new command's place alone
+    own : (l′ : List ℕ) → slots l′ ≡ set (slots l) (headOf l .held) slot → OwnPlace l st l′ with-both
+    own l′ sl =
+        let e : newPlace l l′ ≡ k =
+        ap (λ (cs : List Slot). getD cs (headOf l .held) noSlot .place) sl
+        ∙ ap (λ (c : Slot). c .place) (getD-set-same (slots l) (headOf l .held) slot noSlot (rw (slots-long mostSlots 0 l) room)) in
+        record { free = rw e free; before = rw e before; behind = rw e behind; size = both-long ∙ sym long }
+
     -- the words with the slot, then with the counts, are the port with the command; the other counts are those of the head that was read
     pub entered : (h : Head) → h ≡ headOf l → (l₁ : List ℕ) → SlotChanged l l₁ (h .held) (λ _. slot)
         → (l′ : List ℕ) → HeadChanged l₁ l′ (countedOf (h .held + 1) (h .wanted) (h .announced - 1) (h .unanswered))
@@ -127,4 +157,5 @@ module _ (st out inn : List ℕ) (long : length st ≡ storeSize) (So : Segments
         record {
           live = ap (λ (x : Head). x .live) hl;
           port = ap (λ (x : Head). openPort x (slots l′) with-both) hl ∙ rw (sl, held) refl;
+          place = own l′ sl;
         }

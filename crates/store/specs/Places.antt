@@ -2,18 +2,18 @@
 use mathlib.Core.Path.{_≡_}
 use mathlib.Core.Bool.{Bool, true, false}
 use mathlib.Core.List.{List, [], _∷_, _++_}
-use Prim.Native.Nat.{ℕ, _+_, _-_, _≤_, _<_, _%_}
-use lib.ListN.{length, getD}
+use Prim.Native.Nat.{ℕ, _+_, _-_, _*_, _≤_, _<_, _%_}
+use lib.ListN.{length, getD, take, drop}
 use Rattle.srp.specs.Bytes.{bit}
 use Rattle.srp.specs.Descriptors.{segmentsOf}
 use Rattle.srp.specs.Both.{Both}
 use Rattle.srp.specs.Credit.{Side, Open, Port, withHeld}
 use Rattle.srp.specs.Limits.{longestTable}
 use Rattle.srp.specs.declared.Request.{Request}
-use Rattle.words.specs.Sizes.{mostSlots}
-use Rattle.words.specs.Slots.{noSlot}
+use Rattle.words.specs.Sizes.{mostSlots, placeSize}
+use Rattle.words.specs.Slots.{slots, noSlot}
 use Rattle.words.specs.Head.{headOf}
-use Rattle.words.specs.View.{shown}
+use Rattle.words.specs.View.{opens, shown}
 use Rattle.words.specs.declared.Part.{Part}
 use Rattle.words.specs.declared.Slot.{Slot}
 
@@ -57,7 +57,19 @@ enteredOpen r sides = record { request = r; planned = false; sides = sides }
 abbrev pub withOneMore : Open → Port → Port
 withOneMore c p = withHeld p (p .announced - 1) (p .held ++ (c ∷ []))
 
+-- the place of the new command, whose slot is the one behind the open ones
+abbrev pub newPlace : (l l′ : List ℕ) → ℕ
+newPlace l l′ = getD (slots l′) (headOf l .held) noSlot .place
+
+-- a new command's place is one that no open command uses, and every byte of the other places is as it was
+pub record OwnPlace (l st l′ st′ : List ℕ) : Type 0 where
+  pub free : Free (opens l) (newPlace l l′)
+  pub before : take (placeSize * newPlace l l′) st′ ≡ take (placeSize * newPlace l l′) st
+  pub behind : drop (placeSize * newPlace l l′ + placeSize) st′ ≡ drop (placeSize * newPlace l l′ + placeSize) st
+  pub size : length st′ ≡ length st
+
 -- the command r is entered, with B and the memory descriptors of each direction
 pub record Entered (l st l′ st′ : List ℕ) (r : Request) (outTotal : ℕ) (out : List ℕ) (inTotal : ℕ) (inn : List ℕ) : Type 0 where
   pub live : headOf l′ .live ≡ headOf l .live
   pub port : shown l′ st′ ≡ withOneMore (enteredOpen r (record { out = enteredSide outTotal out; inn = enteredSide inTotal inn })) (shown l st)
+  pub place : OwnPlace l st l′ st′
