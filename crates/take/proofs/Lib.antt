@@ -1,3 +1,4 @@
 pub mod Branches
 pub mod Endings
 pub mod Heads
+pub mod Stored

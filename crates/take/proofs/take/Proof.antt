@@ -1,11 +1,13 @@
-use mathlib.Core.Path.{_∙_, subst}
+use mathlib.Core.Path.{refl, _∙_, subst}
 use lib.ListN.{length}
 use Rattle.srp.specs.declared.Refusal.the-variants.{ShortBuffer, Closed}
+use Rattle.srp.specs.declared.Message.the-variants.{TskMgmt, CredRsp, ILogout}
 use Rattle.request.specs.Reading.{FitsMessage}
 use Rattle.words.specs.View.{view}
 use Rattle.state.proofs.Promises.{answers-by, unaltered}
 use Rattle.state.proofs.Opened.{head-open, port-closed}
 use Rattle.take.specs.Taking.{tables}
+use Rattle.take.proofs.Stored.{not-taken, later-takes}
 use Rattle.take.proofs.Branches.{take-1, take-21, bad-drops}
 use Rattle.take.proofs.Heads.{take-of}
 use borrow.Author.Needs.{needs}
@@ -34,8 +36,8 @@ refused-requires c κs = search needs
 returns : tie.Need-returns
 returns c =
     let a = c .before .before .before .before .before .before .args in
-    answers-by (take-1 (view (a .s .now) (a .store .now)) (length (a .buf .now)) (a .msg .now) (tables (a .out .now) (a .inn .now)) (c .before .if1 .taken))
-    (unaltered (a .s .now) (a .store .now) (a .buf .now) ShortBuffer _ (c .refused .ensures))
+    let A = unaltered (a .s .now) (a .store .now) (a .buf .now) ShortBuffer _ (c .refused .ensures) in
+    record { answers = answers-by (take-1 (view (a .s .now) (a .store .now)) (length (a .buf .now)) (a .msg .now) (tables (a .out .now) (a .inn .now)) (c .before .if1 .taken)) A; store = not-taken A refl }
 
 -- src/lib.rt:145:9
 get-head-requires : tie.Need-get-head-requires
@@ -49,8 +51,8 @@ refused-requires-2 c κs = search needs
 returns-2 : tie.Need-returns-2
 returns-2 c =
     let a = c .before .before .before .before .before .before .before .before .before .before .args in
-    answers-by (take-21 (view (a .s .now) (a .store .now)) (length (a .buf .now)) (a .msg .now) (tables (a .out .now) (a .inn .now)) (c .before .before .before .before .before .if1 .left) (port-closed (c .before .before .get-head .ensures) (a .store .now) (c .before .if2 .taken)))
-    (unaltered (a .s .now) (a .store .now) (a .buf .now) Closed _ (c .refused2 .ensures))
+    let A = unaltered (a .s .now) (a .store .now) (a .buf .now) Closed _ (c .refused2 .ensures) in
+    record { answers = answers-by (take-21 (view (a .s .now) (a .store .now)) (length (a .buf .now)) (a .msg .now) (tables (a .out .now) (a .inn .now)) (c .before .before .before .before .before .if1 .left) (port-closed (c .before .before .get-head .ensures) (a .store .now) (c .before .if2 .taken))) A; store = not-taken A refl }
 
 -- src/lib.rt:151:11
 read-message-requires : tie.Need-read-message-requires
@@ -121,7 +123,8 @@ returns-3 c =
     let a = c .before .before .before .before .before .before .before .before .before .before .before .before .before .before .before .before .before .before .before .args in
     let h = c .before .before .before .before .before .before .before .before .before .before .before .get-head .ensures in
     let read = take-of h (a .store .now) (head-open h (c .before .before .before .before .before .before .before .before .before .before .if2 .left)) (length (a .buf .now)) (c .before .before .before .before .before .before .before .before .before .before .before .before .before .before .if1 .left) (a .msg .now) (tables (a .out .now) (a .inn .now)) (c .before .before .before .before .before .before .before .before .read-message .ensures .0) (c .before .before .before .before .before .before .f .given .1) in
-    answers-by (read ∙ bad-drops (view (a .s .now) (a .store .now)) (a .msg .now) (tables (a .out .now) (a .inn .now)) _ (subst (FitsMessage (a .msg .now)) (c .before .before .before .before .before .before .f .given .1) (c .before .before .before .before .before .before .before .before .read-message .ensures .1))) (c .before .before .hang-up .ensures (a .store .now))
+    let A = c .before .before .hang-up .ensures (a .store .now) in
+    record { answers = answers-by (read ∙ bad-drops (view (a .s .now) (a .store .now)) (a .msg .now) (tables (a .out .now) (a .inn .now)) _ (subst (FitsMessage (a .msg .now)) (c .before .before .before .before .before .before .f .given .1) (c .before .before .before .before .before .before .before .before .read-message .ensures .1))) A; store = not-taken A refl }
 
 -- src/lib.rt:130:1
 same-length-2 : tie.Need-same-length-2
@@ -133,7 +136,8 @@ returns-4 c =
     let a = c .before .before .before .before .before .before .before .before .before .before .before .before .before .before .before .before .before .before .before .before .args in
     let h = c .before .before .before .before .before .before .before .before .before .before .before .before .get-head .ensures in
     let read = take-of h (a .store .now) (head-open h (c .before .before .before .before .before .before .before .before .before .before .before .if2 .left)) (length (a .buf .now)) (c .before .before .before .before .before .before .before .before .before .before .before .before .before .before .before .if1 .left) (a .msg .now) (tables (a .out .now) (a .inn .now)) (c .before .before .before .before .before .before .before .before .before .read-message .ensures .0) (c .before .before .before .before .before .before .before .c .given .1) in
-    answers-by read (c .before .before .take-command .ensures)
+    let C = c .before .before .take-command .ensures in
+    record { answers = answers-by read (C .answers); store = C .store }
 
 -- src/lib.rt:130:1
 same-length-3 : tie.Need-same-length-3
@@ -145,7 +149,8 @@ returns-5 c =
     let a = c .before .before .before .before .before .before .before .before .before .before .before .before .before .before .before .before .before .before .before .args in
     let h = c .before .before .before .before .before .before .before .before .before .before .before .get-head .ensures in
     let read = take-of h (a .store .now) (head-open h (c .before .before .before .before .before .before .before .before .before .before .if2 .left)) (length (a .buf .now)) (c .before .before .before .before .before .before .before .before .before .before .before .before .before .before .if1 .left) (a .msg .now) (tables (a .out .now) (a .inn .now)) (c .before .before .before .before .before .before .before .before .read-message .ensures .0) (c .before .before .before .before .before .before .t .given .1) in
-    answers-by read (c .before .before .take-task .ensures (a .store .now) (a .msg .now) (tables (a .out .now) (a .inn .now)))
+    let A = c .before .before .take-task .ensures (a .store .now) (a .msg .now) (tables (a .out .now) (a .inn .now)) in
+    record { answers = answers-by read A; store = not-taken A (later-takes (view (a .s .now) (a .store .now)) (a .msg .now) (tables (a .out .now) (a .inn .now)) (TskMgmt (c .before .before .before .before .before .before .t .given .0 .0)) refl) }
 
 -- src/lib.rt:130:1
 same-length-4 : tie.Need-same-length-4
@@ -157,7 +162,8 @@ returns-6 c =
     let a = c .before .before .before .before .before .before .before .before .before .before .before .before .before .before .before .before .before .before .before .args in
     let h = c .before .before .before .before .before .before .before .before .before .before .before .get-head .ensures in
     let read = take-of h (a .store .now) (head-open h (c .before .before .before .before .before .before .before .before .before .before .if2 .left)) (length (a .buf .now)) (c .before .before .before .before .before .before .before .before .before .before .before .before .before .before .if1 .left) (a .msg .now) (tables (a .out .now) (a .inn .now)) (c .before .before .before .before .before .before .before .before .read-message .ensures .0) (c .before .before .before .before .before .before .tag .given .1) in
-    answers-by read (c .before .before .take-credit .ensures (a .store .now) (a .msg .now) (tables (a .out .now) (a .inn .now)))
+    let A = c .before .before .take-credit .ensures (a .store .now) (a .msg .now) (tables (a .out .now) (a .inn .now)) in
+    record { answers = answers-by read A; store = not-taken A (later-takes (view (a .s .now) (a .store .now)) (a .msg .now) (tables (a .out .now) (a .inn .now)) (CredRsp (c .before .before .before .before .before .before .tag .given .0 .0)) refl) }
 
 -- src/lib.rt:130:1
 returns-7 : tie.Need-returns-7
@@ -165,7 +171,8 @@ returns-7 c =
     let a = c .before .before .before .before .before .before .before .before .before .before .before .before .before .before .before .args in
     let h = c .before .before .before .before .before .before .before .get-head .ensures in
     let read = take-of h (a .store .now) (head-open h (c .before .before .before .before .before .before .if2 .left)) (length (a .buf .now)) (c .before .before .before .before .before .before .before .before .before .before .if1 .left) (a .msg .now) (tables (a .out .now) (a .inn .now)) (c .before .before .before .before .read-message .ensures .0) (c .before .before .enum-told .given .1) in
-    answers-by read (c .take-logout .ensures (a .buf .now) (a .store .now) (a .msg .now) (tables (a .out .now) (a .inn .now)))
+    let A = c .take-logout .ensures (a .buf .now) (a .store .now) (a .msg .now) (tables (a .out .now) (a .inn .now)) in
+    record { answers = answers-by read A; store = not-taken A (later-takes (view (a .s .now) (a .store .now)) (a .msg .now) (tables (a .out .now) (a .inn .now)) ILogout refl) }
 
 pub take-spec : {M : Type 1} → statement M
 take-spec =

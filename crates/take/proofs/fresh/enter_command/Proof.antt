@@ -1,6 +1,7 @@
 use mathlib.Core.Path.{refl}
 use Rattle.state.proofs.Promises.{accepted}
 use Rattle.take.proofs.Endings.{entered}
+use Rattle.take.proofs.Stored.{taken}
 use borrow.Author.Needs.{needs}
 use Rattle.take.proofs.fresh.enter_command.Statement.{statement}
 use Rattle.take.proofs.fresh.enter_command.Tie as tie
@@ -41,10 +42,14 @@ same-length-2 c = search needs
 
 -- src/fresh.rt:20:1
 returns : tie.Need-returns
-returns c b =
+returns c =
     let a = c .before .before .before .before .before .before .before .before .before .before .before .before .before .before .before .before .before .args in
     let s = c .before .before .before .before .before .before .before .before .before .before .before .before .before .before .before .before .before .pre .1 .1 .1 .1 .1 in
-    accepted refl (entered (a .s .now) (a .store .now) _ _ (a .msg .now) (a .out .now) (a .inn .now) (a .c) (a .out-total) (a .in-total) _ _ (c .before .before .before .before .before .before .before .before .before .before .before .before .before .before .before .before .before .pre .1 .1 .0) (c .before .before .before .before .before .before .before .before .segment-list .ensures) (c .before .before .before .before .before .before .before .segment-list2 .ensures) (s .out-sum) (s .in-sum) (c .before .before .before .before .enter .ensures)) refl refl refl
+    let E = c .before .before .before .before .enter .ensures in
+    record {
+      answers = λ b. accepted refl (entered (a .s .now) (a .store .now) _ _ (a .msg .now) (a .out .now) (a .inn .now) (a .c) (a .out-total) (a .in-total) _ _ (c .before .before .before .before .before .before .before .before .before .before .before .before .before .before .before .before .before .pre .1 .1 .0) (c .before .before .before .before .before .before .before .before .segment-list .ensures) (c .before .before .before .before .before .before .before .segment-list2 .ensures) (s .out-sum) (s .in-sum) E) refl refl refl;
+      store = taken refl (E .place);
+    }
 
 pub enter-command-spec : {M : Type 1} → statement M
 enter-command-spec =

@@ -1,9 +1,10 @@
-use mathlib.Core.Path.{_∙_, sym, subst}
+use mathlib.Core.Path.{refl, _∙_, sym, subst}
 use Rattle.words.specs.View.{view}
 use Rattle.state.specs.Changes.{FoundIs}
 use Rattle.state.proofs.Promises.{answers-by, tag-open, tag-free}
 use Rattle.state.proofs.Opened.{announced-is}
 use Rattle.take.specs.Taking.{tables}
+use Rattle.take.proofs.Stored.{not-taken}
 use Rattle.take.proofs.Branches.{command-22, command-23, command-on}
 use Rattle.take.proofs.Heads.{some-credit}
 use borrow.Author.Needs.{needs}
@@ -36,7 +37,8 @@ same-length-2 c = search needs
 returns : tie.Need-returns
 returns c =
     let a = c .before .before .before .before .before .before .before .before .before .before .before .before .before .before .before .before .before .args in
-    answers-by (command-22 (view (a .s .now) (a .store .now)) (a .msg .now) (tables (a .out .now) (a .inn .now)) (a .c) (announced-is (c .before .before .before .before .before .before .before .before .before .get-head .ensures) (a .store .now) (c .before .before .before .before .before .before .before .before .before .before .before .before .before .before .before .before .before .pre .1 .1 .0) ∙ c .before .before .before .before .before .before .before .if1 .taken)) (c .before .before .before .before .hang-up .ensures (a .store .now))
+    let A = c .before .before .before .before .hang-up .ensures (a .store .now) in
+    record { answers = answers-by (command-22 (view (a .s .now) (a .store .now)) (a .msg .now) (tables (a .out .now) (a .inn .now)) (a .c) (announced-is (c .before .before .before .before .before .before .before .before .before .get-head .ensures) (a .store .now) (c .before .before .before .before .before .before .before .before .before .before .before .before .before .before .before .before .before .pre .1 .1 .0) ∙ c .before .before .before .before .before .before .before .if1 .taken)) A; store = not-taken A refl }
 
 -- src/fresh.rt:127:26
 find-requires : tie.Need-find-requires
@@ -67,7 +69,8 @@ returns-2 c =
     let a = c .before .before .before .before .before .before .before .before .before .before .before .before .before .before .before .before .before .before .before .before .before .before .args in
     let e = announced-is (c .before .before .before .before .before .before .before .before .before .before .before .before .before .before .get-head .ensures) (a .store .now) (c .before .before .before .before .before .before .before .before .before .before .before .before .before .before .before .before .before .before .before .before .before .before .pre .1 .1 .0) in
     let f = subst (FoundIs (a .s .now) (a .c .request .tag)) (c .before .before .before .before .before .before .before .enum-told2 .given .1) (c .before .before .before .before .before .before .before .before .before .find .ensures) in
-    answers-by (command-23 (view (a .s .now) (a .store .now)) (a .msg .now) (tables (a .out .now) (a .inn .now)) (a .c) (λ z. c .before .before .before .before .before .before .before .before .before .before .before .before .if1 .left (sym e ∙ z)) (tag-open f (c .before .before .before .before .before .before .before .before .before .before .before .before .before .before .before .before .before .before .before .before .before .before .pre .1 .1 .0) (a .store .now))) (c .before .before .before .before .hang-up2 .ensures (a .store .now))
+    let A = c .before .before .before .before .hang-up2 .ensures (a .store .now) in
+    record { answers = answers-by (command-23 (view (a .s .now) (a .store .now)) (a .msg .now) (tables (a .out .now) (a .inn .now)) (a .c) (λ z. c .before .before .before .before .before .before .before .before .before .before .before .before .if1 .left (sym e ∙ z)) (tag-open f (c .before .before .before .before .before .before .before .before .before .before .before .before .before .before .before .before .before .before .before .before .before .before .pre .1 .1 .0) (a .store .now))) A; store = not-taken A refl }
 
 -- src/fresh.rt:130:5
 take-fields-requires : tie.Need-take-fields-requires
@@ -92,7 +95,8 @@ returns-3 c =
     let a = c .before .before .before .before .before .before .before .before .before .before .before .before .before .before .before .before .before .before .before .before .before .before .before .before .before .args in
     let e = announced-is (c .before .before .before .before .before .before .before .before .before .before .before .before .before .before .before .before .before .get-head .ensures) (a .store .now) (c .before .before .before .before .before .before .before .before .before .before .before .before .before .before .before .before .before .before .before .before .before .before .before .before .before .pre .1 .1 .0) in
     let f = subst (FoundIs (a .s .now) (a .c .request .tag)) (c .before .before .before .before .before .before .before .before .before .before .enum-told .given .1) (c .before .before .before .before .before .before .before .before .before .before .before .before .find .ensures) in
-    answers-by (command-on (view (a .s .now) (a .store .now)) (a .msg .now) (tables (a .out .now) (a .inn .now)) (a .c) (λ z. c .before .before .before .before .before .before .before .before .before .before .before .before .before .before .before .if1 .left (sym e ∙ z)) (tag-free (a .s .now) (a .c .request .tag) f (c .before .before .before .before .before .before .before .before .before .before .before .before .before .before .before .before .before .before .before .before .before .before .before .before .before .pre .1 .1 .0) (a .store .now))) (c .before .before .before .before .before .before .take-fields .ensures)
+    let F = c .before .before .before .before .before .before .take-fields .ensures in
+    record { answers = answers-by (command-on (view (a .s .now) (a .store .now)) (a .msg .now) (tables (a .out .now) (a .inn .now)) (a .c) (λ z. c .before .before .before .before .before .before .before .before .before .before .before .before .before .before .before .if1 .left (sym e ∙ z)) (tag-free (a .s .now) (a .c .request .tag) f (c .before .before .before .before .before .before .before .before .before .before .before .before .before .before .before .before .before .before .before .before .before .before .before .before .before .pre .1 .1 .0) (a .store .now))) (F .answers); store = F .store }
 
 pub take-command-spec : {M : Type 1} → statement M
 take-command-spec =

@@ -1,4 +1,4 @@
-use mathlib.Core.Path.{_∙_, sym, subst}
+use mathlib.Core.Path.{refl, _∙_, sym, subst}
 use Rattle.srp.specs.Descriptors.{segmentBytes}
 use Rattle.srp.specs.declared.Refusal.the-variants.{TableLength}
 use Rattle.cut.specs.declared.Total.{Total}
@@ -6,6 +6,7 @@ use Rattle.command.specs.Reading.{ListFits}
 use Rattle.words.specs.View.{view}
 use Rattle.state.proofs.Promises.{answers-by, unaltered}
 use Rattle.take.specs.Taking.{tables}
+use Rattle.take.proofs.Stored.{not-taken}
 use Rattle.take.proofs.Branches.{out-9, in-9, out-10, in-10, fields-on, fields-wrong, fields-right}
 use borrow.Author.Needs.{needs}
 use Rattle.take.proofs.fresh.take_fields.Statement.{statement}
@@ -34,8 +35,8 @@ refused-requires c κs = search needs
 returns : tie.Need-returns
 returns c =
     let a = c .before .before .before .before .before .before .before .before .before .before .before .before .args in
-    answers-by (out-9 (view (a .s .now) (a .store .now)) (a .msg .now) (tables (a .out .now) (a .inn .now)) (a .c) (λ z. c .before .if1 .taken (z ∙ sym (c .before .before .fetched-length .ensures))))
-    (unaltered (a .s .now) (a .store .now) (a .buf .now) TableLength _ (c .refused .ensures))
+    let A = unaltered (a .s .now) (a .store .now) (a .buf .now) TableLength _ (c .refused .ensures) in
+    record { answers = answers-by (out-9 (view (a .s .now) (a .store .now)) (a .msg .now) (tables (a .out .now) (a .inn .now)) (a .c) (λ z. c .before .if1 .taken (z ∙ sym (c .before .before .fetched-length .ensures)))) A; store = not-taken A refl }
 
 -- src/fresh.rt:90:18
 fetched-length-requires-2 : tie.Need-fetched-length-requires-2
@@ -53,8 +54,8 @@ refused-requires-2 c κs = search needs
 returns-2 : tie.Need-returns-2
 returns-2 c =
     let a = c .before .before .before .before .before .before .before .before .before .before .before .before .before .before .args in
-    answers-by (in-9 (view (a .s .now) (a .store .now)) (a .msg .now) (tables (a .out .now) (a .inn .now)) (a .c) (c .before .before .before .if1 .left ∙ c .before .before .before .before .fetched-length .ensures) (λ z. c .before .if2 .taken (z ∙ sym (c .before .before .fetched-length2 .ensures))))
-    (unaltered (a .s .now) (a .store .now) (a .buf .now) TableLength _ (c .refused2 .ensures))
+    let A = unaltered (a .s .now) (a .store .now) (a .buf .now) TableLength _ (c .refused2 .ensures) in
+    record { answers = answers-by (in-9 (view (a .s .now) (a .store .now)) (a .msg .now) (tables (a .out .now) (a .inn .now)) (a .c) (c .before .before .before .if1 .left ∙ c .before .before .before .before .fetched-length .ensures) (λ z. c .before .if2 .taken (z ∙ sym (c .before .before .fetched-length2 .ensures)))) A; store = not-taken A refl }
 
 -- src/fresh.rt:94:33
 fields-requires : tie.Need-fields-requires
@@ -84,9 +85,12 @@ same-length-2 c = search needs
 returns-3 : tie.Need-returns-3
 returns-3 c =
     let a = c .before .before .before .before .before .before .before .before .before .before .before .before .before .before .before .before .before .before .before .before .before .before .before .args in
-    answers-by (out-10 (view (a .s .now) (a .store .now)) (a .msg .now) (tables (a .out .now) (a .inn .now)) (a .c) (c .before .before .before .before .before .before .before .before .before .before .before .before .if1 .left ∙ c .before .before .before .before .before .before .before .before .before .before .before .before .before .fetched-length .ensures) (c .before .before .before .before .before .before .before .before .before .before .if2 .left ∙ c .before .before .before .before .before .before .before .before .before .before .before .fetched-length2 .ensures)
-    (fields-wrong (a .c .out) (a .msg .now) (a .out .now) (sym (c .before .before .before .before .before .before .before .before .before .fields .ensures .0) ∙ c .before .before .before .before .before .before .before .enum-told .given .1)))
-    (c .before .before .before .before .answer-bad .ensures (a .store .now))
+    let A = c .before .before .before .before .answer-bad .ensures (a .store .now) in
+    record {
+      answers = answers-by (out-10 (view (a .s .now) (a .store .now)) (a .msg .now) (tables (a .out .now) (a .inn .now)) (a .c) (c .before .before .before .before .before .before .before .before .before .before .before .before .if1 .left ∙ c .before .before .before .before .before .before .before .before .before .before .before .before .before .fetched-length .ensures) (c .before .before .before .before .before .before .before .before .before .before .if2 .left ∙ c .before .before .before .before .before .before .before .before .before .before .before .fetched-length2 .ensures)
+          (fields-wrong (a .c .out) (a .msg .now) (a .out .now) (sym (c .before .before .before .before .before .before .before .before .before .fields .ensures .0) ∙ c .before .before .before .before .before .before .before .enum-told .given .1))) A;
+      store = not-taken A refl;
+    }
 
 -- src/fresh.rt:97:32
 fields-requires-2 : tie.Need-fields-requires-2
@@ -117,10 +121,13 @@ same-length-4 c = search needs
 returns-4 : tie.Need-returns-4
 returns-4 c =
     let a = c .before .before .before .before .before .before .before .before .before .before .before .before .before .before .before .before .before .before .before .before .before .before .before .before .before .before .before .args in
-    answers-by (in-10 (view (a .s .now) (a .store .now)) (a .msg .now) (tables (a .out .now) (a .inn .now)) (a .c) (c .before .before .before .before .before .before .before .before .before .before .before .before .before .before .before .before .if1 .left ∙ c .before .before .before .before .before .before .before .before .before .before .before .before .before .before .before .before .before .fetched-length .ensures) (c .before .before .before .before .before .before .before .before .before .before .before .before .before .before .if2 .left ∙ c .before .before .before .before .before .before .before .before .before .before .before .before .before .before .before .fetched-length2 .ensures)
-    (fields-right (a .c .out) (a .msg .now) (a .out .now) _ (sym (c .before .before .before .before .before .before .before .before .before .before .before .before .before .fields .ensures .0) ∙ c .before .before .before .before .before .before .before .before .before .before .before .out-total .given .1) .0)
-    (fields-wrong (a .c .inn) (a .msg .now) (a .inn .now) (sym (c .before .before .before .before .before .before .before .before .before .fields2 .ensures .0) ∙ c .before .before .before .before .before .before .before .enum-told2 .given .1)))
-    (c .before .before .before .before .answer-bad2 .ensures (a .store .now))
+    let A = c .before .before .before .before .answer-bad2 .ensures (a .store .now) in
+    record {
+      answers = answers-by (in-10 (view (a .s .now) (a .store .now)) (a .msg .now) (tables (a .out .now) (a .inn .now)) (a .c) (c .before .before .before .before .before .before .before .before .before .before .before .before .before .before .before .before .if1 .left ∙ c .before .before .before .before .before .before .before .before .before .before .before .before .before .before .before .before .before .fetched-length .ensures) (c .before .before .before .before .before .before .before .before .before .before .before .before .before .before .if2 .left ∙ c .before .before .before .before .before .before .before .before .before .before .before .before .before .before .before .fetched-length2 .ensures)
+          (fields-right (a .c .out) (a .msg .now) (a .out .now) _ (sym (c .before .before .before .before .before .before .before .before .before .before .before .before .before .fields .ensures .0) ∙ c .before .before .before .before .before .before .before .before .before .before .before .out-total .given .1) .0)
+          (fields-wrong (a .c .inn) (a .msg .now) (a .inn .now) (sym (c .before .before .before .before .before .before .before .before .before .fields2 .ensures .0) ∙ c .before .before .before .before .before .before .before .enum-told2 .given .1))) A;
+      store = not-taken A refl;
+    }
 
 -- src/fresh.rt:100:5
 enter-command-requires : tie.Need-enter-command-requires
@@ -160,10 +167,13 @@ same-length-6 c = search needs
 returns-5 : tie.Need-returns-5
 returns-5 c =
     let a = c .before .before .before .before .before .before .before .before .before .before .before .before .before .before .before .before .before .before .before .before .before .before .before .before .before .before .before .before .args in
-    answers-by (fields-on (view (a .s .now) (a .store .now)) (a .msg .now) (tables (a .out .now) (a .inn .now)) (a .c) (c .before .before .before .before .before .before .before .before .before .before .before .before .before .before .before .before .before .if1 .left ∙ c .before .before .before .before .before .before .before .before .before .before .before .before .before .before .before .before .before .before .fetched-length .ensures) (c .before .before .before .before .before .before .before .before .before .before .before .before .before .before .before .if2 .left ∙ c .before .before .before .before .before .before .before .before .before .before .before .before .before .before .before .before .fetched-length2 .ensures)
-    (fields-right (a .c .out) (a .msg .now) (a .out .now) _ (sym (c .before .before .before .before .before .before .before .before .before .before .before .before .before .before .fields .ensures .0) ∙ c .before .before .before .before .before .before .before .before .before .before .before .before .out-total .given .1) .0)
-    (fields-right (a .c .inn) (a .msg .now) (a .inn .now) _ (sym (c .before .before .before .before .before .before .before .before .before .before .fields2 .ensures .0) ∙ c .before .before .before .before .before .before .before .before .in-total .given .1) .0))
-    (c .before .before .before .before .enter-command .ensures (a .buf .now))
+    let E = c .before .before .before .before .enter-command .ensures in
+    record {
+      answers = answers-by (fields-on (view (a .s .now) (a .store .now)) (a .msg .now) (tables (a .out .now) (a .inn .now)) (a .c) (c .before .before .before .before .before .before .before .before .before .before .before .before .before .before .before .before .before .if1 .left ∙ c .before .before .before .before .before .before .before .before .before .before .before .before .before .before .before .before .before .before .fetched-length .ensures) (c .before .before .before .before .before .before .before .before .before .before .before .before .before .before .before .if2 .left ∙ c .before .before .before .before .before .before .before .before .before .before .before .before .before .before .before .before .fetched-length2 .ensures)
+          (fields-right (a .c .out) (a .msg .now) (a .out .now) _ (sym (c .before .before .before .before .before .before .before .before .before .before .before .before .before .before .fields .ensures .0) ∙ c .before .before .before .before .before .before .before .before .before .before .before .before .out-total .given .1) .0)
+          (fields-right (a .c .inn) (a .msg .now) (a .inn .now) _ (sym (c .before .before .before .before .before .before .before .before .before .before .fields2 .ensures .0) ∙ c .before .before .before .before .before .before .before .before .in-total .given .1) .0)) (E .answers (a .buf .now));
+      store = E .store;
+    }
 
 pub take-fields-spec : {M : Type 1} → statement M
 take-fields-spec =
