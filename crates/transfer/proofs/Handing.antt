@@ -5,6 +5,7 @@ use mathlib.Core.Bool.{true}
 use mathlib.Core.List.{List}
 use mathlib.Core.Option.{Option, some}
 use Prim.Native.Nat.{ℕ}
+use native.Mathlib.Omega.{arith}
 use lib.ListN.{getD}
 use Rattle.srp.specs.Lists.{find}
 use Rattle.srp.specs.Credit.{Port}
@@ -56,7 +57,7 @@ module _ {l : List ℕ} {tag i : ℕ} {c : Slot} (F : FoundAt l tag i) (S : Slot
   module _ {r : Cut} (is : r ≡ nextWrapped (nextOf T d (some (openOf st c)))) where
     -- no piece is left
     pub none-left : r ≡ CutDone → HandsOut l l st tag d Done
-    none-left e = replies-by (hand-by (no-piece (nextOf T d (some (openOf st c))) is e)) (performed refl refl refl refl)
+    none-left e = record { replies = replies-by (hand-by (no-piece (nextOf T d (some (openOf st c))) is e)) (performed refl refl refl refl); done = λ q. refl }
 
     -- a piece is handed out
     pub one-handed : {l′ : List ℕ} {k : Kind} (m : Piece) (n : ℕ) → r ≡ CutPiece m → k ≡ kindOf d → SlotChanged l l′ i (handedSlot d n)
@@ -68,5 +69,7 @@ module _ {l : List ℕ} {tag i : ℕ} {c : Slot} (F : FoundAt l tag i) (S : Slot
         ∙ a
         ∙ ap (λ (x : Piece). advanced d (x .len) (openOf st c)) (o .2)
         ∙ ap (λ (x : Slot). advanced d (o .0 .len) (openOf st x)) (S .whole) in
-        replies-by (hand-by (o .1))
-        (performed (ap (λ (x : Kind). Operation x m) q ∙ ap (Operation (kindOf d)) (o .2)) (changed-view l l′ st live F C (advanced d (o .0 .len)) moved) refl refl)
+        record {
+          replies = replies-by (hand-by (o .1)) (performed (ap (λ (x : Kind). Operation x m) q ∙ ap (Operation (kindOf d)) (o .2)) (changed-view l l′ st live F C (advanced d (o .0 .len)) moved) refl refl);
+          done = λ f. let z : _≡_ {A = ℕ} 0 1 = cc in let y : ⊥ = omega arith in absurd y;
+        }

@@ -1,4 +1,5 @@
 -- Step cut where the code is cut, and what plan and step promise.
+use mathlib.Core.Path.{_≡_}
 use mathlib.Core.List.{List}
 use Prim.Native.Nat.{ℕ}
 use Rattle.srp.specs.Lists.{find}
@@ -7,6 +8,7 @@ use Rattle.srp.specs.Take.{Outcome, hasTag}
 use Rattle.srp.specs.Calls.{planDef, stepDef, nextOf, handOut}
 use Rattle.srp.specs.declared.Direction.{Direction}
 use Rattle.srp.specs.declared.Reply.{Reply}
+use Rattle.srp.specs.declared.Reply.the-variants.{Done}
 use Rattle.words.specs.View.{view}
 use Rattle.state.specs.Promises.{RepliesAs, RepliesWith}
 
@@ -19,9 +21,12 @@ handDef p tag d = handOut p tag d (nextOf (p .terms) d (find (hasTag tag) (p .he
 abbrev pub Plans : (l l′ : List ℕ) (tag out inn : ℕ) → Reply → Type 0
 Plans l l′ tag out inn r = RepliesWith l l′ r (λ p. planDef p tag out inn)
 
-abbrev pub Steps : (l l′ st : List ℕ) (tag : ℕ) → Direction → Reply → Type 0
-Steps l l′ st tag d r = RepliesAs l st l′ st r (stepDef (view l st) tag d)
+-- "done" alters no word
+pub record Steps (l l′ st : List ℕ) (tag : ℕ) (d : Direction) (r : Reply) : Type 0 where
+  pub replies : RepliesAs l st l′ st r (stepDef (view l st) tag d)
+  pub done : r ≡ Done → l′ ≡ l
 
 -- of a planned command
-abbrev pub HandsOut : (l l′ st : List ℕ) (tag : ℕ) → Direction → Reply → Type 0
-HandsOut l l′ st tag d r = RepliesAs l st l′ st r (handDef (view l st) tag d)
+pub record HandsOut (l l′ st : List ℕ) (tag : ℕ) (d : Direction) (r : Reply) : Type 0 where
+  pub replies : RepliesAs l st l′ st r (handDef (view l st) tag d)
+  pub done : r ≡ Done → l′ ≡ l

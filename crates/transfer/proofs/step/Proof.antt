@@ -1,5 +1,5 @@
 -- `transfer::step` meets its contract. Assumes nothing.
-use mathlib.Core.Path.{_≡_, _∙_, ap}
+use mathlib.Core.Path.{_≡_, refl, _∙_, ap}
 use mathlib.Core.Bool.{true}
 use Rattle.srp.specs.declared.Refusal.the-variants.{Closed, TagNotOpen, Unplanned}
 use Rattle.words.specs.Head.{headOf}
@@ -23,7 +23,7 @@ returns c =
     let a = c .before .before .before .before .args in
     let l = a .s .now in
     let st = a .store .now in
-    replies-by (step-closed (view l st) (a .tag) (a .d) (port-closed (c .before .get-head .ensures) st (c .if1 .taken))) (refused l st Closed)
+    record { replies = replies-by (step-closed (view l st) (a .tag) (a .d) (port-closed (c .before .get-head .ensures) st (c .if1 .taken))) (refused l st Closed); done = λ e. refl }
 
 find-requires : tie.Need-find-requires
 find-requires c κs = search needs
@@ -40,7 +40,7 @@ returns-2 c =
     let l = a .s .now in
     let st = a .store .now in
     let live : headOf l .live ≡ true = head-open (c .before .before .before .before .before .before .get-head .ensures) (c .before .before .before .before .before .if1 .left) in
-    replies-by (step-unknown (view l st) (a .tag) (a .d) (view-live l st ∙ live) (found-none l (a .tag) (rw (c .enum-told .given .1) at (c .before .before .find .ensures)) live st)) (refused l st TagNotOpen)
+    record { replies = replies-by (step-unknown (view l st) (a .tag) (a .d) (view-live l st ∙ live) (found-none l (a .tag) (rw (c .enum-told .given .1) at (c .before .before .find .ensures)) live st)) (refused l st TagNotOpen); done = λ e. refl }
 
 load-requires : tie.Need-load-requires
 load-requires c κs =
@@ -55,7 +55,7 @@ returns-3 c =
     let st = a .store .now in
     let live : headOf l .live ≡ true = head-open (c .before .before .before .before .before .before .before .before .before .before .before .get-head .ensures) (c .before .before .before .before .before .before .before .before .before .before .if1 .left) in
     let F : FoundAt l (a .tag) (c .before .before .before .before .before .i .given .0 .0) = rw (c .before .before .before .before .before .i .given .1) at (c .before .before .before .before .before .before .before .find .ensures) in
-    replies-by (step-unplanned (view l st) (a .tag) (a .d) (view-live l st ∙ live) (openOf st (c .before .load .result)) (found-slot F live st (c .before .load .ensures)) (c .if2 .taken)) (refused l st Unplanned)
+    record { replies = replies-by (step-unplanned (view l st) (a .tag) (a .d) (view-live l st ∙ live) (openOf st (c .before .load .result)) (found-slot F live st (c .before .load .ensures)) (c .if2 .taken)) (refused l st Unplanned); done = λ e. refl }
 
 hand-out-requires : tie.Need-hand-out-requires
 hand-out-requires c κs =
@@ -72,7 +72,8 @@ returns-4 c =
     let live : headOf l .live ≡ true = head-open (c .before .before .before .before .before .before .before .before .before .before .before .before .before .before .get-head .ensures) (c .before .before .before .before .before .before .before .before .before .before .before .before .before .if1 .left) in
     let F : FoundAt l (a .tag) (c .before .before .before .before .before .before .before .before .i .given .0 .0) = rw (c .before .before .before .before .before .before .before .before .i .given .1) at (c .before .before .before .before .before .before .before .before .before .before .find .ensures) in
     let S = c .before .before .before .before .load .ensures in
-    replies-by (step-passed (view l st) (a .tag) (a .d) (view-live l st ∙ live) (openOf st (c .before .before .before .before .load .result)) (found-slot F live st S) (c .before .before .before .if2 .left) ∙ hand-own F S (view l st) (a .d)) (c .hand-out .ensures)
+    let H = c .hand-out .ensures in
+    record { replies = replies-by (step-passed (view l st) (a .tag) (a .d) (view-live l st ∙ live) (openOf st (c .before .before .before .before .load .result)) (found-slot F live st S) (c .before .before .before .if2 .left) ∙ hand-own F S (view l st) (a .d)) (H .replies); done = H .done }
 
 pub step-spec : {M : Type 1} → statement M
 step-spec =
