@@ -2,8 +2,9 @@
 use mathlib.Core.Path.{_≡_, sym, _∙_, ap, subst}
 use mathlib.Core.List.{List, []}
 use Prim.Native.Nat.{ℕ}
-use Rattle.srp.specs.Take.{Outcome}
+use Rattle.srp.specs.Take.{Outcome, Tables}
 use Rattle.srp.specs.Answers.{returned, sizeOf, answerOf}
+use Rattle.srp.specs.declared.Direction.{Direction}
 use Rattle.srp.specs.declared.Reply.{Reply}
 use Rattle.srp.specs.declared.Answer.{Answer}
 use Rattle.answer.specs.Words.{answerWords}
@@ -11,7 +12,10 @@ use Rattle.state.specs.Promises.{RepliesAs, AnswersAs}
 use Rattle.srp.specs.Login.{loginDef}
 use Rattle.login.specs.LoggingIn.{LogsIn}
 use Rattle.srp.specs.declared.Settings.{Settings}
-use Rattle.exports.specs.Calls.{Gives, InC, AnswersInC, StepsInC, RepliesInC, LogsInC}
+use Rattle.take.specs.Taking.{Takes, Stores}
+use Rattle.transfer.specs.Stepping.{Steps}
+use Rattle.exports.specs.Arguments.{directionIn}
+use Rattle.exports.specs.Calls.{Gives, InC, AnswersInC, StepsInC, RepliesInC, LogsInC, TakeInC, StepInC}
 
 pub in-numbers : {n : ℕ} {w : List ℕ} {r : Answer} {o : Outcome} → r ≡ answerOf o → Gives n w r → InC n w o
 in-numbers e g = record { number = g .0 ∙ ap (λ (a : Answer). returned (a .reply)) e; words = g .1 ∙ ap (λ (a : Answer). answerWords a) e }
@@ -22,6 +26,11 @@ silently o e f = ap (λ (x : Reply). record { reply = x; wrote = 0 }) e ∙ ap (
 
 pub answers-in-c : {l st b l′ st′ b′ : List ℕ} {n : ℕ} {w : List ℕ} {o : Outcome} {r : Answer} → AnswersAs l st b l′ st′ b′ r o → Gives n w r → AnswersInC l st b l′ st′ b′ n w o
 answers-in-c {l} {st} {b} {l′} {st′} {b′} {n} {w} {o} A g = record { numbers = in-numbers (A .answer) g; call = subst (λ (x : Answer). AnswersAs l st b l′ st′ b′ x o) (A .answer) A }
+
+pub take-in-c : {l st b l′ st′ b′ s : List ℕ} {t : Tables} {n : ℕ} {w : List ℕ} {r : Answer} → Takes l st b l′ st′ b′ s t r → Gives n w r
+    → TakeInC l st b l′ st′ b′ s t n w
+take-in-c {l} {st} {b} {l′} {st′} T g =
+    record { answers = answers-in-c (T .answers) g; store = subst (λ (x : Answer). Stores l st l′ st′ (x .reply)) (T .answers .answer) (T .store) }
 
 -- a login with the settings c, which are c′
 pub logs-in-c : {st l′ b b′ : List ℕ} {n : ℕ} {w : List ℕ} {r : Answer} {c c′ : Settings} (own msg : List ℕ) (room : ℕ) → c ≡ c′
@@ -41,3 +50,11 @@ module _ {l st l′ : List ℕ} {o : Outcome} {r : Reply} where
 
   pub steps-in-c : {n : ℕ} {w : List ℕ} → RepliesAs l st l′ st r o → Gives n w (record { reply = r; wrote = 0 }) → StepsInC l st l′ n w o
   steps-in-c R g = record { numbers = in-numbers (silently o (R .reply) (R .wrote)) g; call = of-outcome R }
+
+-- a step in the direction d, which is that of the number
+pub step-in-c : {l l′ st : List ℕ} {tag n : ℕ} {w : List ℕ} {d : Direction} {r : Reply} (direction : ℕ) → d ≡ directionIn direction → Steps l l′ st tag d r
+    → Gives n w (record { reply = r; wrote = 0 })
+    → StepInC l l′ st tag direction n w
+step-in-c {l} {l′} {st} {tag} {r = r} direction e S g =
+    let D : Steps l l′ st tag (directionIn direction) r = subst (λ (x : Direction). Steps l l′ st tag x r) e S in
+    record { steps = steps-in-c (D .replies) g; done = λ q. D .done (D .replies .reply ∙ q) }

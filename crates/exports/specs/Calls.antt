@@ -11,11 +11,13 @@ use Rattle.srp.specs.Calls.{planDef, stepDef, finishDef, addDef, withdrawDef, g
 use Rattle.srp.specs.Login.{loginDef}
 use Rattle.srp.specs.Answers.{returned, valuesOf, answerOf}
 use Rattle.srp.specs.declared.Reply.{Reply}
+use Rattle.srp.specs.declared.Reply.the-variants.{Done}
 use Rattle.srp.specs.declared.Answer.{Answer}
 use Rattle.answer.specs.Words.{leading, answerWords}
 use Rattle.words.specs.View.{view}
 use Rattle.state.specs.Promises.{RepliesAs, AnswersAs}
 use Rattle.login.specs.LoggingIn.{LogsIn}
+use Rattle.take.specs.Taking.{Stores}
 use Rattle.exports.specs.Arguments.{recordSize, allWords, settingsIn, directionIn}
 
 -- an answer in numbers
@@ -66,14 +68,16 @@ pub record ListsInC (p : Port) (before after : List ℕ) (n : ℕ) (w : List ℕ
 abbrev pub LoginInC : (b l′ b′ settings own s : List ℕ) (n : ℕ) (w : List ℕ) → Type 0
 LoginInC b l′ b′ settings own s n w = (st : List ℕ) → LogsInC st l′ b b′ n w (loginDef (settingsIn settings) own (length b) s)
 
-abbrev pub TakeInC : (l st b l′ st′ b′ s : List ℕ) → Tables → (n : ℕ) (w : List ℕ) → Type 0
-TakeInC l st b l′ st′ b′ s t n w = AnswersInC l st b l′ st′ b′ n w (takeDef (view l st) (length b) s t)
+pub record TakeInC (l st b l′ st′ b′ s : List ℕ) (t : Tables) (n : ℕ) (w : List ℕ) : Type 0 where
+  pub answers : AnswersInC l st b l′ st′ b′ n w (takeDef (view l st) (length b) s t)
+  pub store : Stores l st l′ st′ (takeDef (view l st) (length b) s t .reply)
 
 abbrev pub PlanInC : (l l′ : List ℕ) (tag out inn n : ℕ) → Type 0
 PlanInC l l′ tag out inn n = (st : List ℕ) → RepliesInC l st l′ n (planDef (view l st) tag out inn)
 
-abbrev pub StepInC : (l l′ st : List ℕ) (tag direction n : ℕ) (w : List ℕ) → Type 0
-StepInC l l′ st tag direction n w = StepsInC l st l′ n w (stepDef (view l st) tag (directionIn direction))
+pub record StepInC (l l′ st : List ℕ) (tag direction n : ℕ) (w : List ℕ) : Type 0 where
+  pub steps : StepsInC l st l′ n w (stepDef (view l st) tag (directionIn direction))
+  pub done : stepDef (view l st) tag (directionIn direction) .reply ≡ Done → l′ ≡ l
 
 abbrev pub FinishInC : (l b l′ b′ : List ℕ) (tag status : ℕ) (sense : List ℕ) (n : ℕ) (w : List ℕ) → Type 0
 FinishInC l b l′ b′ tag status sense n w = (st : List ℕ) → AnswersInC l st b l′ st b′ n w (finishDef (view l st) (length b) tag status sense)

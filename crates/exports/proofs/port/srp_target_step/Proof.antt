@@ -3,7 +3,7 @@ use Rattle.srp.specs.declared.Reply.{Reply}
 use Rattle.srp.specs.Answers as def
 use Rattle.answer.specs.Words.{answerWords}
 use Rattle.words.specs.View.{view}
-use Rattle.exports.proofs.InC.{steps-in-c}
+use Rattle.exports.proofs.InC.{step-in-c}
 use Rattle.exports.proofs.Plain.{step-wordless}
 use borrow.Author.Needs.{needs}
 use Rattle.exports.proofs.port.srp_target_step.Statement.{statement}
@@ -30,12 +30,12 @@ enum-known-r c = search needs
 -- src/port.rt:145:9
 give-nothing-requires : tie.Need-give-nothing-requires
 give-nothing-requires c κs =
-    step-wordless (view (c .before .before .before .before .before .args .port .now) (c .before .before .before .before .before .args .store .now)) (c .before .before .before .before .before .args .tag) (c .before .before .before .before .direction-of .result) (c .before .before .step .result) (c .before .before .step .ensures .reply) (c .before .match .keys2)
+    step-wordless (view (c .before .before .before .before .before .args .port .now) (c .before .before .before .before .before .args .store .now)) (c .before .before .before .before .before .args .tag) (c .before .before .before .before .direction-of .result) (c .before .before .step .result) (c .before .before .step .ensures .replies .reply) (c .before .match .keys2)
 
 -- src/port.rt:145:9
 returns : tie.Need-returns
 returns c =
-    rw (sym (c .before .before .before .before .before .direction-of .ensures)) (steps-in-c (c .before .before .before .step .ensures) (c .give-nothing .ensures))
+    step-in-c (c .before .before .before .before .before .before .args .direction) (c .before .before .before .before .before .direction-of .ensures) (c .before .before .before .step .ensures) (c .give-nothing .ensures)
 
 -- src/port.rt:147:15
 operation-words-requires : tie.Need-operation-words-requires
@@ -45,7 +45,7 @@ operation-words-requires c κs = search needs
 returns-2 : tie.Need-returns-2
 returns-2 c =
     let e = c .before .before .r .given .1 in
-    rw (sym (c .before .before .before .before .before .before .direction-of .ensures)) (steps-in-c (c .before .before .before .before .step .ensures) (sym (ap (λ (x : Reply). def.returned x) e), c .operation-words .ensures 0 ∙ sym (ap (λ (x : Reply). answerWords (record { reply = x; wrote = 0 })) e)))
+    step-in-c (c .before .before .before .before .before .before .before .args .direction) (c .before .before .before .before .before .before .direction-of .ensures) (c .before .before .before .before .step .ensures) (sym (ap (λ (x : Reply). def.returned x) e), c .operation-words .ensures 0 ∙ sym (ap (λ (x : Reply). answerWords (record { reply = x; wrote = 0 })) e))
 
 pub srp-target-step-spec : {M : Type 1} → statement M
 srp-target-step-spec =

@@ -2,7 +2,7 @@ use mathlib.Core.Path.{sym, _∙_, ap}
 use Rattle.srp.specs.declared.Reply.{Reply}
 use Rattle.srp.specs.Answers as def
 use Rattle.answer.specs.Words.{answerWords}
-use Rattle.exports.proofs.InC.{answers-in-c}
+use Rattle.exports.proofs.InC.{take-in-c}
 use borrow.Author.Needs.{needs}
 use Rattle.exports.proofs.port.srp_target_take.Statement.{statement}
 use Rattle.exports.proofs.port.srp_target_take.Tie as tie
@@ -31,7 +31,7 @@ same-length c = search needs
 -- src/port.rt:109:9
 returns : tie.Need-returns
 returns c =
-    answers-in-c (c .before .before .before .before .before .take .ensures) (c .give .ensures)
+    take-in-c (c .before .before .before .before .before .take .ensures) (c .give .ensures)
 
 -- src/port.rt:111:15
 command-words-requires : tie.Need-command-words-requires
@@ -46,7 +46,7 @@ returns-2 : tie.Need-returns-2
 returns-2 c =
     let a = c .before .before .before .before .before .before .take .result in
     let e = c .before .before .reply .given .1 in
-    answers-in-c (c .before .before .before .before .before .before .take .ensures)
+    take-in-c (c .before .before .before .before .before .before .take .ensures)
     (sym (ap (λ (x : Reply). def.returned x) e), c .command-words .ensures ∙ sym (ap (λ (x : Reply). answerWords (record { reply = x; wrote = a .wrote })) e))
 
 pub srp-target-take-spec : {M : Type 1} → statement M
