@@ -9,10 +9,9 @@ use borrow.Author.Tests.{eq-eqb, ne-eqb, lt-ltb, le-ltb, le-leb, lt-leb}
 use Rattle.srp.specs.Limits.{bufferSize, mostBuffers}
 use Rattle.srp.specs.Credit.{Port, due, withWanted}
 use Rattle.srp.specs.Take.{silent}
-use Rattle.srp.specs.Calls.{addDef, withdrawDef, grantDef}
+use Rattle.srp.specs.Calls.{addDef, withdrawDef, grantOutcome, grantDef}
 use Rattle.srp.specs.declared.Refusal.the-variants.{ShortBuffer, Argument, Closed, Unanswered, NotOwed, Wanted}
 use Rattle.srp.specs.declared.Reply.the-variants.{Refused, Performed}
-use Rattle.credit.specs.Buffers.{grantedDef}
 
 -- ── add and withdraw
 
@@ -61,5 +60,5 @@ module _ (p : Port) (room : ℕ) where
         pub grant-not-owed : p .wanted ≤ p .announced + length (p .held) → grantDef p room ≡ silent p (Refused NotOwed)
         grant-not-owed h = rw (le-ltb room bufferSize enough, o, u, eq-eqb (due p) 0 (omega arith)) refl
 
-        pub granted : p .announced + length (p .held) < p .wanted → grantDef p room ≡ grantedDef p
+        pub granted : p .announced + length (p .held) < p .wanted → grantDef p room ≡ grantOutcome p
         granted h = rw (le-ltb room bufferSize enough, o, u, ne-eqb (due p) 0 (λ (e : due p ≡ 0). omega arith)) refl

@@ -1,14 +1,9 @@
 -- What add, withdraw and grant promise. l and l′ are the port's words before and after the call, b and b′ the buffer; whatever the store holds.
-use mathlib.Core.Bool.{true}
 use mathlib.Core.List.{List}
 use Prim.Native.Nat.{ℕ}
 use lib.ListN.{length}
-use Rattle.srp.specs.Credit.{Port, withUnanswered}
-use Rattle.srp.specs.Writing.{creditRequest}
-use Rattle.srp.specs.Take.{Outcome, answering}
-use Rattle.srp.specs.Calls.{addDef, withdrawDef, grantDef}
+use Rattle.srp.specs.Calls.{addDef, withdrawDef, grantOutcome, grantDef}
 use Rattle.srp.specs.declared.Reply.{Reply}
-use Rattle.srp.specs.declared.Reply.the-variants.{Performed}
 use Rattle.srp.specs.declared.Answer.{Answer}
 use Rattle.state.specs.Promises.{RepliesWith, AnswersWith}
 
@@ -21,9 +16,6 @@ Withdraws l l′ k r = RepliesWith l l′ r (λ p. withdrawDef p k)
 abbrev pub Grants : (l b l′ b′ : List ℕ) → Answer → Type 0
 Grants l b l′ b′ r = AnswersWith l b l′ b′ r (λ p. grantDef p (length b))
 
--- grant behind its checks
-abbrev pub grantedDef : Port → Outcome
-grantedDef p = answering (withUnanswered p true) Performed (creditRequest (p .terms .crsolnt))
-
+-- behind its checks
 abbrev pub WritesRequest : (l b l′ b′ : List ℕ) → Answer → Type 0
-WritesRequest l b l′ b′ r = AnswersWith l b l′ b′ r grantedDef
+WritesRequest l b l′ b′ r = AnswersWith l b l′ b′ r grantOutcome

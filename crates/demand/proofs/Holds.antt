@@ -38,7 +38,7 @@ use Rattle.exports.proofs.Listing.{counters-unwritten, list-unwritten}
 use Rattle.exports.proofs.port.srp_target_counters.Reads as counters-in-c
 use Rattle.exports.proofs.port.srp_target_list.Reads as list-in-c
 use Rattle.demand.specs.Replies.{performed, loggedIn}
-use Rattle.demand.specs.Calls.{Memory, seen, LoggedIn, Took, Answered, Finished, Granted, Closed, Silently, Planned, Stepped, Added, Withdrew, Untouched, TookFront, Call}
+use Rattle.demand.specs.Calls.{Memory, seen, LoggedIn, Took, WithMessage, Finished, Granted, Ended, WithoutMessage, Planned, Stepped, Added, Withdrew, Untouched, TookFront, Call}
 use Rattle.demand.specs.Holding.{Holds, Reports, Lists}
 use Rattle.demand.proofs.Told as told
 
@@ -47,15 +47,15 @@ use Rattle.demand.proofs.Told as told
 module _ {s : Memory} {r : Reply} {ss : List (List ℕ)} {s′ : Memory} where
   pub took : (room : ℕ) (t : Tables) (msg : List ℕ) → Took s room t msg r ss s′ → takeDef (seen s) room msg t ≡ record { reply = r; port = seen s′; wrote = ss }
   took room t msg c =
-      rw (← c .words, ← c .store, ← c .message, ← c .lent, ← c .room-is, ← c .reply, ← c .wrote, ← c .words′, ← c .store′)
-      (told.answers (c .post) (told.take-told (view (now (c .p)) (now (c .st))) (length (now (c .b))) (now (c .m)) (tables (now (c .out)) (now (c .inn)))))
+      rw (← c .words, ← c .store, ← c .message, ← c .lent, ← c .gave .room-is, ← c .gave .reply, ← c .gave .wrote, ← c .words′, ← c .store′)
+      (told.answers (c .post .answers) (told.take-told (view (now (c .p)) (now (c .st))) (length (now (c .b))) (now (c .m)) (tables (now (c .out)) (now (c .inn)))))
 
   -- with a lent message buffer: o is the call's definition, by the port and the buffer's length
   module _ (o : Port → ℕ → Outcome) (one : (p : Port) (room : ℕ) → told.Told performed (o p room)) {Post : (p q b d w v : RefT (List ℕ)) (n : ℕ) → Type 0}
-    (promises : (p q b d w v : RefT (List ℕ)) (n : ℕ) → Post p q b d w v n → (st : List ℕ) → AnswersInC (now p) st (now b) (now q) st (now d) n (now v) (o (view (now p) st) (length (now b)))) where
-    answered : (room : ℕ) → Answered s room Post r ss s′ → o (seen s) room ≡ record { reply = r; port = seen s′; wrote = ss }
+      (promises : (p q b d w v : RefT (List ℕ)) (n : ℕ) → Post p q b d w v n → (st : List ℕ) → AnswersInC (now p) st (now b) (now q) st (now d) n (now v) (o (view (now p) st) (length (now b)))) where
+    answered : (room : ℕ) → WithMessage s room Post r ss s′ → o (seen s) room ≡ record { reply = r; port = seen s′; wrote = ss }
     answered room c =
-        rw (← c .words, ← c .room-is, ← c .reply, ← c .wrote, ← c .words′, ← c .store′)
+        rw (← c .words, ← c .gave .room-is, ← c .gave .reply, ← c .gave .wrote, ← c .words′, ← c .store′)
         (told.answers (promises (c .p) (c .q) (c .b) (c .d) (c .w) (c .v) (c .n) (c .post) (s .store)) (one (view (now (c .p)) (s .store)) (length (now (c .b)))))
 
   pub finished : (room tag status : ℕ) (sense : List ℕ) → Finished s room tag status sense r ss s′
@@ -66,13 +66,13 @@ module _ {s : Memory} {r : Reply} {ss : List (List ℕ)} {s′ : Memory} where
   pub granted : (room : ℕ) → Granted s room r ss s′ → grantDef (seen s) room ≡ record { reply = r; port = seen s′; wrote = ss }
   granted room c = answered (λ p n. grantDef p n) (λ p n. told.grant-told p n) (λ p q b d w v n post. post .1) room c
 
-  pub closed : (room reason : ℕ) → Closed s room reason r ss s′ → closeDef (seen s) room reason ≡ record { reply = r; port = seen s′; wrote = ss }
-  closed room reason c = answered (λ p n. closeDef p n reason) (λ p n. told.close-told p n reason) (λ p q b d w v n post. post .1) room c
+  pub ended : (room reason : ℕ) → Ended s room reason r ss s′ → closeDef (seen s) room reason ≡ record { reply = r; port = seen s′; wrote = ss }
+  ended room reason c = answered (λ p n. closeDef p n reason) (λ p n. told.close-told p n reason) (λ p q b d w v n post. post .1) room c
 
   -- without one
   module _ (o : Port → Outcome) (one : (p : Port) → told.Silent (o p)) {Post : (p q : RefT (List ℕ)) (n : ℕ) → Type 0}
-    (promises : (p q : RefT (List ℕ)) (n : ℕ) → Post p q n → (st : List ℕ) → RepliesInC (now p) st (now q) n (o (view (now p) st))) where
-    silently : Silently s Post r ss s′ → o (seen s) ≡ record { reply = r; port = seen s′; wrote = ss }
+      (promises : (p q : RefT (List ℕ)) (n : ℕ) → Post p q n → (st : List ℕ) → RepliesInC (now p) st (now q) n (o (view (now p) st))) where
+    silently : WithoutMessage s Post r ss s′ → o (seen s) ≡ record { reply = r; port = seen s′; wrote = ss }
     silently c =
         rw (← c .words, ← c .reply, ← c .wrote, ← c .words′, ← c .store′)
         (told.replies (promises (c .p) (c .q) (c .n) (c .post) (s .store)) (one (view (now (c .p)) (s .store))))
@@ -89,7 +89,7 @@ module _ {s : Memory} {r : Reply} {ss : List (List ℕ)} {s′ : Memory} where
   pub stepped : (tag : ℕ) (d : Direction) → Stepped s tag d r ss s′ → stepDef (seen s) tag d ≡ record { reply = r; port = seen s′; wrote = ss }
   stepped tag d c =
       rw (← c .words, ← c .direction-is, ← c .reply, ← c .wrote, ← c .words′, ← c .store′, ← c .store)
-      (told.steps (c .post) (told.step-said (view (now (c .p)) (now (c .st))) tag (directionIn (c .k))))
+      (told.steps (c .post .steps) (told.step-said (view (now (c .p)) (now (c .st))) tag (directionIn (c .k))))
 
   untouched : Untouched s r ss s′ → silent (seen s) Performed ≡ record { reply = r; port = seen s′; wrote = ss }
   untouched c = λ i. record { reply = c .reply i; port = seen (c .same i); wrote = c .wrote i }
@@ -116,7 +116,7 @@ meets L s m (grants room) r ss s′ c = granted room c
 pub logged-in : {settings own msg : List ℕ} {room : ℕ} {r : Reply} {ss : List (List ℕ)} {p : List ℕ} → LoggedIn settings own msg room r ss p → (store : List ℕ)
     → loginDef (settingsIn settings) own room msg ≡ record { reply = r; port = view p store; wrote = ss }
 logged-in l store =
-    rw (← l .settings-are, ← l .own-is, ← l .message, ← l .room-is, ← l .reply, ← l .wrote, ← l .words)
+    rw (← l .settings-are, ← l .own-is, ← l .message, ← l .gave .room-is, ← l .gave .reply, ← l .gave .wrote, ← l .words)
     (told.logs-in (l .post store) (told.login-told (settingsIn (now (l .c))) (now (l .id)) (length (now (l .b))) (now (l .m))))
 
 pub holds : (settings own msg : List ℕ) (room : ℕ) (ss : List (List ℕ)) (p store : List ℕ) → Holds settings own msg room ss p store

@@ -110,8 +110,14 @@ pub judges-step : (κs : Lfts 3) (p q st w v : RefT (List ℕ)) (tag direction n
     → step-in-c.Post κs (p, (st, (tag, (direction, (w, tt))))) n (q, (st, (tag, (direction, (v, tt)))))
     → JudgesStep (now p) (now q) (now st) tag direction n (now v)
 judges-step κs p q st w v tag direction n post =
-    judge-steps P (stepOutcome P tag d) (unrefused (nextOf (P .terms) d (find (hasTag tag) (P .held)))) (stepChecks P tag) (now p) (now st) (now q) n (now v)
-    (silently (nextOf (P .terms) d (find (hasTag tag) (P .held)))) post
+    let J = judge-steps P (stepOutcome P tag d) (unrefused (nextOf (P .terms) d (find (hasTag tag) (P .held)))) (stepChecks P tag) (now p) (now st) (now q) n (now v)
+    (silently (nextOf (P .terms) d (find (hasTag tag) (P .held)))) (post .steps) in
+    record {
+      refuses = J .refuses;
+      unrefused = J .unrefused;
+      performs = λ e. (J .performs e, λ q. post .done (ap (λ (x : Option Refusal). unless x P (stepOutcome P tag d) .reply) e ∙ q));
+      leaves = J .leaves;
+    }
   where
     P : Port
     P = view (now p) (now st)

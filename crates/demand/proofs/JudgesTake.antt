@@ -1,7 +1,7 @@
 -- Demand 1 of `srp_target_take`: a message is taken, or draws the refusal that document 01 names and no other, and after a refusal the port and each
 -- lent buffer hold what document 01 says.
 -- Assumes nothing.
-use mathlib.Core.Path.{_≡_, refl, sym, _∙_, ap}
+use mathlib.Core.Path.{_≡_, refl, sym, _∙_, ap, subst}
 use mathlib.Core.Bool.{Bool, true, false, cond, not, true≢false}
 use mathlib.Core.List.{List, [], _∷_}
 use mathlib.Core.Option.{Option, none, some, Option·some-injective}
@@ -26,7 +26,7 @@ use Rattle.srp.proofs.Checks.{passes}
 use Rattle.srp.proofs.Refusing.{take-order}
 use Rattle.answer.specs.Words.{answerWords}
 use Rattle.words.specs.View.{view}
-use Rattle.take.specs.Taking.{tables}
+use Rattle.take.specs.Taking.{tables, takesCommand, Stores}
 use Rattle.exports.specs.Calls.{TakeInC}
 use Rattle.exports.proofs.port.srp_target_take.Reads as take-in-c
 use Rattle.demand.specs.Judged.{noWords, Comes, Unaltered, readOn, Left, JudgesTake}
@@ -74,22 +74,26 @@ module _ (p : Port) (room : ℕ) (s : List ℕ) (t : Tables) where
 
 module _ {l st b l′ st′ b′ : List ℕ} {n : ℕ} {w : List ℕ} (s : List ℕ) (t : Tables) (A : TakeInC l st b l′ st′ b′ s t n w) where
   -- where none of document 01's checks hits, the message is taken
-  taken : firstOf (takeOrder (view l st) (length b) s t) ≡ none → Comes (accepted (view l st) s t (readOn (view l st) s)) l′ st′ b b′ w
+  taken : firstOf (takeOrder (view l st) (length b) s t) ≡ none
+      → let o : Outcome = accepted (view l st) s t (readOn (view l st) s) in
+      Comes o l′ st′ b b′ w × Stores l st l′ st′ (o .reply)
   taken e =
       let is : takeDef (view l st) (length b) s t ≡ accepted (view l st) s t (readOn (view l st) s) =
-      by-order (view l st) (length b) s t ∙ ap (λ (x : Option Refusal). takeBy x (view l st) s t (readOn (view l st) s)) e in
-      record {
-        words = A .numbers .words ∙ ap (λ (x : Outcome). answerWords (answerOf x)) is;
-        port = A .call .port ∙ ap (λ (x : Outcome). x .port) is;
-        buffer = A .call .buffer ∙ ap (λ (x : Outcome). placed (x .wrote) b) is;
-      }
+      by-order (view l st) (length b) s t ∙ ap (λ (x : Option Refusal). takeBy x (view l st) s t (readOn (view l st) s)) e in (
+        record {
+          words = A .answers .numbers .words ∙ ap (λ (x : Outcome). answerWords (answerOf x)) is;
+          port = A .answers .call .port ∙ ap (λ (x : Outcome). x .port) is;
+          buffer = A .answers .call .buffer ∙ ap (λ (x : Outcome). placed (x .wrote) b) is;
+        },
+        subst (λ (x : Outcome). Stores l st l′ st′ (x .reply)) is (A .store),
+      )
 
   module _ (f : Refusal) (e : firstOf (takeOrder (view l st) (length b) s t) ≡ some f) where
     refused : takeDef (view l st) (length b) s t ≡ refusedBy (view l st) (readOn (view l st) s) f
     refused = by-order (view l st) (length b) s t ∙ ap (λ (x : Option Refusal). takeBy x (view l st) s t (readOn (view l st) s)) e
 
     words-are : w ≡ answerWords (answerOf (refusedBy (view l st) (readOn (view l st) s) f))
-    words-are = A .numbers .words ∙ ap (λ (x : Outcome). answerWords (answerOf x)) refused
+    words-are = A .answers .numbers .words ∙ ap (λ (x : Outcome). answerWords (answerOf x)) refused
 
     -- what it comes to, by its conduct
     module _ (c : Conduct) (is : conductOf f ≡ c) where
@@ -97,10 +101,10 @@ module _ {l st b l′ st′ b′ : List ℕ} {n : ℕ} {w : List ℕ} (s : List 
       outcome = refused ∙ ap (λ (x : Conduct). conducted x (view l st) (readOn (view l st) s) f) is
 
       port-is : view l′ st′ ≡ conducted c (view l st) (readOn (view l st) s) f .port
-      port-is = A .call .port ∙ ap (λ (x : Outcome). x .port) outcome
+      port-is = A .answers .call .port ∙ ap (λ (x : Outcome). x .port) outcome
 
       buffer-is : b′ ≡ placed (conducted c (view l st) (readOn (view l st) s) f .wrote) b
-      buffer-is = A .call .buffer ∙ ap (λ (x : Outcome). placed (x .wrote) b) outcome
+      buffer-is = A .answers .call .buffer ∙ ap (λ (x : Outcome). placed (x .wrote) b) outcome
 
       -- nothing is altered where nothing is written
       same : conducted c (view l st) (readOn (view l st) s) f .wrote ≡ [] → Unaltered l b l′ b′ w
@@ -110,11 +114,11 @@ module _ {l st b l′ st′ b′ : List ℕ} {n : ℕ} {w : List ℕ} (s : List 
           λ q. not-zero f (sym (ap numberFor e) ∙ sym (order-number (view l st) (length b) s t) ∙ q) in
           record {
             words =
-                A .numbers .words
+                A .answers .numbers .words
                 ∙ ap (λ (x : Outcome). answerWords (answerOf x)) outcome
                 ∙ ap (λ (k : ℕ). answerWords (record { reply = conducted c (view l st) (readOn (view l st) s) f .reply; wrote = k })) (ap sizeOf z)
                 ∙ refusal-words c;
-            port = A .call .raw not-zero-is size .0;
+            port = A .answers .call .raw not-zero-is size .0;
             buffer = buffer-is ∙ ap (λ (x : List (List ℕ)). placed x b) z;
           }
         where
@@ -124,19 +128,27 @@ module _ {l st b l′ st′ b′ : List ℕ} {n : ℕ} {w : List ℕ} (s : List 
           refusal-words stays = refl
           refusal-words altersNothing = refl
 
+    -- no refusal takes a command into the store
+    none-taken : (c : Conduct) → takesCommand (conducted c (view l st) (readOn (view l st) s) f .reply) ≡ false
+    none-taken (hangsUp reason) = refl
+    none-taken answered = refl
+    none-taken stays = refl
+    none-taken altersNothing = refl
+
     left : Left l st b l′ st′ b′ s w f
     left =
         record {
           words = words-are;
           hung-up = λ reason h.
               let v = port-is (hangsUp reason) h in (
-                A .call .closed (hangs-open (view l st) (length b) s t f e reason h) (ap (λ (x : Port). x .live) v),
+                A .answers .call .closed (hangs-open (view l st) (length b) s t f e reason h) (ap (λ (x : Port). x .live) v),
                 v,
                 buffer-is (hangsUp reason) h,
               );
           responded = λ h. (port-is answered h, buffer-is answered h);
           stayed = λ h. same stays h refl;
           unaltered = λ h. same altersNothing h refl;
+          store = A .store .kept (ap (λ (x : Outcome). takesCommand (x .reply)) refused ∙ none-taken (conductOf f));
         }
 
 -- the theorem: κs are the lifetimes of the lent words, store, message, tables, buffer and answer
@@ -146,4 +158,4 @@ pub judges-take : (κs : Lfts 5) (p q st st′ m out inn b d w v : RefT (List �
 judges-take κs p q st st′ m out inn b d w v n post =
     let P : Port = view (now p) (now st) in
     let t : Tables = tables (now out) (now inn) in
-    judge (takeOrder P (length (now b)) (now m) t) n _ _ (post .numbers .number ∙ order-number P (length (now b)) (now m) t) (taken (now m) t post) (left (now m) t post)
+    judge (takeOrder P (length (now b)) (now m) t) n _ _ (post .answers .numbers .number ∙ order-number P (length (now b)) (now m) t) (taken (now m) t post) (left (now m) t post)

@@ -4,3 +4,5 @@ pub mod Judges
 pub mod JudgesTake
 pub mod JudgesLogin
 pub mod Holds
+pub mod Following
+pub mod Numbered

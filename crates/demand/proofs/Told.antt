@@ -33,7 +33,7 @@ use Rattle.srp.proofs.Checks.{passes, hit}
 use Rattle.answer.specs.Words.{answerWords}
 use Rattle.words.specs.View.{view}
 use Rattle.exports.specs.Calls.{InC, AnswersInC, StepsInC, RepliesInC, LogsInC}
-use Rattle.demand.specs.Replies.{unlessRefused, replyBy, performed, taken, stepped, loggedIn, written, messageIn}
+use Rattle.demand.specs.Replies.{refusedOr, replyBy, performed, taken, stepped, loggedIn, written, messageIn}
 use Rattle.demand.specs.Judged.{readOn}
 
 -- ── one message at most
@@ -61,7 +61,7 @@ pub record Told (said : List ℕ → Reply) (o : Outcome) : Type 0 where
 
 -- a refusal, whatever the words
 refused : (said : List ℕ → Reply) (f : Refusal) (w : List ℕ) → replyBy said (numberOf f) w ≡ Refused f
-refused said f w = ap (λ (x : Option Refusal). unlessRefused x (said w)) (numbered f)
+refused said f w = ap (λ (x : Option Refusal). refusedOr x (said w)) (numbered f)
 
 refused-told : (said : List ℕ → Reply) (f : Refusal) (p : Port) (ws : List (List ℕ)) → Single ws → Told said (record { reply = Refused f; port = p; wrote = ws })
 refused-told said f p ws h = record { reply = refused said f _; size = refl; single = h }

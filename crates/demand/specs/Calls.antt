@@ -36,6 +36,13 @@ pub record Memory : Type 0 where
 abbrev pub seen : Memory → Port
 seen s = view (s .words) (s .store)
 
+-- a lent buffer of `room` bytes, b before the call and d after it, the words v and the number n: the reply r that they say, as `said` reads it, and the
+-- messages ss in the buffer
+pub record Gave (said : List ℕ → Reply) (room : ℕ) (b d v : List ℕ) (n : ℕ) (r : Reply) (ss : List (List ℕ)) : Type 0 where
+  pub room-is : length b ≡ room
+  pub reply : replyBy said n v ≡ r
+  pub wrote : messageIn v d ≡ ss
+
 -- ── login, with the five settings as numbers; p are the words that it left, r its reply, ss what it wrote
 
 pub record LoggedIn (settings own msg : List ℕ) (room : ℕ) (r : Reply) (ss : List (List ℕ)) (p : List ℕ) : Type 0 where
@@ -53,10 +60,8 @@ pub record LoggedIn (settings own msg : List ℕ) (room : ℕ) (r : Reply) (ss :
   pub settings-are : now c ≡ settings
   pub own-is : now id ≡ own
   pub message : now m ≡ msg
-  pub room-is : length (now b) ≡ room
   pub post : login-in-c.Post κs (before, (c, (id, (m, (b, (w, tt)))))) n (after, (c, (id, (m, (d, (v, tt))))))
-  pub reply : replyBy loggedIn n (now v) ≡ r
-  pub wrote : messageIn (now v) (now d) ≡ ss
+  pub gave : Gave loggedIn room (now b) (now d) (now v) n r ss
   pub words : now after ≡ p
 
 -- ── the calls with a lent message buffer
@@ -79,15 +84,13 @@ pub record Took (s : Memory) (room : ℕ) (t : Tables) (msg : List ℕ) (r : Rep
   pub store : now st ≡ s .store
   pub message : now m ≡ msg
   pub lent : tables (now out) (now inn) ≡ t
-  pub room-is : length (now b) ≡ room
   pub post : take-in-c.Post κs (p, (st, (m, (out, (inn, (b, (w, tt))))))) n (q, (st′, (m, (out, (inn, (d, (v, tt)))))))
-  pub reply : replyBy taken n (now v) ≡ r
-  pub wrote : messageIn (now v) (now d) ≡ ss
+  pub gave : Gave taken room (now b) (now d) (now v) n r ss
   pub words′ : now q ≡ s′ .words
   pub store′ : now st′ ≡ s′ .store
 
 -- finish, grant, close: Post is the function's contract, whatever its lifetimes
-pub record Answered (s : Memory) (room : ℕ) (Post : (p q b d w v : RefT (List ℕ)) (n : ℕ) → Type 0) (r : Reply) (ss : List (List ℕ)) (s′ : Memory) : Type 0 where
+pub record WithMessage (s : Memory) (room : ℕ) (Post : (p q b d w v : RefT (List ℕ)) (n : ℕ) → Type 0) (r : Reply) (ss : List (List ℕ)) (s′ : Memory) : Type 0 where
   pub p : RefT (List ℕ)
   pub q : RefT (List ℕ)
   pub b : RefT (List ℕ)
@@ -96,28 +99,26 @@ pub record Answered (s : Memory) (room : ℕ) (Post : (p q b d w v : RefT (List 
   pub v : RefT (List ℕ)
   pub n : ℕ
   pub words : now p ≡ s .words
-  pub room-is : length (now b) ≡ room
   pub post : Post p q b d w v n
-  pub reply : replyBy performed n (now v) ≡ r
-  pub wrote : messageIn (now v) (now d) ≡ ss
+  pub gave : Gave performed room (now b) (now d) (now v) n r ss
   pub words′ : now q ≡ s′ .words
   pub store′ : s .store ≡ s′ .store
 
 abbrev pub Finished : Memory → (room tag status : ℕ) → List ℕ → Reply → List (List ℕ) → Memory → Type 0
 Finished s room tag status sense =
-    Answered s room λ p q b d w v n.
+    WithMessage s room λ p q b d w v n.
     (κs : Lfts 4) × (e : RefT (List ℕ)) × (now e ≡ sense) × finish-in-c.Post κs (p, (tag, (status, (e, (b, (w, tt)))))) n (q, (tag, (status, (e, (d, (v, tt))))))
 
 abbrev pub Granted : Memory → (room : ℕ) → Reply → List (List ℕ) → Memory → Type 0
-Granted s room = Answered s room λ p q b d w v n. (κs : Lfts 3) × grant-in-c.Post κs (p, (b, (w, tt))) n (q, (d, (v, tt)))
+Granted s room = WithMessage s room λ p q b d w v n. (κs : Lfts 3) × grant-in-c.Post κs (p, (b, (w, tt))) n (q, (d, (v, tt)))
 
-abbrev pub Closed : Memory → (room reason : ℕ) → Reply → List (List ℕ) → Memory → Type 0
-Closed s room reason = Answered s room λ p q b d w v n. (κs : Lfts 3) × close-in-c.Post κs (p, (reason, (b, (w, tt)))) n (q, (reason, (d, (v, tt))))
+abbrev pub Ended : Memory → (room reason : ℕ) → Reply → List (List ℕ) → Memory → Type 0
+Ended s room reason = WithMessage s room λ p q b d w v n. (κs : Lfts 3) × close-in-c.Post κs (p, (reason, (b, (w, tt)))) n (q, (reason, (d, (v, tt))))
 
 -- ── the calls without one
 
 -- plan, add, withdraw: there are no words either
-pub record Silently (s : Memory) (Post : (p q : RefT (List ℕ)) (n : ℕ) → Type 0) (r : Reply) (ss : List (List ℕ)) (s′ : Memory) : Type 0 where
+pub record WithoutMessage (s : Memory) (Post : (p q : RefT (List ℕ)) (n : ℕ) → Type 0) (r : Reply) (ss : List (List ℕ)) (s′ : Memory) : Type 0 where
   pub p : RefT (List ℕ)
   pub q : RefT (List ℕ)
   pub n : ℕ
@@ -129,13 +130,13 @@ pub record Silently (s : Memory) (Post : (p q : RefT (List ℕ)) (n : ℕ) → T
   pub store′ : s .store ≡ s′ .store
 
 abbrev pub Planned : Memory → (tag out inn : ℕ) → Reply → List (List ℕ) → Memory → Type 0
-Planned s tag out inn = Silently s λ p q n. (κs : Lfts 1) × plan-in-c.Post κs (p, (tag, (out, (inn, tt)))) n (q, (tag, (out, (inn, tt))))
+Planned s tag out inn = WithoutMessage s λ p q n. (κs : Lfts 1) × plan-in-c.Post κs (p, (tag, (out, (inn, tt)))) n (q, (tag, (out, (inn, tt))))
 
 abbrev pub Added : Memory → (k : ℕ) → Reply → List (List ℕ) → Memory → Type 0
-Added s k = Silently s λ p q n. (κs : Lfts 1) × add-in-c.Post κs (p, (k, tt)) n (q, (k, tt))
+Added s k = WithoutMessage s λ p q n. (κs : Lfts 1) × add-in-c.Post κs (p, (k, tt)) n (q, (k, tt))
 
 abbrev pub Withdrew : Memory → (k : ℕ) → Reply → List (List ℕ) → Memory → Type 0
-Withdrew s k = Silently s λ p q n. (κs : Lfts 1) × withdraw-in-c.Post κs (p, (k, tt)) n (q, (k, tt))
+Withdrew s k = WithoutMessage s λ p q n. (κs : Lfts 1) × withdraw-in-c.Post κs (p, (k, tt)) n (q, (k, tt))
 
 -- the direction as a number
 pub record Stepped (s : Memory) (tag : ℕ) (direction : Direction) (r : Reply) (ss : List (List ℕ)) (s′ : Memory) : Type 0 where

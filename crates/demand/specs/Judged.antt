@@ -24,9 +24,10 @@ use Rattle.srp.specs.declared.Refusal.{Refusal}
 use Rattle.srp.specs.declared.Refusal.the-variants.{ShortBuffer}
 use Rattle.srp.specs.declared.Settings.{Settings}
 use Rattle.srp.specs.declared.Message.{Message}
-use Rattle.srp.specs.declared.Reply.the-variants.{Accepted, Rejected}
+use Rattle.srp.specs.declared.Reply.the-variants.{Done, Accepted, Rejected}
 use Rattle.answer.specs.Words.{answerWords}
 use Rattle.words.specs.View.{view, closedWords}
+use Rattle.take.specs.Taking.{Stores}
 use Rattle.exports.specs.Arguments.{recordSize, allWords, settingsIn, directionIn}
 use Rattle.demand.specs.Replies.{replyBy, loggedIn}
 
@@ -77,10 +78,14 @@ pub record Left (l st b l′ st′ b′ s w : List ℕ) (f : Refusal) : Type 0 w
   pub stayed : conductOf f ≡ stays → Unaltered l b l′ b′ w
   -- and those on which it leaves
   pub unaltered : conductOf f ≡ altersNothing → Unaltered l b l′ b′ w
+  -- and whatever the refusal, no byte of the store is altered
+  pub store : st′ ≡ st
 
+-- a message taken comes to its outcome, and the store is altered for a command alone, at its own place
 abbrev pub JudgesTake : (l st b l′ st′ b′ s : List ℕ) → Tables → (n : ℕ) (w : List ℕ) → Type 0
 JudgesTake l st b l′ st′ b′ s t n w =
-    Judged (takeOrder (view l st) (length b) s t) n (Comes (accepted (view l st) s t (readOn (view l st) s)) l′ st′ b b′ w) (Left l st b l′ st′ b′ s w)
+    let o : Outcome = accepted (view l st) s t (readOn (view l st) s) in
+    Judged (takeOrder (view l st) (length b) s t) n (Comes o l′ st′ b b′ w × Stores l st l′ st′ (o .reply)) (Left l st b l′ st′ b′ s w)
 
 -- ── login with the settings c, whose own identifier is `own`, by its rejections
 
@@ -103,9 +108,11 @@ JudgesLogin b l′ b′ settings own s n w =
 abbrev pub JudgesPlan : (l l′ : List ℕ) (tag out inn n : ℕ) → Type 0
 JudgesPlan l l′ tag out inn n = (st : List ℕ) → Judged (planChecks (view l st) tag) n (view l′ st ≡ planOutcome (view l st) tag out inn .port) (λ f. l′ ≡ l)
 
+-- a step that says done alters no word
 abbrev pub JudgesStep : (l l′ st : List ℕ) (tag direction n : ℕ) (w : List ℕ) → Type 0
 JudgesStep l l′ st tag direction n w =
-    Judged (stepChecks (view l st) tag) n (Comes (stepOutcome (view l st) tag (directionIn direction)) l′ st [] [] w) (λ f. Unaltered l [] l′ [] w)
+    let o : Outcome = stepOutcome (view l st) tag (directionIn direction) in
+    Judged (stepChecks (view l st) tag) n (Comes o l′ st [] [] w × (o .reply ≡ Done → l′ ≡ l)) (λ f. Unaltered l [] l′ [] w)
 
 abbrev pub JudgesFinish : (l b l′ b′ : List ℕ) (tag status : ℕ) (sense : List ℕ) (n : ℕ) (w : List ℕ) → Type 0
 JudgesFinish l b l′ b′ tag status sense n w =

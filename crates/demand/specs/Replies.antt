@@ -12,13 +12,13 @@ use Rattle.srp.specs.declared.Kind.the-variants.{Read, Write}
 use Rattle.srp.specs.declared.Reply.{Reply}
 use Rattle.srp.specs.declared.Reply.the-variants.{Refused, Performed, NewCommand, TaskAnswered, CreditSettled, LoggedOut, Operation, Done, Accepted, Rejected}
 
-abbrev pub unlessRefused : Option Refusal → Reply → Reply
-unlessRefused none r = r
-unlessRefused (some f) r = Refused f
+abbrev pub refusedOr : Option Refusal → Reply → Reply
+refusedOr none r = r
+refusedOr (some f) r = Refused f
 
 -- the number n is the refusal's; where it is no refusal's the words w say the reply, as `said` reads them
 abbrev pub replyBy : (said : List ℕ → Reply) (n : ℕ) (w : List ℕ) → Reply
-replyBy said n w = unlessRefused (refusalNumbered n) (said w)
+replyBy said n w = refusedOr (refusalNumbered n) (said w)
 
 -- ── the words of each call
 

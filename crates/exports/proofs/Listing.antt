@@ -4,7 +4,6 @@ use mathlib.Core.List.{List, [], _∷_, _++_}
 use mathlib.Core.Option.{Option, none, some}
 use Prim.Native.Nat.{ℕ, suc, _+_, _*_, _/_, _<_, _≤_}
 use native.Mathlib.Omega.{arith}
-use lib.Dec.{ltb}
 use lib.ListN.{length, take, drop, getD, length-append, replicate}
 use lib.Seq.{paste, take-suc, take-length, take-append-seam, length-take-le, length-paste, drop-append-add, drop-drop}
 use Rattle.srp.specs.Limits.{mostBuffers}
@@ -12,12 +11,11 @@ use Rattle.srp.specs.Refusals.{firstOf}
 use Rattle.srp.specs.Answers.{returned}
 use Rattle.srp.specs.Credit.{Port}
 use Rattle.srp.specs.Writing.{placed}
-use Rattle.srp.specs.Take.{Outcome, silent, closed}
-use Rattle.srp.specs.Calls.{unless, countersOf, countersDef, listing, listDef}
+use Rattle.srp.specs.Take.{Outcome}
+use Rattle.srp.specs.Calls.{unless, countersDef, listing, listDef, countersChecks, countersOutcome, listChecks, listOutcome}
 use Rattle.srp.specs.declared.Refusal.{Refusal}
-use Rattle.srp.specs.declared.Refusal.the-variants.{Argument}
 use Rattle.srp.specs.declared.Record.{Record}
-use Rattle.srp.specs.declared.Reply.the-variants.{Counts, Listed}
+use Rattle.srp.specs.declared.Reply.the-variants.{Listed}
 use Rattle.srp.specs.Refusals.{numberOf}
 use Rattle.srp.specs.declared.Reply.{Reply}
 use Rattle.srp.proofs.RefusalLaws.{number-range}
@@ -38,10 +36,10 @@ unwritten none p o e = e
 unwritten (some f) p o e = refl
 
 pub counters-unwritten : (p : Port) → countersDef p .wrote ≡ []
-counters-unwritten p = unwritten (firstOf (closed p ∷ [])) p (silent p (Counts (countersOf p))) refl
+counters-unwritten p = unwritten (firstOf (countersChecks p)) p (countersOutcome p) refl
 
 pub list-unwritten : (p : Port) (room : ℕ) → listDef p room .wrote ≡ []
-list-unwritten p room = unwritten (firstOf (closed p ∷ (ltb room mostBuffers, Argument) ∷ [])) p (silent p (Listed (length (p .held)))) refl
+list-unwritten p room = unwritten (firstOf (listChecks p room)) p (listOutcome p) refl
 
 -- ── records in words
 
@@ -115,16 +113,16 @@ module _ (l before : List ℕ) (r : Reply) (C : CountFor l (length before / reco
 
   -- a listing that is refused
   pub list-wordless : OneOf (but 11) (tagOf the-type r) → Wordless r
-  list-wordless k = go (firstOf (closed (view l st) ∷ (ltb (length before / recordSize) mostBuffers, Argument) ∷ [])) (C .reply st)
+  list-wordless k = go (firstOf (listChecks (view l st) (length before / recordSize))) (C .reply st)
     where
-      go : (x : Option Refusal) → r ≡ unless x (view l st) (silent (view l st) (Listed (length (view l st .held)))) .reply → Wordless r
+      go : (x : Option Refusal) → r ≡ unless x (view l st) (listOutcome (view l st)) .reply → Wordless r
       go none q = absurd (miss (but 11) 11 tt (subst (λ (y : Reply). OneOf (but 11) (tagOf the-type y)) q k))
       go (some f) q = sym (ap (λ (y : Reply). answerWords (record { reply = y; wrote = 0 })) q)
 
   pub list-refused : {n : ℕ} {w : List ℕ} → Gives n w (record { reply = r; wrote = 0 }) → OneOf (but 11) (tagOf the-type r) → ListsInC (view l st) before before n w
-  list-refused {n} {w} g k = go (firstOf (closed (view l st) ∷ (ltb (length before / recordSize) mostBuffers, Argument) ∷ [])) (C .reply st)
+  list-refused {n} {w} g k = go (firstOf (listChecks (view l st) (length before / recordSize))) (C .reply st)
     where
-      go : (x : Option Refusal) → r ≡ unless x (view l st) (silent (view l st) (Listed (length (view l st .held)))) .reply
+      go : (x : Option Refusal) → r ≡ unless x (view l st) (listOutcome (view l st)) .reply
           → ListsInC (view l st) before before n w
       go none q = absurd (miss (but 11) 11 tt (subst (λ (y : Reply). OneOf (but 11) (tagOf the-type y)) q k))
       go (some f) q =

@@ -1,28 +1,26 @@
 -- Replies that have no values, and so no words but a message's length. Assumes nothing.
 use mathlib.Core.Path.{_≡_, refl, sym, ap, subst}
-use mathlib.Core.Bool.{true}
 use mathlib.Core.List.{List, [], _∷_, _++_}
 use mathlib.Core.Option.{Option, none, some}
 use Prim.Native.Nat.{ℕ}
 use lib.Dec.{eqb}
-use lib.ListN.{length, replicate}
+use lib.ListN.{length}
 use denote.Enum.Declared.{tagOf}
 use types.Run.{OneOf, miss}
 use Rattle.srp.proofs.Reply.{the-type}
-use Rattle.srp.specs.Refusals.{short, firstOf}
+use Rattle.srp.specs.Refusals.{firstOf}
 use Rattle.srp.specs.Lists.{find, without}
-use Rattle.srp.specs.Credit.{Port, closedPort, withHeld, withUnanswered}
-use Rattle.srp.specs.Writing.{creditRequest, targetLogout}
-use Rattle.srp.specs.Take.{Outcome, silent, answering, closed, hasTag}
-use Rattle.srp.specs.Calls.{unless, nextOf, handOut, stepChecks, stepDef, finishChecks, finalResponse, finishDef, grantChecks, grantDef, closeDef, countersOf, countersDef}
+use Rattle.srp.specs.Credit.{Port}
+use Rattle.srp.specs.Take.{Outcome, hasTag}
+use Rattle.srp.specs.Calls.{unless, nextOf, handOut, stepChecks, stepDef, finishChecks, finishDef, grantChecks, grantDef, closeDef, countersDef, finishOutcome, grantOutcome, closeChecks, closeOutcome, countersChecks, countersOutcome}
 use Rattle.srp.specs.Answers.{valuesOf, answerOf}
 use Rattle.srp.specs.declared.Refusal.{Refusal}
 use Rattle.srp.specs.declared.Direction.{Direction}
 use Rattle.srp.specs.declared.Piece.{Piece}
 use Rattle.srp.specs.declared.Answer.{Answer}
 use Rattle.srp.specs.declared.Reply.{Reply}
-use Rattle.srp.specs.declared.Reply.the-variants.{Performed, Counts}
-use Rattle.answer.specs.Words.{leading, answerWords}
+use Rattle.srp.specs.declared.Reply.the-variants.{Performed}
+use Rattle.answer.specs.Words.{leading}
 use Rattle.exports.specs.Calls.{Plain, Wordless}
 
 pub plain-answer : (r : Answer) (o : Outcome) → r ≡ answerOf o → Plain (o .reply) → Plain (r .reply)
@@ -35,15 +33,14 @@ plain-unless (some f) p o e = λ wrote. refl
 
 pub finish-plain : (p : Port) (room tag status : ℕ) (sense : List ℕ) → Plain (finishDef p room tag status sense .reply)
 finish-plain p room tag status sense =
-    plain-unless (firstOf (finishChecks p room tag status sense)) p
-    (answering (withHeld p (p .announced) (without (hasTag tag) (p .held))) Performed (finalResponse (find (hasTag tag) (p .held)) status sense)) refl
+    plain-unless (firstOf (finishChecks p room tag status sense)) p (finishOutcome p tag status sense) refl
 
 pub grant-plain : (p : Port) (room : ℕ) → Plain (grantDef p room .reply)
-grant-plain p room = plain-unless (firstOf (grantChecks p room)) p (answering (withUnanswered p true) Performed (creditRequest (p .terms .crsolnt))) refl
+grant-plain p room = plain-unless (firstOf (grantChecks p room)) p (grantOutcome p) refl
 
 pub close-plain : (p : Port) (room reason : ℕ) → Plain (closeDef p room reason .reply)
 close-plain p room reason =
-    plain-unless (firstOf (short room ∷ closed p ∷ [])) p (record { reply = Performed; port = closedPort; wrote = targetLogout (p .terms .losolnt) reason ∷ [] }) refl
+    plain-unless (firstOf (closeChecks p room)) p (closeOutcome p reason) refl
 
 -- the replies but one, by their place in the enum
 abbrev pub but : ℕ → List ℕ
@@ -64,9 +61,9 @@ step-wordless p tag d r e k =
 -- counters that are refused
 pub counters-wordless : (p : Port) (r : Reply) → r ≡ countersDef p .reply → OneOf (but 10) (tagOf the-type r) → Wordless r
 counters-wordless p r e k =
-    subst Wordless (sym e) (go (firstOf (closed p ∷ [])) (subst (λ (x : Reply). OneOf (but 10) (tagOf the-type x)) e k))
+    subst Wordless (sym e) (go (firstOf (countersChecks p)) (subst (λ (x : Reply). OneOf (but 10) (tagOf the-type x)) e k))
   where
-    go : (x : Option Refusal) → OneOf (but 10) (tagOf the-type (unless x p (silent p (Counts (countersOf p))) .reply))
-        → Wordless (unless x p (silent p (Counts (countersOf p))) .reply)
+    go : (x : Option Refusal) → OneOf (but 10) (tagOf the-type (unless x p (countersOutcome p) .reply))
+        → Wordless (unless x p (countersOutcome p) .reply)
     go (some f) k = refl
     go none k = absurd (miss (but 10) 10 tt k)

@@ -13,7 +13,7 @@ use Rattle.srp.specs.Messages.{rsp}
 use Rattle.srp.specs.Credit.{Open, Port}
 use Rattle.srp.specs.Writing.{residualOf, Response, responseBytes, responseValues, response, solicited}
 use Rattle.srp.specs.Take.{silent, isOpen}
-use Rattle.srp.specs.Calls.{badSense, finalOf, finalResponse, finishDef}
+use Rattle.srp.specs.Calls.{badSense, finalOf, finalResponse, finishOutcome, finishDef}
 use Rattle.srp.specs.declared.Refusal.the-variants.{ShortBuffer, Argument, Closed, TagNotOpen}
 use Rattle.srp.specs.declared.Residual.{Residual}
 use Rattle.srp.specs.declared.Reply.the-variants.{Refused}
@@ -22,7 +22,7 @@ use Rattle.words.specs.declared.Slot.{Slot}
 use Rattle.message.specs.Header.{responseOf}
 use Rattle.message.specs.declared.Header.{Header}
 use Rattle.message.proofs.Laying.{long}
-use Rattle.finish.specs.Finishing.{endedDef, HeaderIs}
+use Rattle.finish.specs.Finishing.{HeaderIs}
 
 -- ── the checks
 
@@ -42,7 +42,7 @@ module _ (p : Port) (room tag status : ℕ) (sense : List ℕ) where
         pub finish-none : isOpen p tag ≡ false → finishDef p room tag status sense ≡ silent p (Refused TagNotOpen)
         finish-none e = rw (le-ltb room bufferSize enough, o, g, e) refl
 
-        pub finished : isOpen p tag ≡ true → finishDef p room tag status sense ≡ endedDef p tag status sense
+        pub finished : isOpen p tag ≡ true → finishDef p room tag status sense ≡ finishOutcome p tag status sense
         finished e = rw (le-ltb room bufferSize enough, o, g, e) refl
 
 -- ── the response

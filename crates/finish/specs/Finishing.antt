@@ -3,22 +3,13 @@ use mathlib.Core.Path.{_≡_}
 use mathlib.Core.List.{List}
 use Prim.Native.Nat.{ℕ}
 use lib.ListN.{length}
-use Rattle.srp.specs.Lists.{find, without}
-use Rattle.srp.specs.Credit.{Port, withHeld}
-use Rattle.srp.specs.Take.{Outcome, answering, hasTag}
-use Rattle.srp.specs.Calls.{finalOf, finalResponse, finishDef}
+use Rattle.srp.specs.Calls.{finalOf, finishOutcome, finishDef}
 use Rattle.srp.specs.declared.Answer.{Answer}
-use Rattle.srp.specs.declared.Reply.the-variants.{Performed}
 use Rattle.words.specs.View.{openOf}
 use Rattle.words.specs.declared.Slot.{Slot}
 use Rattle.message.specs.Header.{responseOf}
 use Rattle.message.specs.declared.Header.{Header}
 use Rattle.state.specs.Promises.{AnswersWith}
-
--- finish behind its checks
-abbrev pub endedDef : Port → ℕ → ℕ → List ℕ → Outcome
-endedDef p tag status sense =
-    answering (withHeld p (p .announced) (without (hasTag tag) (p .held))) Performed (finalResponse (find (hasTag tag) (p .held)) status sense)
 
 -- the header says the response of the command in slot c, whatever the store and the sense
 abbrev pub HeaderIs : Slot → (status delta : ℕ) → Header → Type 0
@@ -31,4 +22,4 @@ Finishes l b l′ b′ tag status sense r = AnswersWith l b l′ b′ r (λ p. f
 
 -- of an open command
 abbrev pub EndsCommand : (l b l′ b′ : List ℕ) (tag status : ℕ) (sense : List ℕ) → Answer → Type 0
-EndsCommand l b l′ b′ tag status sense r = AnswersWith l b l′ b′ r (λ p. endedDef p tag status sense)
+EndsCommand l b l′ b′ tag status sense r = AnswersWith l b l′ b′ r (λ p. finishOutcome p tag status sense)

@@ -5,20 +5,17 @@ use mathlib.Core.List.{List, [], _∷_}
 use mathlib.Core.Option.{Option, none, some}
 use Prim.Native.Nat.{ℕ}
 use native.Mathlib.Omega.{arith}
-use lib.Dec.{ltb}
 use lib.ListN.{length, length-map}
 use lib.Seq.{take-at}
 use denote.Enum.Declared.{tagOf}
 use types.Run.{OneOf, miss}
-use Rattle.srp.specs.Limits.{mostBuffers}
 use Rattle.srp.specs.Refusals.{numberOf, firstOf}
 use Rattle.srp.specs.Credit.{Port}
-use Rattle.srp.specs.Take.{silent, closed}
+use Rattle.srp.specs.Take.{silent}
 use Rattle.srp.specs.Answers.{returned}
-use Rattle.srp.specs.Calls.{unless, recordOf, listing}
+use Rattle.srp.specs.Calls.{unless, recordOf, listing, listChecks}
 use Rattle.srp.specs.declared.Record.{Record}
 use Rattle.srp.specs.declared.Refusal.{Refusal}
-use Rattle.srp.specs.declared.Refusal.the-variants.{Argument}
 use Rattle.srp.specs.declared.Reply.{Reply}
 use Rattle.srp.specs.declared.Reply.the-variants.{Listed}
 use Rattle.srp.proofs.RefusalLaws.{number-range}
@@ -33,7 +30,7 @@ others = 0 ∷ 1 ∷ 2 ∷ 3 ∷ 4 ∷ 5 ∷ 6 ∷ 7 ∷ 8 ∷ 9 ∷ 10 ∷ []
 
 -- the first check of a listing that hits
 abbrev hits : Port → ℕ → Option Refusal
-hits p room = firstOf (closed p ∷ (ltb room mostBuffers, Argument) ∷ [])
+hits p room = firstOf (listChecks p room)
 
 module _ (w : List ℕ) (room : ℕ) (r : Reply) (C : CountFor w room r) (st : List ℕ) where
   abbrev p : Port

@@ -66,8 +66,7 @@ takesCommand (Rejected reason) = false
 takesCommand (Counts n) = false
 takesCommand (Listed n) = false
 
--- "the store is lent memory": unless a command was taken every byte of it is as it was; a command taken changes the bytes of its own place and no
--- other
+-- the store is lent memory: unless a command was taken every byte of it is as it was; a command taken changes the bytes of its own place and no other
 pub record Stores (l st l′ st′ : List ℕ) (r : Reply) : Type 0 where
   pub kept : takesCommand r ≡ false → st′ ≡ st
   pub entered : takesCommand r ≡ true → OwnPlace l st l′ st′

@@ -7,11 +7,10 @@ use Prim.Native.Nat.{ℕ}
 use Rattle.srp.specs.Lists.{find, change}
 use Rattle.srp.specs.Credit.{Open, Port, withHeld}
 use Rattle.srp.specs.Take.{silent, hasTag}
-use Rattle.srp.specs.Calls.{planDef, planned, stepDef}
+use Rattle.srp.specs.Calls.{planDef, planned, stepOutcome, stepDef}
 use Rattle.srp.specs.declared.Direction.{Direction}
 use Rattle.srp.specs.declared.Refusal.the-variants.{Closed, TagNotOpen, Unplanned, Planned}
 use Rattle.srp.specs.declared.Reply.the-variants.{Refused, Performed}
-use Rattle.transfer.specs.Stepping.{handDef}
 
 -- ── plan
 
@@ -53,5 +52,5 @@ module _ (p : Port) (tag : ℕ) (d : Direction) where
       step-unplanned e = rw (live, found, e) refl
 
       -- none of them
-      pub step-passed : not (c .planned) ≡ false → stepDef p tag d ≡ handDef p tag d
+      pub step-passed : not (c .planned) ≡ false → stepDef p tag d ≡ stepOutcome p tag d
       step-passed e = rw (live, found, e) refl

@@ -10,7 +10,7 @@ use lib.ListN.{getD}
 use Rattle.srp.specs.Lists.{find}
 use Rattle.srp.specs.Credit.{Port}
 use Rattle.srp.specs.Take.{hasTag}
-use Rattle.srp.specs.Calls.{kindOf, nextOf, advanced, handOut}
+use Rattle.srp.specs.Calls.{kindOf, nextOf, advanced, handOut, stepOutcome}
 use Rattle.srp.specs.declared.Direction.{Direction}
 use Rattle.srp.specs.declared.Terms.{Terms}
 use Rattle.srp.specs.declared.Kind.{Kind}
@@ -26,7 +26,7 @@ use Rattle.words.specs.declared.Slot.{Slot}
 use Rattle.words.proofs.Ports.{while-open}
 use Rattle.state.specs.Changes.{FoundAt}
 use Rattle.state.proofs.Promises.{replies-by, performed, changed-view, found-slot}
-use Rattle.transfer.specs.Stepping.{handDef, HandsOut}
+use Rattle.transfer.specs.Stepping.{HandsOut}
 use Rattle.transfer.proofs.Pieces.{no-piece, a-piece}
 
 module _ {l : List ℕ} {tag i : ℕ} {c : Slot} (F : FoundAt l tag i) (S : SlotIs l i c) where
@@ -39,8 +39,8 @@ module _ {l : List ℕ} {tag i : ℕ} {c : Slot} (F : FoundAt l tag i) (S : Slot
   found-own = subst (λ (n : ℕ). FoundAt l n i) (sym slot-tag) F
 
   -- and step by that is step
-  pub hand-own : (p : Port) (d : Direction) → handDef p tag d ≡ handDef p (c .request .tag) d
-  hand-own p d = ap (λ (n : ℕ). handDef p n d) (sym slot-tag)
+  pub hand-own : (p : Port) (d : Direction) → stepOutcome p tag d ≡ stepOutcome p (c .request .tag) d
+  hand-own p d = ap (λ (n : ℕ). stepOutcome p n d) (sym slot-tag)
 
 module _ {l : List ℕ} {tag i : ℕ} {c : Slot} (F : FoundAt l tag i) (S : SlotIs l i c) (live : headOf l .live ≡ true) (st : List ℕ)
     (T : Terms) (d : Direction) (settled : T ≡ headOf l .terms) where
@@ -51,7 +51,7 @@ module _ {l : List ℕ} {tag i : ℕ} {c : Slot} (F : FoundAt l tag i) (S : Slot
       ∙ ap (λ (t : Terms). nextOf t d (some (openOf st c))) (ap (λ (p : Port). p .terms) (while-open l st live) ∙ sym settled)
 
   -- what step comes to
-  hand-by : {n : Option Piece} → nextOf T d (some (openOf st c)) ≡ n → handDef (view l st) tag d ≡ handOut (view l st) tag d n
+  hand-by : {n : Option Piece} → nextOf T d (some (openOf st c)) ≡ n → stepOutcome (view l st) tag d ≡ handOut (view l st) tag d n
   hand-by e = ap (handOut (view l st) tag d) (found-next ∙ e)
 
   module _ {r : Cut} (is : r ≡ nextWrapped (nextOf T d (some (openOf st c)))) where

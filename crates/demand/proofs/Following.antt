@@ -1,0 +1,145 @@
+-- Demand 2, of the C functions: by their contracts, along every run.
+-- Assumes nothing.
+use mathlib.Core.Path.{_≡_, refl, sym, _∙_, ap, subst}
+use mathlib.Core.Bool.{Bool, true, false, cond}
+use mathlib.Core.List.{List, [], _∷_}
+use mathlib.Core.Option.{Option, none, some}
+use Prim.Native.Nat.{ℕ, _^_, _≤_}
+use native.Mathlib.Omega.{arith}
+use borrow.Author.Tests.{ltb-false}
+use lib.Dec.{ltb}
+use lib.ListN.{length}
+use denote.Ref.{RefT, now}
+use contract.Lifetimes.{Lfts}
+use Rattle.srp.specs.Limits.{bufferSize}
+use Rattle.srp.specs.Bytes.{Bytes}
+use Rattle.srp.specs.Lists.{All}
+use Rattle.srp.specs.Refusals.{Check, firstOf, short}
+use Rattle.srp.specs.Credit.{Port}
+use Rattle.srp.specs.Requests.{ReadAs, readMessage}
+use Rattle.srp.specs.Take.{Outcome, Tables, closed, laterChecks, takeBy, takeRead, takeDef}
+use Rattle.srp.specs.Calls.{unless, planDef, stepDef, finishDef, addDef, withdrawDef, grantDef, closeDef}
+use Rattle.srp.specs.Login.{loginDef, judged, rejections, loginBy}
+use Rattle.srp.specs.Ranges as def
+use Rattle.srp.specs.Sent.{Sent}
+use Rattle.srp.specs.declared.Refusal.{Refusal}
+use Rattle.srp.specs.declared.Message.{Message}
+use Rattle.srp.specs.declared.Reply.{Reply}
+use Rattle.srp.proofs.Reading.{read-as}
+use Rattle.srp.proofs.Received.{login-received}
+use Rattle.srp.proofs.Sent.{every-write, login-writes, sent-follows, sent-fits}
+use Rattle.words.specs.View.{view}
+use Rattle.exports.specs.Arguments.{settingsIn}
+use Rattle.demand.specs.Calls.{Memory, seen, LoggedIn}
+use Rattle.demand.specs.Judged.{readOn}
+use Rattle.demand.specs.Following.{PortCall, take-call, plan-call, step-call, finish-call, add-call, withdraw-call, grant-call, close-call, Made, Typed, Led, begins, goes-on, roomOf, InRoom, ReadByLayout, ReadFor, ByLayouts, LoginByLayouts}
+use Rattle.demand.proofs.Holds.{took, planned-is, stepped, finished, added, withdrew, granted, ended, logged-in}
+
+-- ── every port is reached
+
+-- the outcome that a call's definition gives
+abbrev outcomeOf : Port → PortCall → Outcome
+outcomeOf p (take-call room t msg) = takeDef p room msg t
+outcomeOf p (plan-call tag out inn) = planDef p tag out inn
+outcomeOf p (step-call tag d) = stepDef p tag d
+outcomeOf p (finish-call room tag status sense) = finishDef p room tag status sense
+outcomeOf p (add-call k) = addDef p k
+outcomeOf p (withdraw-call k) = withdrawDef p k
+outcomeOf p (grant-call room) = grantDef p room
+outcomeOf p (close-call room reason) = closeDef p room reason
+
+made-is : (s : Memory) (c : PortCall) (r : Reply) (ss : List (List ℕ)) (s′ : Memory) → Made s c r ss s′ → outcomeOf (seen s) c ≡ record { reply = r; port = seen s′; wrote = ss }
+made-is s (take-call room t msg) r ss s′ m = took room t msg m
+made-is s (plan-call tag out inn) r ss s′ m = planned-is tag out inn m
+made-is s (step-call tag d) r ss s′ m = stepped tag d m
+made-is s (finish-call room tag status sense) r ss s′ m = finished room tag status sense m
+made-is s (add-call k) r ss s′ m = added k m
+made-is s (withdraw-call k) r ss s′ m = withdrew k m
+made-is s (grant-call room) r ss s′ m = granted room m
+made-is s (close-call room reason) r ss s′ m = ended room reason m
+
+reaches : (p : Port) → def.Reached p → (c : PortCall) → Typed c → def.Reached (outcomeOf p c .port)
+reaches p R (take-call room t msg) y = def.took R room msg t y
+reaches p R (plan-call tag out inn) y = def.planned R tag out inn (y .0) (y .1)
+reaches p R (step-call tag d) y = def.stepped R tag d
+reaches p R (finish-call room tag status sense) y = def.finished R room tag status sense
+reaches p R (add-call k) y = def.added R k
+reaches p R (withdraw-call k) y = def.withdrew R k
+reaches p R (grant-call room) y = def.granted R room
+reaches p R (close-call room reason) y = def.hung-up R room reason
+
+reached-next : (s : Memory) (c : PortCall) (r : Reply) (ss : List (List ℕ)) (s′ : Memory) → def.Reached (seen s) → Typed c → Made s c r ss s′ → def.Reached (seen s′)
+reached-next s c r ss s′ R y m = subst (λ (o : Outcome). def.Reached (o .port)) (made-is s c r ss s′ m) (reaches (seen s) R c y)
+
+pub led-reached : (s : Memory) → Led s → def.Reached (seen s)
+led-reached s (begins settings own msg room ss p store l) =
+    subst (λ (o : Outcome). def.Reached (o .port)) (logged-in l store) (def.logged-in (settingsIn settings) own room msg)
+led-reached s (goes-on s₀ s₁ c r ss L y m) = reached-next s₀ c r ss s₁ (led-reached s₀ L) y m
+
+-- ── every message written follows its layout and fits
+
+-- with a buffer under 132 bytes none is written, so that each fits the one that was lent
+in-room : (room : ℕ) (ss : List (List ℕ)) → All Sent ss → (ltb room bufferSize ≡ true → ss ≡ []) → All (InRoom room) ss
+in-room room ss a h = go (ltb room bufferSize) refl
+  where
+    each : bufferSize ≤ room → (ms : List (List ℕ)) → All Sent ms → All (InRoom room) ms
+    each k [] b = tt
+    each k (m ∷ ms) b = ((sent-follows (b .0), let f : length m ≤ bufferSize = sent-fits (b .0) in omega arith), each k ms (b .1))
+
+    go : (b : Bool) → ltb room bufferSize ≡ b → All (InRoom room) ss
+    go true e = rw (h e) tt
+    go false e = each (ltb-false room bufferSize e) ss a
+
+-- of what a call with a lent buffer wrote
+module _ (o : Outcome) (r : Reply) (p : Port) (ss : List (List ℕ)) (is : o ≡ record { reply = r; port = p; wrote = ss }) where
+  written : (room : ℕ) → All Sent (o .wrote) → (ltb room bufferSize ≡ true → o .wrote ≡ []) → All (InRoom room) ss
+  written room a h = subst (λ (x : Outcome). All (InRoom room) (x .wrote)) is (in-room room (o .wrote) a h)
+
+none-written : (room : ℕ) (ss : List (List ℕ)) → [] ≡ ss → All (InRoom room) ss
+none-written room ss e = subst (λ (x : List (List ℕ)). All (InRoom room) x) e tt
+
+writes-of : (s : Memory) (c : PortCall) (r : Reply) (ss : List (List ℕ)) (s′ : Memory) → def.Reached (seen s) → Typed c → Made s c r ss s′ → All (InRoom (roomOf c)) ss
+writes-of s (take-call room t msg) r ss s′ R y m = written _ r (seen s′) ss (took room t msg m) room (every-write R .taking room msg t y) (λ e. rw e)
+writes-of s (plan-call tag out inn) r ss s′ R y m = none-written 0 ss (m .wrote)
+writes-of s (step-call tag d) r ss s′ R y m = none-written 0 ss (m .wrote)
+writes-of s (finish-call room tag status sense) r ss s′ R y m =
+    written _ r (seen s′) ss (finished room tag status sense m) room (every-write R .finishing room tag status sense y) (λ e. rw e)
+writes-of s (add-call k) r ss s′ R y m = none-written 0 ss (m .wrote)
+writes-of s (withdraw-call k) r ss s′ R y m = none-written 0 ss (m .wrote)
+writes-of s (grant-call room) r ss s′ R y m = written _ r (seen s′) ss (granted room m) room (every-write R .granting room) (λ e. rw e)
+writes-of s (close-call room reason) r ss s′ R y m = written _ r (seen s′) ss (ended room reason m) room (every-write R .closing room reason y) (λ e. rw e)
+
+-- ── every message put to take is read by its layout
+
+read-by-layout : (s : Memory) (room : ℕ) (t : Tables) (msg : List ℕ) → ReadByLayout s room t msg
+read-by-layout s room t msg κs m e x post =
+    let p : Port = seen s in
+    let is : x ≡ readOn p msg = post .0 ∙ ap (λ (l : List ℕ). readOn p l) e in
+    (subst (λ (y : Message). ReadAs (p .terms .agreed) msg y) (sym is) (read-as (p .terms .agreed) (p .terms .formats) msg), ap (λ (y : Message). takeRead p room msg t y) (sym is))
+
+read-for : (s : Memory) (c : PortCall) → ReadFor s c
+read-for s (take-call room t msg) = read-by-layout s room t msg
+read-for s (plan-call tag out inn) = tt
+read-for s (step-call tag d) = tt
+read-for s (finish-call room tag status sense) = tt
+read-for s (add-call k) = tt
+read-for s (withdraw-call k) = tt
+read-for s (grant-call room) = tt
+read-for s (close-call room reason) = tt
+
+-- ── the theorem
+
+pub by-layouts : (s s′ : Memory) (c : PortCall) (r : Reply) (ss : List (List ℕ)) → Led s → Typed c → Made s c r ss s′ → ByLayouts s c ss s′
+by-layouts s s′ c r ss L y m =
+    let R : def.Reached (seen s) = led-reached s L in
+    record { reached = R; reached′ = reached-next s c r ss s′ R y m; writes = writes-of s c r ss s′ R y m; reads = read-for s c }
+
+-- and of a login, accepted or not
+pub login-by-layouts : (settings own msg : List ℕ) (room : ℕ) (r : Reply) (ss : List (List ℕ)) (p : List ℕ) → Bytes msg → LoggedIn settings own msg room r ss p
+    → LoginByLayouts settings own msg room r ss p
+login-by-layouts settings own msg room r ss p b l =
+    let C = settingsIn settings in
+    record {
+      writes = written (loginDef C own room msg) r (view p []) ss (logged-in l []) room (login-writes C own room msg b) (λ e. rw e);
+      reads = λ t n f c o a i g h e store. sym (logged-in l store) ∙ ap (λ (s : List ℕ). loginDef C own room s) e ∙ login-received C own room t n f c o a i g h;
+    }

@@ -1,0 +1,117 @@
+-- Demand 2, of the C functions: "messages are read by the layouts of SRP-2, and what the port writes follows them too: fields written by the layouts read
+-- back as those fields, on either side". It is said along every run from an accepted login; its premises are C's types: messages are bytes, and
+-- numbers have the widths that the header gives them.
+use mathlib.Core.Path.{_≡_}
+use mathlib.Core.List.{List, [], _∷_}
+use Prim.Native.Nat.{ℕ, _^_, _<_, _≤_}
+use lib.ListN.{length}
+use denote.Ref.{RefT, now}
+use contract.Lifetimes.{Lfts}
+use Rattle.srp.specs.Bytes.{Bytes, bytesOf, write, InRange}
+use Rattle.srp.specs.Messages.{loginReq}
+use Rattle.srp.specs.Lists.{All}
+use Rattle.srp.specs.Credit.{Port}
+use Rattle.srp.specs.Requests.{ReadAs}
+use Rattle.srp.specs.Take.{Outcome, Tables, takeRead, takeDef}
+use Rattle.srp.specs.Login.{loginByValues}
+use Rattle.srp.specs.Ranges.{Reached}
+use Rattle.srp.specs.Sent.{Follows}
+use Rattle.srp.specs.declared.Direction.{Direction}
+use Rattle.srp.specs.declared.Message.{Message}
+use Rattle.srp.specs.declared.Reply.{Reply}
+use Rattle.srp.specs.declared.Reply.the-variants.{Accepted}
+use Rattle.words.specs.View.{view}
+use Rattle.request.proofs.read_message.Reads as read-message
+use Rattle.exports.specs.Arguments.{settingsIn}
+use Rattle.demand.specs.Calls.{Memory, seen, LoggedIn, Took, Finished, Granted, Ended, Planned, Stepped, Added, Withdrew}
+
+-- ── a run
+
+-- a call that may change a port, with its arguments; `room` is the length of the lent buffer
+pub data PortCall : Type 0 where
+  take-call : (room : ℕ) → Tables → (msg : List ℕ) → PortCall
+  plan-call : (tag out inn : ℕ) → PortCall
+  step-call : (tag : ℕ) → Direction → PortCall
+  finish-call : (room tag status : ℕ) (sense : List ℕ) → PortCall
+  add-call : ℕ → PortCall
+  withdraw-call : ℕ → PortCall
+  grant-call : (room : ℕ) → PortCall
+  close-call : (room reason : ℕ) → PortCall
+
+-- made on s it replied r, wrote ss and left s′
+abbrev pub Made : Memory → PortCall → Reply → List (List ℕ) → Memory → Type 0
+Made s (take-call room t msg) r ss s′ = Took s room t msg r ss s′
+Made s (plan-call tag out inn) r ss s′ = Planned s tag out inn r ss s′
+Made s (step-call tag d) r ss s′ = Stepped s tag d r ss s′
+Made s (finish-call room tag status sense) r ss s′ = Finished s room tag status sense r ss s′
+Made s (add-call k) r ss s′ = Added s k r ss s′
+Made s (withdraw-call k) r ss s′ = Withdrew s k r ss s′
+Made s (grant-call room) r ss s′ = Granted s room r ss s′
+Made s (close-call room reason) r ss s′ = Ended s room reason r ss s′
+
+-- the message is bytes, and the numbers that it or a later message can carry have their widths
+abbrev pub Typed : PortCall → Type 0
+Typed (take-call room t msg) = Bytes msg
+Typed (plan-call tag out inn) = (out < 2 ^ 32) × (inn < 2 ^ 32)
+Typed (step-call tag d) = Unit {0}
+Typed (finish-call room tag status sense) = status < 2 ^ 8
+Typed (add-call k) = Unit {0}
+Typed (withdraw-call k) = Unit {0}
+Typed (grant-call room) = Unit {0}
+Typed (close-call room reason) = reason < 2 ^ 32
+
+-- what an accepted login left, with any store, and what calls made of it one after the other
+pub data Led : Memory → Type 0 where
+  begins : (settings own msg : List ℕ) (room : ℕ) (ss : List (List ℕ)) (p store : List ℕ) → LoggedIn settings own msg room Accepted ss p
+      → Led (record { words = p; store = store })
+  goes-on : (s s′ : Memory) (c : PortCall) (r : Reply) (ss : List (List ℕ)) → Led s → Typed c → Made s c r ss s′ → Led s′
+
+-- ── what is said of each call of it
+
+abbrev pub roomOf : PortCall → ℕ
+roomOf (take-call room t msg) = room
+roomOf (plan-call tag out inn) = 0
+roomOf (step-call tag d) = 0
+roomOf (finish-call room tag status sense) = room
+roomOf (add-call k) = 0
+roomOf (withdraw-call k) = 0
+roomOf (grant-call room) = room
+roomOf (close-call room reason) = room
+
+-- a message written follows its layout, and fits the lent buffer
+abbrev pub InRoom : ℕ → List ℕ → Type 0
+InRoom room m = Follows m × (length m ≤ room)
+
+-- a message put to take is read as the fields of its layout, and take goes by what was read: whatever `read_message` answers by its own contract
+abbrev pub ReadByLayout : Memory → ℕ → Tables → List ℕ → Type 0
+ReadByLayout s room t msg =
+    let p : Port = seen s in
+    (κs : Lfts 1) (m : RefT (List ℕ)) → now m ≡ msg → (x : Message)
+    → read-message.Post κs (m, (p .terms .agreed, (p .terms .formats, tt))) x (m, (p .terms .agreed, (p .terms .formats, tt)))
+    → ReadAs (p .terms .agreed) msg x × (takeDef p room msg t ≡ takeRead p room msg t x)
+
+abbrev pub ReadFor : Memory → PortCall → Type 0
+ReadFor s (take-call room t msg) = ReadByLayout s room t msg
+ReadFor s (plan-call tag out inn) = Unit {0}
+ReadFor s (step-call tag d) = Unit {0}
+ReadFor s (finish-call room tag status sense) = Unit {0}
+ReadFor s (add-call k) = Unit {0}
+ReadFor s (withdraw-call k) = Unit {0}
+ReadFor s (grant-call room) = Unit {0}
+ReadFor s (close-call room reason) = Unit {0}
+
+pub record ByLayouts (s : Memory) (c : PortCall) (ss : List (List ℕ)) (s′ : Memory) : Type 0 where
+  -- both ports are ones that a login made and calls changed
+  pub reached : Reached (seen s)
+  pub reached′ : Reached (seen s′)
+  pub writes : All (InRoom (roomOf c)) ss
+  pub reads : ReadFor s c
+
+-- ── and of a login, accepted or not
+
+pub record LoginByLayouts (settings own msg : List ℕ) (room : ℕ) (r : Reply) (ss : List (List ℕ)) (p : List ℕ) : Type 0 where
+  pub writes : All (InRoom room) ss
+  -- a request written by the layout from these values is read as those values: its outcome is made of them
+  pub reads : (t n f c o a i g : ℕ) → InRange (loginReq .fields) (t ∷ n ∷ f ∷ c ∷ o ∷ a ∷ i ∷ g ∷ []) → msg ≡ write loginReq (t ∷ n ∷ f ∷ c ∷ o ∷ a ∷ i ∷ g ∷ [])
+      → (store : List ℕ)
+      → _≡_ {A = Outcome} (record { reply = r; port = view p store; wrote = ss }) (loginByValues (settingsIn settings) own room t n f c o a (bytesOf 16 g))
