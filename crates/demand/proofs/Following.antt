@@ -1,38 +1,38 @@
 -- Demand 2, of the C functions: by their contracts, along every run.
 -- Assumes nothing.
 use mathlib.Core.Path.{_≡_, refl, sym, _∙_, ap, subst}
-use mathlib.Core.Bool.{Bool, true, false, cond}
+use mathlib.Core.Logic.{⊎-elim}
+use mathlib.Core.Bool.{Bool, true, false, true≢false}
 use mathlib.Core.List.{List, [], _∷_}
-use mathlib.Core.Option.{Option, none, some}
-use Prim.Native.Nat.{ℕ, _^_, _≤_}
+use mathlib.Core.Option.{none}
+use Prim.Native.Nat.{ℕ, _≤_}
 use native.Mathlib.Omega.{arith}
 use borrow.Author.Tests.{ltb-false}
 use lib.Dec.{ltb}
 use lib.ListN.{length}
-use denote.Ref.{RefT, now}
-use contract.Lifetimes.{Lfts}
-use Rattle.srp.specs.Limits.{bufferSize}
+use Rattle.srp.specs.Limits.{bufferSize, shortestAgreed}
 use Rattle.srp.specs.Bytes.{Bytes}
 use Rattle.srp.specs.Lists.{All}
-use Rattle.srp.specs.Refusals.{Check, firstOf, short}
 use Rattle.srp.specs.Credit.{Port}
-use Rattle.srp.specs.Requests.{ReadAs, readMessage}
-use Rattle.srp.specs.Take.{Outcome, Tables, closed, laterChecks, takeBy, takeRead, takeDef}
-use Rattle.srp.specs.Calls.{unless, planDef, stepDef, finishDef, addDef, withdrawDef, grantDef, closeDef}
-use Rattle.srp.specs.Login.{loginDef, judged, rejections, loginBy}
+use Rattle.srp.specs.Requests.{ReadAs}
+use Rattle.srp.specs.Take.{Outcome, Tables, takeRead, takeDef}
+use Rattle.srp.specs.Calls.{planDef, stepDef, finishDef, addDef, withdrawDef, grantDef, closeDef}
+use Rattle.srp.specs.Login.{loginDef}
 use Rattle.srp.specs.Ranges as def
 use Rattle.srp.specs.Sent.{Sent}
-use Rattle.srp.specs.declared.Refusal.{Refusal}
+use Rattle.srp.specs.Initiator.{commandIn}
 use Rattle.srp.specs.declared.Message.{Message}
+use Rattle.srp.specs.declared.Message.the-variants.{Cmd}
 use Rattle.srp.specs.declared.Reply.{Reply}
 use Rattle.srp.proofs.Reading.{read-as}
-use Rattle.srp.proofs.Received.{login-received}
+use Rattle.srp.proofs.Received.{task-received, logout-received, credit-received, command-received, login-received}
 use Rattle.srp.proofs.Sent.{every-write, login-writes, sent-follows, sent-fits}
 use Rattle.words.specs.View.{view}
+use Rattle.words.proofs.Ports.{any-words}
 use Rattle.exports.specs.Arguments.{settingsIn}
 use Rattle.demand.specs.Calls.{Memory, seen, LoggedIn}
 use Rattle.demand.specs.Judged.{readOn}
-use Rattle.demand.specs.Following.{PortCall, take-call, plan-call, step-call, finish-call, add-call, withdraw-call, grant-call, close-call, Made, Typed, Led, begins, goes-on, roomOf, InRoom, ReadByLayout, ReadFor, ByLayouts, LoginByLayouts}
+use Rattle.demand.specs.Following.{PortCall, take-call, plan-call, step-call, finish-call, add-call, withdraw-call, grant-call, close-call, Made, Typed, Led, begins, goes-on, roomOf, InRoom, Receives, Received, ByLayouts, LoginByLayouts}
 use Rattle.demand.proofs.Holds.{took, planned-is, stepped, finished, added, withdrew, granted, ended, logged-in}
 
 -- ── every port is reached
@@ -111,28 +111,51 @@ writes-of s (close-call room reason) r ss s′ R y m = written _ r (seen s′) s
 
 -- ── every message put to take is read by its layout
 
-read-by-layout : (s : Memory) (room : ℕ) (t : Tables) (msg : List ℕ) → ReadByLayout s room t msg
-read-by-layout s room t msg κs m e x post =
-    let p : Port = seen s in
-    let is : x ≡ readOn p msg = post .0 ∙ ap (λ (l : List ℕ). readOn p l) e in
-    (subst (λ (y : Message). ReadAs (p .terms .agreed) msg y) (sym is) (read-as (p .terms .agreed) (p .terms .formats) msg), ap (λ (y : Message). takeRead p room msg t y) (sym is))
+-- an open port has agreed on 64 bytes at least
+agreed-least : (s : Memory) → seen s .live ≡ true → shortestAgreed ≤ seen s .terms .agreed
+agreed-least s h =
+    ⊎-elim (λ e. let z : true ≡ false = sym h ∙ ap (λ (p : Port). p .live) e in absurd (true≢false z)) (λ R. R .terms .shortest) (any-words (s .words) (s .store))
 
-read-for : (s : Memory) (c : PortCall) → ReadFor s c
-read-for s (take-call room t msg) = read-by-layout s room t msg
-read-for s (plan-call tag out inn) = tt
-read-for s (step-call tag d) = tt
-read-for s (finish-call room tag status sense) = tt
-read-for s (add-call k) = tt
-read-for s (withdraw-call k) = tt
-read-for s (grant-call room) = tt
-read-for s (close-call room reason) = tt
+receives : (s : Memory) (room : ℕ) (t : Tables) (msg : List ℕ) (o : Outcome) → takeDef (seen s) room msg t ≡ o → Receives s room t msg o
+receives s room t msg o is =
+    record {
+      reads = λ κs m e x post.
+          let r : x ≡ readOn p msg = post .0 ∙ ap (λ (l : List ℕ). readOn p l) e in
+          (subst (λ (y : Message). ReadAs (p .terms .agreed) msg y) (sym r) (read-as (p .terms .agreed) (p .terms .formats) msg), by-read x (sym r));
+      task = λ h u c g l f k r e.
+          by-read _ (ap (λ (x : List ℕ). readOn p x) e ∙ task-received (p .terms .agreed) (p .terms .formats) u c g l f k r (let n = agreed-least s h in omega arith));
+      credit = λ h g r e. by-read _ (ap (λ (x : List ℕ). readOn p x) e ∙ credit-received (p .terms .agreed) (p .terms .formats) g r (let n = agreed-least s h in omega arith));
+      logout = λ h vs r e. by-read _ (ap (λ (x : List ℕ). readOn p x) e ∙ logout-received (p .terms .agreed) (p .terms .formats) vs r (let n = agreed-least s h in omega arith));
+      command = λ c k e.
+          by-read _
+          (ap (λ (x : List ℕ). readOn p x) e
+          ∙ command-received (p .terms .agreed) (p .terms .formats) c (k .ranged) (k .cdb) (k .out-fits .0) (k .in-fits .0) (k .out-fits .1) (k .in-fits .1) (k .out-fits .2) (k .in-fits .2) (k .long)
+          ∙ ap (λ (x : List ℕ). Cmd (commandIn c x)) (sym e));
+    }
+  where
+    p : Port
+    p = seen s
+
+    -- the outcome, by what the message is read as
+    by-read : (x : Message) → readOn p msg ≡ x → o ≡ takeRead p room msg t x
+    by-read x e = sym is ∙ ap (λ (y : Message). takeRead p room msg t y) e
+
+received : (s : Memory) (c : PortCall) (r : Reply) (ss : List (List ℕ)) (s′ : Memory) → Made s c r ss s′ → Received s c (record { reply = r; port = seen s′; wrote = ss })
+received s (take-call room t msg) r ss s′ m = receives s room t msg _ (took room t msg m)
+received s (plan-call tag out inn) r ss s′ m = tt
+received s (step-call tag d) r ss s′ m = tt
+received s (finish-call room tag status sense) r ss s′ m = tt
+received s (add-call k) r ss s′ m = tt
+received s (withdraw-call k) r ss s′ m = tt
+received s (grant-call room) r ss s′ m = tt
+received s (close-call room reason) r ss s′ m = tt
 
 -- ── the theorem
 
-pub by-layouts : (s s′ : Memory) (c : PortCall) (r : Reply) (ss : List (List ℕ)) → Led s → Typed c → Made s c r ss s′ → ByLayouts s c ss s′
+pub by-layouts : (s s′ : Memory) (c : PortCall) (r : Reply) (ss : List (List ℕ)) → Led s → Typed c → Made s c r ss s′ → ByLayouts s c r ss s′
 by-layouts s s′ c r ss L y m =
     let R : def.Reached (seen s) = led-reached s L in
-    record { reached = R; reached′ = reached-next s c r ss s′ R y m; writes = writes-of s c r ss s′ R y m; reads = read-for s c }
+    record { reached = R; reached′ = reached-next s c r ss s′ R y m; writes = writes-of s c r ss s′ R y m; received = received s c r ss s′ m }
 
 -- and of a login, accepted or not
 pub login-by-layouts : (settings own msg : List ℕ) (room : ℕ) (r : Reply) (ss : List (List ℕ)) (p : List ℕ) → Bytes msg → LoggedIn settings own msg room r ss p

@@ -2,9 +2,8 @@
 -- Assumes nothing.
 use mathlib.Core.Path.{_≡_, sym, _∙_, ap, subst}
 use mathlib.Core.Bool.{Bool}
-use mathlib.Core.List.{List, [], _∷_, _++_, map}
-use Prim.Native.Nat.{ℕ, _/_, _≤_}
-use native.Mathlib.Omega.{arith}
+use mathlib.Core.List.{List, [], _∷_, _++_}
+use Prim.Native.Nat.{ℕ, _/_}
 use borrow.Author.Tests.{le-ltb}
 use lib.ListN.{length, drop}
 use denote.Ref.{RefT, now}
@@ -14,7 +13,7 @@ use Rattle.srp.specs.Refusals.{firstOf}
 use Rattle.srp.specs.Credit.{Port, owed}
 use Rattle.srp.specs.Take.{Outcome, silent, Tables, takeDef}
 use Rattle.srp.specs.Take as def
-use Rattle.srp.specs.Calls.{unless, planDef, stepDef, finishDef, addDef, withdrawDef, grantDef, closeDef, countersDef, listing, listOutcome, listDef}
+use Rattle.srp.specs.Calls.{unless, planDef, stepDef, finishDef, addDef, withdrawDef, grantDef, closeDef, countersDef, listOutcome, listDef}
 use Rattle.srp.specs.Login.{loginDef}
 use Rattle.srp.specs.Answers.{returned, sizeOf}
 use Rattle.srp.specs.declared.Refusal.the-variants.{Argument}
@@ -23,11 +22,11 @@ use Rattle.srp.specs.declared.Direction.{Direction}
 use Rattle.srp.specs.declared.Record.{Record}
 use Rattle.srp.specs.declared.Answer.{Answer}
 use Rattle.srp.specs.declared.Reply.{Reply}
-use Rattle.srp.specs.declared.Reply.the-variants.{Performed, Accepted, Counts, Listed}
-use Rattle.machine.specs.Machine.{shownAs, Machine, start, requestsHeld, Login, loginOf}
+use Rattle.srp.specs.declared.Reply.the-variants.{Performed, Counts, Listed}
+use Rattle.machine.specs.Machine.{Machine, requestsHeld, Login, loginOf}
 use Rattle.machine.specs.Actions.{atFront}
-use Rattle.machine.specs.Events.{Event, sends, delivers, takes, plans, steps, finishes, adds, withdraws, grants}
-use Rattle.machine.specs.Demand.{counted, Now, Run, Fair, Demand, Meets}
+use Rattle.machine.specs.Events.{sends, delivers, takes, plans, steps, finishes, adds, withdraws, grants}
+use Rattle.machine.specs.Demand.{counted, Now, Demand, Meets}
 use Rattle.machine.proofs.Demand.{demand-3}
 use Rattle.answer.specs.Words.{answerWords}
 use Rattle.words.specs.View.{view}
@@ -37,7 +36,7 @@ use Rattle.exports.specs.Calls.{InC, AnswersInC, RepliesInC, ListsInC}
 use Rattle.exports.proofs.Listing.{counters-unwritten, list-unwritten}
 use Rattle.exports.proofs.port.srp_target_counters.Reads as counters-in-c
 use Rattle.exports.proofs.port.srp_target_list.Reads as list-in-c
-use Rattle.demand.specs.Replies.{performed, loggedIn}
+use Rattle.demand.specs.Replies.{performed}
 use Rattle.demand.specs.Calls.{Memory, seen, LoggedIn, Took, WithMessage, Finished, Granted, Ended, WithoutMessage, Planned, Stepped, Added, Withdrew, Untouched, TookFront, Call}
 use Rattle.demand.specs.Holding.{Holds, Reports, Lists}
 use Rattle.demand.proofs.Told as told

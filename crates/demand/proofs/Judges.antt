@@ -1,48 +1,32 @@
 -- Demand 1, of each C function, by its contract alone.
 -- Assumes nothing.
-use mathlib.Core.Path.{_≡_, refl, sym, _∙_, ap, subst}
-use mathlib.Core.Bool.{Bool, true, false, cond, not}
-use mathlib.Core.List.{List, [], _∷_, _++_}
-use mathlib.Core.Option.{Option, none, some, Option·some-injective}
+use mathlib.Core.Path.{_≡_, refl, sym, _∙_, ap}
+use mathlib.Core.Bool.{true}
+use mathlib.Core.List.{List, []}
+use mathlib.Core.Option.{Option, none, some}
 use Prim.Native.Nat.{ℕ, _/_, min}
-use native.Mathlib.Omega.{arith}
 use borrow.Author.Tests.{not-false}
-use lib.Dec.{ltb}
-use lib.ListN.{length, drop}
+use lib.ListN.{length}
 use denote.Ref.{RefT, now}
 use contract.Lifetimes.{Lfts}
-use Rattle.srp.specs.Limits.{bufferSize}
 use Rattle.srp.specs.Lists.{find}
-use Rattle.srp.specs.Refusals.{Conduct, hangsUp, answered, stays, altersNothing, numberOf, conductOf, Check, firstOf}
+use Rattle.srp.specs.Refusals.{Check, firstOf}
 use Rattle.srp.specs.Descriptors.{segmentsOf, sumOf, fetchOf}
 use Rattle.srp.specs.Requests.{lookChecks, outDescriptor, inDescriptor}
-use Rattle.srp.specs.Cutting.{upTo, next, cutNext, cutChecks, cutDef}
+use Rattle.srp.specs.Cutting.{upTo, next, cutNext, cutChecks}
 use Rattle.srp.specs.Credit.{Port}
-use Rattle.srp.specs.Writing.{placed}
-use Rattle.srp.specs.Take.{Outcome, Tables, hasTag, laterChecks, takeChecks, conducted, refusedBy, accepted, takeBy, takeDef}
-use Rattle.srp.specs.Order.{takeOrder}
-use Rattle.srp.specs.Calls.{unless, handOut, nextOf, planChecks, planOutcome, stepChecks, stepOutcome, stepDef, finishChecks, finishOutcome, addChecks, addOutcome, withdrawChecks, withdrawOutcome, grantChecks, grantOutcome, closeChecks, closeOutcome, countersChecks, countersOutcome, listing, listChecks, listOutcome}
-use Rattle.srp.specs.Login.{loginChecks, rejections, judged, loginBy, loginDef}
-use Rattle.srp.specs.Outside.{CReturn, lookInC, lookAnswer, cutInC, cutAnswer}
-use Rattle.srp.specs.Answers.{returned, answerOf}
+use Rattle.srp.specs.Take.{hasTag}
+use Rattle.srp.specs.Calls.{unless, handOut, nextOf, planChecks, planOutcome, stepChecks, stepOutcome, finishChecks, finishOutcome, addChecks, addOutcome, withdrawChecks, withdrawOutcome, grantChecks, grantOutcome, closeChecks, closeOutcome, countersChecks, countersOutcome, listing, listChecks, listOutcome}
+use Rattle.srp.specs.Outside.{lookAnswer, cutAnswer}
+use Rattle.srp.specs.Answers.{returned}
 use Rattle.srp.specs.declared.Direction.{Direction}
 use Rattle.srp.specs.declared.Piece.{Piece}
 use Rattle.srp.specs.declared.Look.the-variants.{LookRefused, Fetches}
 use Rattle.srp.specs.declared.Cut.the-variants.{CutRefused}
 use Rattle.srp.specs.declared.Refusal.{Refusal}
-use Rattle.srp.specs.declared.Refusal.the-variants.{ShortBuffer, Closed}
-use Rattle.srp.specs.declared.Settings.{Settings}
-use Rattle.srp.specs.declared.Message.{Message}
-use Rattle.srp.specs.declared.Reply.{Reply}
-use Rattle.srp.specs.declared.Reply.the-variants.{Accepted, Rejected}
 use Rattle.srp.proofs.Checks.{passes}
-use Rattle.srp.proofs.Refusing.{take-order}
-use Rattle.answer.specs.Words.{answerWords}
-use Rattle.words.specs.View.{view, closedWords}
-use Rattle.take.specs.Taking.{tables}
-use Rattle.exports.specs.Arguments.{recordSize, allWords, settingsIn, directionIn}
-use Rattle.exports.specs.Answered.{Answered}
-use Rattle.exports.specs.Calls.{AnswersInC, StepsInC, LogsInC, ListsInC}
+use Rattle.words.specs.View.{view}
+use Rattle.exports.specs.Arguments.{recordSize, directionIn}
 use Rattle.exports.proofs.port.srp_target_login.Reads as login-in-c
 use Rattle.exports.proofs.port.srp_target_take.Reads as take-in-c
 use Rattle.exports.proofs.port.srp_target_plan.Reads as plan-in-c
@@ -56,10 +40,8 @@ use Rattle.exports.proofs.port.srp_target_counters.Reads as counters-in-c
 use Rattle.exports.proofs.port.srp_target_list.Reads as list-in-c
 use Rattle.exports.proofs.srp_look.Reads as look-in-c
 use Rattle.exports.proofs.srp_cut.Reads as cut-in-c
-use Rattle.demand.specs.Replies.{replyBy, loggedIn}
-use Rattle.demand.specs.Judged.{Judged, noWords, Comes, Unaltered, readOn, Left, JudgesTake, LoginJudged, JudgesLogin, JudgesPlan, JudgesStep, JudgesFinish, JudgesAdd, JudgesWithdraw, JudgesGrant, JudgesClose, JudgesCounters, JudgesList, shortAnswer, JudgesLook, JudgesCut}
-use Rattle.demand.proofs.Told.{step-said, login-told}
-use Rattle.demand.proofs.Judging.{numberFor, not-zero, judge, judge-answers, judge-replies, judge-numbers, judge-steps, judge-bytes}
+use Rattle.demand.specs.Judged.{JudgesPlan, JudgesStep, JudgesFinish, JudgesAdd, JudgesWithdraw, JudgesGrant, JudgesClose, JudgesCounters, JudgesList, JudgesLook, JudgesCut}
+use Rattle.demand.proofs.Judging.{not-zero, judge-answers, judge-replies, judge-numbers, judge-steps, judge-bytes}
 
 -- ── the calls that are refused by their first check, or performed
 

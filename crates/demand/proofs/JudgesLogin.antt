@@ -2,7 +2,7 @@
 -- Assumes nothing.
 use mathlib.Core.Path.{_≡_, refl, sym, _∙_, ap}
 use mathlib.Core.Logic.{_↔_}
-use mathlib.Core.List.{List, []}
+use mathlib.Core.List.{List}
 use mathlib.Core.Option.{Option, none, some}
 use Prim.Native.Nat.{ℕ}
 use native.Mathlib.Omega.{arith}
@@ -16,7 +16,6 @@ use Rattle.srp.specs.Login.{loginChecks, rejections, judged, loginBy, loginDef}
 use Rattle.srp.specs.Answers.{returned, answerOf}
 use Rattle.srp.specs.declared.Refusal.{Refusal}
 use Rattle.srp.specs.declared.Settings.{Settings}
-use Rattle.srp.specs.declared.Reply.{Reply}
 use Rattle.srp.specs.declared.Reply.the-variants.{Accepted, Rejected}
 use Rattle.answer.specs.Words.{answerWords}
 use Rattle.words.specs.View.{closedWords}
@@ -24,7 +23,7 @@ use Rattle.exports.specs.Arguments.{settingsIn}
 use Rattle.exports.specs.Calls.{LogsInC}
 use Rattle.exports.proofs.port.srp_target_login.Reads as login-in-c
 use Rattle.demand.specs.Replies.{replyBy, loggedIn}
-use Rattle.demand.specs.Judged.{Judged, Unaltered, LoginJudged, JudgesLogin}
+use Rattle.demand.specs.Judged.{Unaltered, LoginJudged, JudgesLogin}
 use Rattle.demand.proofs.Told.{login-told, logs-in}
 use Rattle.demand.proofs.Judging.{numberFor, judge}
 

@@ -3,21 +3,20 @@ use mathlib.Core.Path.{_≡_, refl, sym, _∙_, ap}
 use mathlib.Core.Bool.{true, false, true≢false}
 use mathlib.Core.List.{List, [], _∷_}
 use mathlib.Core.Option.{Option, none, some}
-use Prim.Native.Nat.{ℕ, suc, _≤_}
+use Prim.Native.Nat.{ℕ, _≤_}
 use native.Mathlib.Omega.{arith}
 use native.Mathlib.Nat.{not-suc-le-zero}
 use borrow.Author.Tests.{not-false, ne-eqb}
 use lib.Dec.{eqb}
 use lib.ListN.{length, getD}
 use lib.Seq.{take-append-seam}
-use Rattle.srp.specs.Bytes.{write}
 use Rattle.srp.specs.Lists.{find, isSome}
-use Rattle.srp.specs.Refusals.{Conduct, hangsUp, answered, stays, altersNothing, conductOf, numberOf, refusalNumbered, firstOf}
+use Rattle.srp.specs.Refusals.{Conduct, hangsUp, answered, stays, altersNothing, conductOf, numberOf, firstOf}
 use Rattle.srp.specs.Writing.{placed}
 use Rattle.srp.specs.Credit.{Open, Port}
-use Rattle.srp.specs.Take.{Outcome, silent, hasTag, isOpen, Tables, takeChecks, conducted, refusedBy, accepted, takeBy, takeDef}
-use Rattle.srp.specs.Calls.{unless, planChecks, planOutcome, planDef, addChecks, addOutcome, addDef, withdrawChecks, withdrawOutcome, withdrawDef, handOut, nextOf, stepChecks, stepOutcome, stepDef, finalResponse, finishChecks, finishOutcome, finishDef, grantChecks, grantOutcome, grantDef, closeChecks, closeOutcome, closeDef}
-use Rattle.srp.specs.Login.{loginChecks, rejections, judged, loginBy, loginDef}
+use Rattle.srp.specs.Take.{Outcome, silent, hasTag, isOpen, Tables, takeChecks, conducted, accepted, takeBy, takeDef}
+use Rattle.srp.specs.Calls.{unless, planChecks, planOutcome, planDef, addChecks, addOutcome, addDef, withdrawChecks, withdrawOutcome, withdrawDef, handOut, nextOf, stepChecks, stepDef, finalResponse, finishChecks, finishOutcome, finishDef, grantChecks, grantOutcome, grantDef, closeChecks, closeOutcome, closeDef}
+use Rattle.srp.specs.Login.{loginChecks, rejections, loginBy, loginDef}
 use Rattle.srp.specs.Answers.{returned, sizeOf, answerOf}
 use Rattle.srp.specs.declared.Settings.{Settings}
 use Rattle.srp.specs.declared.Direction.{Direction}

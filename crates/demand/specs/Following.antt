@@ -2,22 +2,26 @@
 -- back as those fields, on either side". It is said along every run from an accepted login; its premises are C's types: messages are bytes, and
 -- numbers have the widths that the header gives them.
 use mathlib.Core.Path.{_≡_}
+use mathlib.Core.Bool.{true}
 use mathlib.Core.List.{List, [], _∷_}
-use Prim.Native.Nat.{ℕ, _^_, _<_, _≤_}
+use Prim.Native.Nat.{ℕ, _+_, _*_, _^_, _<_, _≤_}
 use lib.ListN.{length}
 use denote.Ref.{RefT, now}
 use contract.Lifetimes.{Lfts}
 use Rattle.srp.specs.Bytes.{Bytes, bytesOf, write, InRange}
-use Rattle.srp.specs.Messages.{loginReq}
+use Rattle.srp.specs.Messages.{loginReq, tskMgmt, cmd, iLogout, credRsp}
+use Rattle.srp.specs.Initiator.{CommandFields, values, commandBytes, formatOf, Fit, Copied, commandIn}
+use Rattle.srp.specs.Descriptors.{agrees}
 use Rattle.srp.specs.Lists.{All}
-use Rattle.srp.specs.Credit.{Port}
-use Rattle.srp.specs.Requests.{ReadAs}
-use Rattle.srp.specs.Take.{Outcome, Tables, takeRead, takeDef}
+use Rattle.srp.specs.Requests.{flag, ReadAs}
+use Rattle.srp.specs.Take.{Outcome, Tables, takeRead}
 use Rattle.srp.specs.Login.{loginByValues}
 use Rattle.srp.specs.Ranges.{Reached}
 use Rattle.srp.specs.Sent.{Follows}
 use Rattle.srp.specs.declared.Direction.{Direction}
 use Rattle.srp.specs.declared.Message.{Message}
+use Rattle.srp.specs.declared.Message.the-variants.{Cmd, TskMgmt, CredRsp, ILogout}
+use Rattle.srp.specs.declared.Terms.{Terms}
 use Rattle.srp.specs.declared.Reply.{Reply}
 use Rattle.srp.specs.declared.Reply.the-variants.{Accepted}
 use Rattle.words.specs.View.{view}
@@ -78,34 +82,48 @@ roomOf (withdraw-call k) = 0
 roomOf (grant-call room) = room
 roomOf (close-call room reason) = room
 
+-- a command that an initiator may write to a port with these terms: its values are in their ranges, its CDB has the length that n says, its formats are
+-- agreed, its copies fit, and it is not too long
+pub record Sendable (T : Terms) (c : CommandFields) : Type 0 where
+  pub ranged : InRange (cmd .fields) (values c)
+  pub cdb : length (c .cdb) ≡ 16 + 4 * c .n
+  pub out-fits : Fit (c .out) × Copied (c .out) × (agrees (T .formats) (formatOf (c .out)) ≡ true)
+  pub in-fits : Fit (c .inn) × Copied (c .inn) × (agrees (T .formats) (formatOf (c .inn)) ≡ true)
+  pub long : length (commandBytes c) ≤ T .agreed
+
 -- a message written follows its layout, and fits the lent buffer
 abbrev pub InRoom : ℕ → List ℕ → Type 0
 InRoom room m = Follows m × (length m ≤ room)
 
--- a message put to take is read as the fields of its layout, and take goes by what was read: whatever `read_message` answers by its own contract
-abbrev pub ReadByLayout : Memory → ℕ → Tables → List ℕ → Type 0
-ReadByLayout s room t msg =
-    let p : Port = seen s in
-    (κs : Lfts 1) (m : RefT (List ℕ)) → now m ≡ msg → (x : Message)
-    → read-message.Post κs (m, (p .terms .agreed, (p .terms .formats, tt))) x (m, (p .terms .agreed, (p .terms .formats, tt)))
-    → ReadAs (p .terms .agreed) msg x × (takeDef p room msg t ≡ takeRead p room msg t x)
+-- a message msg put to take on s, whose answer, port and messages are the outcome o
+pub record Receives (s : Memory) (room : ℕ) (t : Tables) (msg : List ℕ) (o : Outcome) : Type 0 where
+  -- it is read as the fields of its layout, and the outcome is that of what was read: whatever `read_message` answers by its own contract
+  pub reads : (κs : Lfts 1) (m : RefT (List ℕ)) → now m ≡ msg → (x : Message)
+      → let T : Terms = seen s .terms in
+      read-message.Post κs (m, (T .agreed, (T .formats, tt))) x (m, (T .agreed, (T .formats, tt))) → ReadAs (T .agreed) msg x × (o ≡ takeRead (seen s) room msg t x)
+  -- written by the layouts while the channel is open, it is taken as the values that were written
+  pub task : seen s .live ≡ true → (u c g l f k : ℕ) → InRange (tskMgmt .fields) (u ∷ c ∷ g ∷ l ∷ f ∷ k ∷ []) → msg ≡ write tskMgmt (u ∷ c ∷ g ∷ l ∷ f ∷ k ∷ [])
+      → o ≡ takeRead (seen s) room msg t (TskMgmt (record { request = record { tag = g; lun = l; ucsolnt = flag u; scsolnt = flag c }; function = f; managed = k }))
+  pub credit : seen s .live ≡ true → (g : ℕ) → InRange (credRsp .fields) (g ∷ []) → msg ≡ write credRsp (g ∷ []) → o ≡ takeRead (seen s) room msg t (CredRsp g)
+  pub logout : seen s .live ≡ true → (vs : List ℕ) → InRange (iLogout .fields) vs → msg ≡ write iLogout vs → o ≡ takeRead (seen s) room msg t ILogout
+  pub command : (c : CommandFields) → Sendable (seen s .terms) c → msg ≡ commandBytes c → o ≡ takeRead (seen s) room msg t (Cmd (commandIn c msg))
 
-abbrev pub ReadFor : Memory → PortCall → Type 0
-ReadFor s (take-call room t msg) = ReadByLayout s room t msg
-ReadFor s (plan-call tag out inn) = Unit {0}
-ReadFor s (step-call tag d) = Unit {0}
-ReadFor s (finish-call room tag status sense) = Unit {0}
-ReadFor s (add-call k) = Unit {0}
-ReadFor s (withdraw-call k) = Unit {0}
-ReadFor s (grant-call room) = Unit {0}
-ReadFor s (close-call room reason) = Unit {0}
+abbrev pub Received : Memory → PortCall → Outcome → Type 0
+Received s (take-call room t msg) o = Receives s room t msg o
+Received s (plan-call tag out inn) o = Unit {0}
+Received s (step-call tag d) o = Unit {0}
+Received s (finish-call room tag status sense) o = Unit {0}
+Received s (add-call k) o = Unit {0}
+Received s (withdraw-call k) o = Unit {0}
+Received s (grant-call room) o = Unit {0}
+Received s (close-call room reason) o = Unit {0}
 
-pub record ByLayouts (s : Memory) (c : PortCall) (ss : List (List ℕ)) (s′ : Memory) : Type 0 where
+pub record ByLayouts (s : Memory) (c : PortCall) (r : Reply) (ss : List (List ℕ)) (s′ : Memory) : Type 0 where
   -- both ports are ones that a login made and calls changed
   pub reached : Reached (seen s)
   pub reached′ : Reached (seen s′)
   pub writes : All (InRoom (roomOf c)) ss
-  pub reads : ReadFor s c
+  pub received : Received s c (record { reply = r; port = seen s′; wrote = ss })
 
 -- ── and of a login, accepted or not
 

@@ -1,7 +1,7 @@
 -- Demand 3, of the C functions: of every list of events that follows an accepted login, and what the owner then reads.
 use mathlib.Core.Path.{_≡_}
-use mathlib.Core.List.{List, [], _∷_, _++_, map}
-use Prim.Native.Nat.{ℕ, _*_, _/_, _≤_}
+use mathlib.Core.List.{List, _∷_, _++_, map}
+use Prim.Native.Nat.{ℕ, _/_, _≤_}
 use lib.ListN.{length, drop, replicate}
 use Rattle.srp.specs.Limits.{mostBuffers}
 use Rattle.srp.specs.Credit.{owed}

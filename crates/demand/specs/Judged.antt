@@ -17,7 +17,7 @@ use Rattle.srp.specs.Writing.{targetLogout, placed}
 use Rattle.srp.specs.Take.{Outcome, Tables, answerBad, refusedBy, accepted}
 use Rattle.srp.specs.Order.{takeOrder}
 use Rattle.srp.specs.Calls.{planChecks, planOutcome, stepChecks, stepOutcome, finishChecks, finishOutcome, addChecks, addOutcome, withdrawChecks, withdrawOutcome, grantChecks, grantOutcome, closeChecks, closeOutcome, countersChecks, countersOutcome, listing, listChecks, listOutcome}
-use Rattle.srp.specs.Login.{loginChecks, rejections, opened, loginResponse, loginReject, judged}
+use Rattle.srp.specs.Login.{loginChecks, rejections, judged}
 use Rattle.srp.specs.Outside.{fetchBytes, cutAnswer}
 use Rattle.srp.specs.Answers.{answerOf}
 use Rattle.srp.specs.declared.Refusal.{Refusal}
