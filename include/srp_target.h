@@ -223,8 +223,8 @@ uint32_t srp_target_login(uint64_t *port, const uint32_t settings[5], const uint
  *   3 to 8, 22, 23, 25  16                                 the port is closed: buf has an SRP_T_LOGOUT with tag 0
  *   10                  40                                 the command is answered: buf has its SRP_RSP
  *   1, 9, 21            0                                  all is as it was
- * Where no message is named, buf is as it was. The store is written for a command taken, and for nothing else; what
- * other open commands have there stays.
+ * Where no message is named, buf is as it was. Unless a command was taken every byte of the store is as it was; a
+ * command taken changes the bytes of its own place there, 1,024 that no other open command uses, and no other byte.
  *
  * Command: the whole CDB is part of msg, from byte 32 on, 16 + 4n long; n is byte 31 bits 7-2. The port keeps nothing
  * of msg, out and in: they may be lent again when the owner is done with the CDB.
@@ -287,7 +287,7 @@ uint32_t srp_target_plan(uint64_t *port, uint64_t tag, uint32_t r_out, uint32_t 
  * answer after 0, done:           0
  * A piece is handed out by the call: the next one starts behind it. It is 1 to M long, lies in one segment, and its
  * data stand at the offset in the command's data. Done comes when min(R, B) bytes have been handed out, and then each
- * time again; it alters nothing.
+ * time again; it alters no word of the port.
  */
 uint32_t srp_target_step(uint64_t *port, const uint8_t *store, uint64_t tag, uint32_t direction, uint64_t answer[8]);
 
