@@ -15,6 +15,7 @@ use Rattle.srp.specs.Descriptors.{agrees, descriptorSize, descriptorOf, badCoun
 use Rattle.command.specs.Reading.{agreedOf, withTotal, LiesIn}
 use Rattle.command.specs.declared.descriptors.Format.{Format}
 use Rattle.command.specs.declared.descriptors.Format.the-variants.{Agreed, NotAgreed}
+use Rattle.command.proofs.Told.{was-false, neither}
 
 -- ── whether a format is agreed
 
@@ -51,9 +52,8 @@ module _ (formats f : ℕ) where
   agreed-known e = known-go (eqb f 0) (eqb f 1) (eqb f 2) refl refl refl e
 
 -- what the code's answer tells of a field's format
-told-not : (b : Bool) (f : ℕ) → cond b (Agreed f) NotAgreed ≡ NotAgreed → b ≡ false
-told-not true f e = let z : _≡_ {A = ℕ} 0 1 = cc in let q : ⊥ = omega arith in absurd q
-told-not false f e = refl
+two-answers : (f : ℕ) → Agreed f ≡ NotAgreed → ⊥
+two-answers f e = let z : _≡_ {A = ℕ} 0 1 = cc in omega arith
 
 told : (b : Bool) (f g : ℕ) → cond b (Agreed f) NotAgreed ≡ Agreed g → (b ≡ true) × (g ≡ f)
 told true f g e = (refl, cc)
@@ -61,7 +61,7 @@ told false f g e = let z : _≡_ {A = ℕ} 0 1 = cc in let q : ⊥ = omega arith
 
 module _ (formats x : ℕ) {f : ℕ} {r : Format} (e : r ≡ agreedOf formats f) (is : f ≡ x) where
   pub not-agreed : r ≡ NotAgreed → agrees formats x ≡ false
-  not-agreed n = told-not (agrees formats x) x (sym (rw is at e) ∙ n)
+  not-agreed n = was-false (two-answers x) (agrees formats x) (rw is at e) n
 
   pub agreed : {g : ℕ} → r ≡ Agreed g → (agrees formats x ≡ true) × (g ≡ x)
   agreed {g} n = told (agrees formats x) x g (sym (rw is at e) ∙ n)
@@ -81,13 +81,8 @@ unread : (a b : Bool) (c : ℕ) → cond a 16 (cond b (20 + 16 * cond b c 0) 0) 
 unread a true c = refl
 unread a false c = refl
 
--- of two tests, neither hit
-both : (a b : Bool) → (a || b) ≡ false → (a ≡ false) × (b ≡ false)
-both true b e = let z : _≡_ {A = ℕ} 0 1 = cc in let q : ⊥ = omega arith in absurd q
-both false b e = (refl, e)
-
 few : (b : Bool) (c n : ℕ) → (b && (ltb 32 (cond b c 0) || ltb (cond b n 0) (16 * cond b c 0))) ≡ false → (cond b c 0 ≤ 32) × (16 * cond b c 0 ≤ cond b n 0)
-few true c n e = (ltb-false 32 c (both (ltb 32 c) (ltb n (16 * c)) e .0), ltb-false n (16 * c) (both (ltb 32 c) (ltb n (16 * c)) e .1))
+few true c n e = (ltb-false 32 c (neither (ltb 32 c) (ltb n (16 * c)) e .0), ltb-false n (16 * c) (neither (ltb 32 c) (ltb n (16 * c)) e .1))
 few false c n e = (omega arith, omega arith)
 
 -- what passed the checks, read but for its total length, lies within the message

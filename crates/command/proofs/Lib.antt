@@ -1,3 +1,4 @@
+pub mod Told
 pub mod Formats
 pub mod Tables
 pub mod Sums

@@ -1,15 +1,15 @@
 -- What reading a command and looking at a message come to, under each of their checks in turn.
 -- Assumes nothing.
 use mathlib.Core.Path.{_≡_, refl, sym, ap, subst, _∙_}
-use mathlib.Core.Bool.{true, false, _||_}
+use mathlib.Core.Bool.{Bool, true, false, _||_}
 use mathlib.Core.List.{List, [], _∷_}
 use mathlib.Core.Option.{Option, none, some}
-use Prim.Native.Nat.{ℕ, _+_, _*_, _%_, _≤_, _<_}
+use Prim.Native.Nat.{ℕ, _+_, _*_, _≤_, _<_}
 use native.Mathlib.Omega.{arith}
 use borrow.Author.Tests.{eq-eqb, ne-eqb, lt-ltb, le-ltb}
 use denote.Enum.Declared.{tagOf}
 use types.Run.{OneOf, miss}
-use lib.Dec.{eqb}
+use lib.Dec.{ltb, eqb}
 use lib.ListN.{length}
 use Rattle.srp.specs.Limits.{shortestCommand}
 use Rattle.srp.specs.Bytes.{get, typeOf}
@@ -142,38 +142,20 @@ module _ (agreed formats : ℕ) (s : List ℕ) where
   abbrev looked : Shaped
   looked = shapedBy (firstOf (lookChecks agreed formats s)) (commandOf s)
 
-  pub low-length : agreed < 64 → Unfit Setting ≡ looked
-  low-length h = rw (lt-ltb agreed 64 h)
+  pub bad-setting : (badLength agreed || otherFormats 6 formats) ≡ true → Unfit Setting ≡ looked
+  bad-setting e = rw e
 
-  module _ (h₁ : 64 ≤ agreed) where
-    pub high-length : 1364 < agreed → Unfit Setting ≡ looked
-    high-length h = rw (le-ltb agreed 64 h₁, lt-ltb 1364 agreed h)
+  module _ (set : (badLength agreed || otherFormats 6 formats) ≡ false) where
+    pub bad-length : (b : Bool) → ltb (length s) 16 ≡ b → (b || ltb agreed (length s)) ≡ true → Unfit Length ≡ looked
+    bad-length true p e = rw (set, p)
+    bad-length false p e = rw (set, p, e)
 
-    module _ (h₂ : agreed ≤ 1364) where
-      pub bit-zero : formats % 2 ≡ 1 → Unfit Setting ≡ looked
-      bit-zero e = rw (le-ltb agreed 64 h₁, le-ltb 1364 agreed h₂, eq-eqb (formats % 2) 1 e)
+    module _ (h : (16 ≤ length s) × (length s ≤ agreed)) {k : ℕ} (e : k ≡ typeOf s) where
+      pub other-type : (k ≡ 2 → ⊥) → Unfit OtherType ≡ looked
+      other-type ne = rw (set, le-ltb (length s) 16 (h .0), le-ltb agreed (length s) (h .1), ne-eqb (typeOf s) 2 (λ z. ne (e ∙ z)))
 
-      module _ (h₃ : formats % 2 ≡ 1 → ⊥) where
-        pub high-bits : 7 < formats → Unfit Setting ≡ looked
-        high-bits h = rw (le-ltb agreed 64 h₁, le-ltb 1364 agreed h₂, ne-eqb (formats % 2) 1 h₃, lt-ltb 7 formats h)
-
-        module _ (h₄ : formats ≤ 7) where
-          set : (badLength agreed || otherFormats 6 formats) ≡ false
-          set = rw (le-ltb agreed 64 h₁, le-ltb 1364 agreed h₂, ne-eqb (formats % 2) 1 h₃, le-ltb 7 formats h₄)
-
-          pub message-short : length s < 16 → Unfit Length ≡ looked
-          message-short h = rw (set, lt-ltb (length s) 16 h)
-
-          module _ (h₅ : 16 ≤ length s) where
-            pub message-long : agreed < length s → Unfit Length ≡ looked
-            message-long h = rw (set, le-ltb (length s) 16 h₅, lt-ltb agreed (length s) h)
-
-            module _ (h₆ : length s ≤ agreed) {k : ℕ} (e : k ≡ typeOf s) where
-              pub other-type : (k ≡ 2 → ⊥) → Unfit OtherType ≡ looked
-              other-type ne = rw (set, le-ltb (length s) 16 h₅, le-ltb agreed (length s) h₆, ne-eqb (typeOf s) 2 (λ z. ne (e ∙ z)))
-
-              pub is-command : k ≡ 2 → shapedBy (firstOf (commandChecks formats s)) (commandOf s) ≡ looked
-              is-command z = rw (set, le-ltb (length s) 16 h₅, le-ltb agreed (length s) h₆, eq-eqb (typeOf s) 2 (sym e ∙ z))
+      pub is-command : k ≡ 2 → shapedBy (firstOf (commandChecks formats s)) (commandOf s) ≡ looked
+      is-command z = rw (set, le-ltb (length s) 16 (h .0), le-ltb agreed (length s) (h .1), eq-eqb (typeOf s) 2 (sym e ∙ z))
 
 -- ── what was read, or refused, tells which check hit
 

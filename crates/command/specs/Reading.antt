@@ -1,14 +1,15 @@
 -- What the readers of a command answer, and what is then known.
 use mathlib.Core.Path.{_≡_}
-use mathlib.Core.Bool.{cond}
+use mathlib.Core.Bool.{cond, _||_}
 use mathlib.Core.List.{List}
 use mathlib.Core.Option.{Option, none, some}
 use Prim.Native.Nat.{ℕ, _+_, _*_, _≤_, _<_, _%_, _^_}
+use lib.Dec.{ltb, eqb}
 use lib.ListN.{length}
-use Rattle.srp.specs.Limits.{longestTable, mostCopies}
+use Rattle.srp.specs.Limits.{bothFormats, longestTable, mostCopies}
 use Rattle.srp.specs.Messages.{cmd}
-use Rattle.srp.specs.Descriptors.{descriptorSize, agrees, segmentBytes, segments, sumOf, goodFields}
-use Rattle.srp.specs.Requests.{commandOf, unlessBad}
+use Rattle.srp.specs.Descriptors.{descriptorSize, agrees, badCount, segmentBytes, segments, sumOf, goodFields}
+use Rattle.srp.specs.Requests.{commandOf, unlessBad, otherFormats, badLength}
 use Rattle.srp.specs.declared.Refusal.{Refusal}
 use Rattle.srp.specs.declared.Command.{Command}
 use Rattle.srp.specs.declared.Descriptor.{Descriptor}
@@ -16,16 +17,48 @@ use Rattle.srp.specs.declared.Message.{Message}
 use Rattle.srp.specs.declared.Message.the-variants.{Bad, Cmd, TskMgmt, CredRsp, ILogout}
 use Rattle.cut.specs.declared.Total.{Total}
 use Rattle.cut.specs.declared.Total.the-variants.{Sum, Wrong}
+use Rattle.command.specs.declared.checks.Setting.{Setting}
+use Rattle.command.specs.declared.checks.Setting.the-variants.{InRange, OutOfRange}
+use Rattle.command.specs.declared.checks.Length.{Length}
+use Rattle.command.specs.declared.checks.Length.the-variants.{Allowed, NotAllowed}
+use Rattle.command.specs.declared.checks.MessageType.{MessageType}
+use Rattle.command.specs.declared.checks.MessageType.the-variants.{SrpCmd, Other}
+use Rattle.command.specs.declared.descriptors.Count.{Count}
+use Rattle.command.specs.declared.descriptors.Count.the-variants.{Within, Above}
 use Rattle.command.specs.declared.descriptors.Format.{Format}
 use Rattle.command.specs.declared.descriptors.Format.the-variants.{Agreed, NotAgreed}
 use Rattle.command.specs.declared.shape.Shape.{Shape}
 use Rattle.command.specs.declared.shape.Shaped.{Shaped}
 use Rattle.command.specs.declared.shape.Shaped.the-variants.{Fit, Unfit}
 
--- ── a descriptor
+-- ── what a field answers
+
+-- "a length outside 64 to 1,364 or a format bit other than 1 and 2"
+abbrev pub settingOf : ℕ → ℕ → Setting
+settingOf agreed formats = cond (badLength agreed || otherFormats bothFormats formats) OutOfRange InRange
+
+-- n bytes, which are to be `least` at least
+abbrev pub lengthFrom : ℕ → ℕ → Length
+lengthFrom least n = cond (ltb n least) NotAllowed Allowed
+
+-- and `most` at most
+abbrev pub lengthIn : ℕ → ℕ → ℕ → Length
+lengthIn least most n = cond (ltb n least || ltb most n) NotAllowed Allowed
+
+-- n bytes, which are to be so many
+abbrev pub lengthIs : ℕ → ℕ → Length
+lengthIs exact n = cond (eqb n exact) Allowed NotAllowed
+
+abbrev pub messageType : ℕ → MessageType
+messageType code = cond (eqb code (cmd .code)) SrpCmd Other
 
 abbrev pub agreedOf : ℕ → ℕ → Format
 agreedOf formats format = cond (agrees formats format) (Agreed format) NotAgreed
+
+abbrev pub countOf : Descriptor → Count
+countOf d = cond (badCount d) Above Within
+
+-- ── a descriptor
 
 -- format 2: "table descriptor, total length (4 bytes), then count c copies"
 abbrev pub Indirect : Descriptor → Type 0

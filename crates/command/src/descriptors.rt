@@ -14,13 +14,19 @@ use wire::layout::TOTAL_LENGTH;
 ghost use mathlib.Core.Path.{_≡_};
 ghost use Prim.Native.Nat.{_+_, _≤_};
 ghost use lib.ListN.{length};
-ghost use Rattle.srp.specs.Descriptors.{descriptorSize, descriptorOf, badCount, goodTable, fetched, fetchOf, segmentBytes};
-ghost use Rattle.command.specs.Reading.{agreedOf, withTotal, LiesIn};
+ghost use Rattle.srp.specs.Descriptors.{descriptorSize, descriptorOf, goodTable, fetched, fetchOf, segmentBytes};
+ghost use Rattle.command.specs.Reading.{agreedOf, countOf, withTotal, LiesIn};
 
 // A format, where it is agreed.
 pub enum Format {
     Agreed(u8),
     NotAgreed,
+}
+
+// A count of copies: at most 32, and no more than the table has.
+pub enum Count {
+    Within,
+    Above,
 }
 
 // Whether a format is among the agreed ones.
@@ -101,19 +107,22 @@ pub fn with_total(d: Descriptor, total: u32) -> Descriptor
 }
 
 // Refusals 7 and 8.
-pub fn bad_count(d: Descriptor) -> bool
-    ensures { λ r. ⌜ r ≡ badCount d ⌝ }
+pub fn count_of(d: Descriptor) -> Count
+    ensures { λ r. ⌜ r ≡ countOf d ⌝ }
 {
     let format = d.format;
     let count = d.count;
     let len = d.len;
     if format != INDIRECT {
-        return false;
+        return Count::Within;
     }
     if MOST_COPIES < count {
-        return true;
+        return Count::Above;
     }
-    (len as usize) < SEGMENT * (count as usize)
+    if (len as usize) < SEGMENT * (count as usize) {
+        return Count::Above;
+    }
+    Count::Within
 }
 
 // A multiple of 16 from 16 to 512.

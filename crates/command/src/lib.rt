@@ -1,8 +1,14 @@
 // Look: how an SRP_CMD is read without state; its CDB and its segments as parts of what the caller lent; bad fields.
+mod checks;
 mod descriptors;
 mod shape;
 mod total;
 
+pub use checks::Length;
+pub use checks::MessageType;
+pub use checks::length_in;
+pub use checks::length_is;
+pub use checks::type_of;
 pub use descriptors::fetched_length;
 pub use descriptors::segment_list;
 use shape::Shape;

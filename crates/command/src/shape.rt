@@ -1,16 +1,17 @@
 // The shape of an SRP_CMD: what every check before refusal 10 reads of it, and all that look needs.
+use crate::checks;
+use crate::checks::Length;
+use crate::checks::MessageType;
+use crate::checks::Setting;
 use crate::descriptors;
+use crate::descriptors::Count;
 use crate::descriptors::Format;
 use srp::Descriptor;
 use srp::Refusal;
-use srp::limits::BOTH_FORMATS;
-use srp::limits::LONGEST_AGREED;
-use srp::limits::SHORTEST_AGREED;
 use srp::limits::SHORTEST_COMMAND;
 use srp::limits::SHORTEST_MESSAGE;
 use wire::layout::ADDITIONAL;
 use wire::layout::CDB;
-use wire::layout::COMMAND;
 use wire::layout::FORMATS;
 use wire::layout::IN_COUNT;
 use wire::layout::OUT_COUNT;
@@ -36,9 +37,9 @@ pub enum Shaped {
 pub fn read_shape(msg: &[u8], formats: u32) -> Shaped
     ensures { λ r. ⌜ ShapeRead (firstOf (commandChecks formats (now (msg .entry)))) (now (msg .entry)) r ⌝ }
 {
-    if msg.len() < SHORTEST_COMMAND {
+    let Length::Allowed = checks::length_from(msg.len(), SHORTEST_COMMAND) else {
         return Shaped::Unfit(Refusal::Length);
-    }
+    };
     let Format::Agreed(out_format) = descriptors::format_of(
         formats,
         wire::read_bits(msg, FORMATS, 4, 4),
@@ -56,17 +57,18 @@ pub fn read_shape(msg: &[u8], formats: u32) -> Shaped
     let cdb = SHORTEST_CDB + 4 * (wire::read_bits(msg, ADDITIONAL, 2, 6) as usize);
     let out_at = CDB + cdb;
     let in_at = out_at + descriptors::size(out_format, out_count);
-    if msg.len() != in_at + descriptors::size(in_format, in_count) {
+    let end = in_at + descriptors::size(in_format, in_count);
+    let Length::Allowed = checks::length_is(msg.len(), end) else {
         return Shaped::Unfit(Refusal::Length);
-    }
+    };
     let out = descriptors::descriptor(msg, out_format, out_count, out_at);
-    if descriptors::bad_count(out) {
+    let Count::Within = descriptors::count_of(out) else {
         return Shaped::Unfit(Refusal::OutCount);
-    }
+    };
     let inn = descriptors::descriptor(msg, in_format, in_count, in_at);
-    if descriptors::bad_count(inn) {
+    let Count::Within = descriptors::count_of(inn) else {
         return Shaped::Unfit(Refusal::InCount);
-    }
+    };
     Shaped::Fit(Shape {
         cdb: cdb,
         out: out,
@@ -78,26 +80,14 @@ pub fn read_shape(msg: &[u8], formats: u32) -> Shaped
 pub fn look_shape(msg: &[u8], agreed: u32, formats: u32) -> Shaped
     ensures { λ r. ⌜ ShapeRead (firstOf (lookChecks agreed formats (now (msg .entry)))) (now (msg .entry)) r ⌝ }
 {
-    if agreed < SHORTEST_AGREED {
+    let Setting::InRange = checks::setting_of(agreed, formats) else {
         return Shaped::Unfit(Refusal::Setting);
-    }
-    if LONGEST_AGREED < agreed {
-        return Shaped::Unfit(Refusal::Setting);
-    }
-    if formats % 2 == 1 {
-        return Shaped::Unfit(Refusal::Setting);
-    }
-    if BOTH_FORMATS + 1 < formats {
-        return Shaped::Unfit(Refusal::Setting);
-    }
-    if msg.len() < SHORTEST_MESSAGE {
+    };
+    let Length::Allowed = checks::length_in(msg.len(), SHORTEST_MESSAGE, agreed as usize) else {
         return Shaped::Unfit(Refusal::Length);
-    }
-    if (agreed as usize) < msg.len() {
-        return Shaped::Unfit(Refusal::Length);
-    }
-    if wire::read8(msg, 0) != COMMAND {
+    };
+    let MessageType::SrpCmd = checks::type_of(wire::read8(msg, 0)) else {
         return Shaped::Unfit(Refusal::OtherType);
-    }
+    };
     read_shape(msg, formats)
 }

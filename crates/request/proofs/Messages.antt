@@ -1,9 +1,12 @@
 -- What a message is read as, under each check in turn, and that a refused one hangs up.
 -- Assumes nothing.
 use mathlib.Core.Path.{_≡_, sym, ap, subst, _∙_}
+use mathlib.Core.Bool.{Bool, true, false, _||_}
 use mathlib.Core.List.{List}
-use Prim.Native.Nat.{ℕ, _≤_, _<_}
-use borrow.Author.Tests.{eq-eqb, ne-eqb, lt-ltb, le-ltb}
+use Prim.Native.Nat.{ℕ, _≤_}
+use native.Mathlib.Omega.{arith}
+use borrow.Author.Tests.{eq-eqb, ne-eqb, le-ltb}
+use lib.Dec.{ltb, eqb}
 use lib.ListN.{length}
 use Rattle.srp.specs.Bytes.{get, typeOf}
 use Rattle.srp.specs.Messages.{tag, taskFunction, taskTag}
@@ -17,7 +20,10 @@ use Rattle.srp.specs.declared.Message.{Message}
 use Rattle.srp.specs.declared.Message.the-variants.{Bad, Cmd, TskMgmt, CredRsp, ILogout}
 use Rattle.srp.proofs.Reading.{Wrong, ByType, read-by-type}
 use Rattle.command.specs.Reading.{Fits}
-use Rattle.request.specs.Reading.{FitsMessage}
+use Rattle.command.proofs.Told.{was-true, was-false, neither}
+use Rattle.request.specs.Reading.{kindOf, FitsMessage}
+use Rattle.request.specs.declared.Kind.{Kind}
+use Rattle.request.specs.declared.Kind.the-variants.{Taken, NotTaken}
 
 -- ── a task request, from the fields that the code reads
 
@@ -30,7 +36,26 @@ task-is s eq ef em = rw (eq, ef, em)
 
 -- ── a message of type k that is no command: an SRP_TSK_MGMT, an SRP_I_LOGOUT, an SRP_CRED_RSP, each of its length, or one of no such type
 
-module _ (s : List ℕ) {k : ℕ} where
+two-kinds : Taken ≡ NotTaken → ⊥
+two-kinds e = let z : _≡_ {A = ℕ} 0 1 = cc in omega arith
+
+-- of three tests, none or the last hit
+none-hit : (a b c : Bool) → (a || (b || c)) ≡ false → (a ≡ false) × (b ≡ false) × (c ≡ false)
+none-hit a b c e =
+    let p = neither a (b || c) e in
+    let q = neither b c (p .1) in
+    (p .0, q .0, q .1)
+
+last-hit : (a b c : Bool) → (a || (b || c)) ≡ true → a ≡ false → b ≡ false → c ≡ true
+last-hit a b c e p q = rw (p, q) at e
+
+module _ (s : List ℕ) (k : ℕ) where
+  abbrev taken : Bool
+  taken = eqb k 1 || (eqb k 3 || eqb k 0x41)
+
+  pub no-type : {r : Kind} → r ≡ kindOf k → r ≡ NotTaken → (f : ℕ) → (k ≡ 2 → ⊥) → Bad OtherType ≡ byType k f s
+  no-type is t f c = let n = none-hit (eqb k 1) (eqb k 3) (eqb k 0x41) (was-false two-kinds taken is t) in rw (ne-eqb k 2 c, n .0, n .1, n .2)
+
   module _ (e : k ≡ 1) where
     pub task-length : (length s ≡ 48 → ⊥) → (f : ℕ) → (k ≡ 2 → ⊥) → Bad Length ≡ byType k f s
     task-length h f c = rw (ne-eqb k 2 c, eq-eqb k 1 e, ne-eqb (length s) 48 h)
@@ -46,16 +71,15 @@ module _ (s : List ℕ) {k : ℕ} where
       pub logout-read : length s ≡ 16 → (f : ℕ) → (k ≡ 2 → ⊥) → ILogout ≡ byType k f s
       logout-read h f c = rw (ne-eqb k 2 c, ne-eqb k 1 n₁, eq-eqb k 3 e, eq-eqb (length s) 16 h)
 
-    module _ (n₃ : k ≡ 3 → ⊥) where
-      pub no-type : (k ≡ 0x41 → ⊥) → (f : ℕ) → (k ≡ 2 → ⊥) → Bad OtherType ≡ byType k f s
-      no-type n f c = rw (ne-eqb k 2 c, ne-eqb k 1 n₁, ne-eqb k 3 n₃, ne-eqb k 0x41 n)
+    module _ (n₃ : k ≡ 3 → ⊥) {r : Kind} (is : r ≡ kindOf k) (t : r ≡ Taken) where
+      credit : eqb k 0x41 ≡ true
+      credit = last-hit (eqb k 1) (eqb k 3) (eqb k 0x41) (was-true two-kinds taken is t) (ne-eqb k 1 n₁) (ne-eqb k 3 n₃)
 
-      module _ (e : k ≡ 0x41) where
-        pub credit-length : (length s ≡ 16 → ⊥) → (f : ℕ) → (k ≡ 2 → ⊥) → Bad Length ≡ byType k f s
-        credit-length h f c = rw (ne-eqb k 2 c, ne-eqb k 1 n₁, ne-eqb k 3 n₃, eq-eqb k 0x41 e, ne-eqb (length s) 16 h)
+      pub credit-length : (length s ≡ 16 → ⊥) → (f : ℕ) → (k ≡ 2 → ⊥) → Bad Length ≡ byType k f s
+      credit-length h f c = rw (ne-eqb k 2 c, ne-eqb k 1 n₁, ne-eqb k 3 n₃, credit, ne-eqb (length s) 16 h)
 
-        pub credit-read : length s ≡ 16 → {t : ℕ} → t ≡ get tag s → (f : ℕ) → (k ≡ 2 → ⊥) → CredRsp t ≡ byType k f s
-        credit-read h et f c = ap CredRsp et ∙ rw (ne-eqb k 2 c, ne-eqb k 1 n₁, ne-eqb k 3 n₃, eq-eqb k 0x41 e, eq-eqb (length s) 16 h)
+      pub credit-read : length s ≡ 16 → {v : ℕ} → v ≡ get tag s → (f : ℕ) → (k ≡ 2 → ⊥) → CredRsp v ≡ byType k f s
+      credit-read h et f c = ap CredRsp et ∙ rw (ne-eqb k 2 c, ne-eqb k 1 n₁, ne-eqb k 3 n₃, credit, eq-eqb (length s) 16 h)
 
 -- ── any message
 
@@ -74,23 +98,17 @@ module _ (agreed formats : ℕ) (s : List ℕ) where
   fits-message (CredRsp g) e h = tt
   fits-message ILogout e h = tt
 
-  -- below 16 bytes
-  pub short : length s < 16 → Bad Length ≡ readMessage agreed formats s
+  -- below 16 bytes, or above the agreed length
+  pub bad-length : (b : Bool) → ltb (length s) 16 ≡ b → (b || ltb agreed (length s)) ≡ true → Bad Length ≡ readMessage agreed formats s
   unfolding readMessage
-  short h = rw (lt-ltb (length s) 16 h)
+  bad-length true p e = rw p
+  bad-length false p e = rw (p, e)
 
-  module _ (h₁ : 16 ≤ length s) where
-    -- above the agreed length
-    pub long : agreed < length s → Bad Length ≡ readMessage agreed formats s
+  module _ (h : (16 ≤ length s) × (length s ≤ agreed)) {k : ℕ} (e : k ≡ typeOf s) where
+    -- else by its type
+    pub by-type : byType k formats s ≡ readMessage agreed formats s
     unfolding readMessage
-    long h = rw (le-ltb (length s) 16 h₁, lt-ltb agreed (length s) h)
+    by-type = rw (le-ltb (length s) 16 (h .0), le-ltb agreed (length s) (h .1), e)
 
-    module _ (h₂ : length s ≤ agreed) {k : ℕ} (e : k ≡ typeOf s) where
-      -- else by its type
-      pub by-type : byType k formats s ≡ readMessage agreed formats s
-      unfolding readMessage
-      by-type = rw (le-ltb (length s) 16 h₁, le-ltb agreed (length s) h₂, e)
-
-      module _ (e₂ : k ≡ 2) where
-        pub command : unlessBad (firstOf (commandChecks formats s)) (Cmd (commandOf s)) ≡ readMessage agreed formats s
-        command = rw (eq-eqb k 2 e₂) at by-type
+    pub command : k ≡ 2 → unlessBad (firstOf (commandChecks formats s)) (Cmd (commandOf s)) ≡ readMessage agreed formats s
+    command e₂ = rw (eq-eqb k 2 e₂) at by-type

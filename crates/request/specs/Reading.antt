@@ -1,13 +1,21 @@
 -- What is known of a message that was read.
 use mathlib.Core.Path.{_≡_}
+use mathlib.Core.Bool.{cond, _||_}
 use mathlib.Core.List.{List}
 use Prim.Native.Nat.{ℕ}
+use lib.Dec.{eqb}
 use Rattle.srp.specs.Refusals.{hangsUp, conductOf, reasonIn}
-use Rattle.srp.specs.Messages.{cmd}
+use Rattle.srp.specs.Messages.{tskMgmt, cmd, iLogout, credRsp}
 use Rattle.srp.specs.Requests.{byType}
 use Rattle.srp.specs.declared.Message.{Message}
 use Rattle.srp.specs.declared.Message.the-variants.{Bad, Cmd, TskMgmt, CredRsp, ILogout}
 use Rattle.command.specs.Reading.{FitsIn}
+use Rattle.request.specs.declared.Kind.{Kind}
+use Rattle.request.specs.declared.Kind.the-variants.{Taken, NotTaken}
+
+-- an SRP_TSK_MGMT's, an SRP_I_LOGOUT's or an SRP_CRED_RSP's type, or another
+abbrev pub kindOf : ℕ → Kind
+kindOf k = cond (eqb k (tskMgmt .code) || (eqb k (iLogout .code) || eqb k (credRsp .code))) Taken NotTaken
 
 -- a command lies inside its message; a bad message draws a refusal that hangs up
 abbrev pub FitsMessage : List ℕ → Message → Type 0

@@ -1,9 +1,10 @@
 // A message to the port, read whole: a command, a task request, a credit response, the initiator's logout, or the refusal of 3 to 8 that it draws.
+use command::Length;
+use command::MessageType;
 use srp::Message;
 use srp::Refusal;
 use srp::TaskRequest;
 use srp::limits::SHORTEST_MESSAGE;
-use wire::layout::COMMAND;
 use wire::layout::CRED_RSP;
 use wire::layout::I_LOGOUT;
 use wire::layout::SHORT_SIZE;
@@ -18,7 +19,29 @@ ghost use Prim.Native.Nat.{_≤_};
 ghost use Rattle.srp.specs.Limits.{shortestMessage};
 ghost use Rattle.srp.specs.Messages.{tskMgmt};
 ghost use Rattle.srp.specs.Requests.{taskOf, readMessage};
-ghost use Rattle.request.specs.Reading.{FitsMessage, OtherRead};
+ghost use Rattle.request.specs.Reading.{kindOf, FitsMessage, OtherRead};
+
+// A type other than an SRP_CMD's.
+enum Kind {
+    Taken,
+    NotTaken,
+}
+
+// Refusal 4 of a message that is no command.
+fn kind_of(kind: u8) -> Kind
+    ensures { λ r. ⌜ r ≡ kindOf kind ⌝ }
+{
+    if kind == TSK_MGMT {
+        return Kind::Taken;
+    }
+    if kind == I_LOGOUT {
+        return Kind::Taken;
+    }
+    if kind == CRED_RSP {
+        return Kind::Taken;
+    }
+    Kind::NotTaken
+}
 
 fn read_task(msg: &[u8]) -> TaskRequest
     requires { ⌜ length (now msg) ≡ tskMgmt .size ⌝ }
@@ -36,24 +59,24 @@ fn read_other(msg: &[u8], kind: u8) -> Message
     requires { ⌜ shortestMessage ≤ length (now msg) ⌝ }
     ensures { λ r. ⌜ OtherRead kind (now (msg .entry)) r ⌝ }
 {
+    let Kind::Taken = kind_of(kind) else {
+        return Message::Bad(Refusal::OtherType);
+    };
     if kind == TSK_MGMT {
-        if msg.len() != TSK_MGMT_SIZE {
+        let Length::Allowed = command::length_is(msg.len(), TSK_MGMT_SIZE) else {
             return Message::Bad(Refusal::Length);
-        }
+        };
         return Message::TskMgmt(read_task(msg));
     }
     if kind == I_LOGOUT {
-        if msg.len() != SHORT_SIZE {
+        let Length::Allowed = command::length_is(msg.len(), SHORT_SIZE) else {
             return Message::Bad(Refusal::Length);
-        }
+        };
         return Message::ILogout;
     }
-    if kind != CRED_RSP {
-        return Message::Bad(Refusal::OtherType);
-    }
-    if msg.len() != SHORT_SIZE {
+    let Length::Allowed = command::length_is(msg.len(), SHORT_SIZE) else {
         return Message::Bad(Refusal::Length);
-    }
+    };
     Message::CredRsp(wire::read64(msg, TAG))
 }
 
@@ -61,15 +84,12 @@ fn read_other(msg: &[u8], kind: u8) -> Message
 pub fn read_message(msg: &[u8], agreed: u32, formats: u32) -> Message
     ensures { λ r. ⌜ (r ≡ readMessage agreed formats (now (msg .entry))) × FitsMessage (now (msg .entry)) r ⌝ }
 {
-    if msg.len() < SHORTEST_MESSAGE {
+    let Length::Allowed = command::length_in(msg.len(), SHORTEST_MESSAGE, agreed as usize) else {
         return Message::Bad(Refusal::Length);
-    }
-    if (agreed as usize) < msg.len() {
-        return Message::Bad(Refusal::Length);
-    }
+    };
     let kind = wire::read8(msg, 0);
-    if kind != COMMAND {
+    let MessageType::SrpCmd = command::type_of(kind) else {
         return read_other(msg, kind);
-    }
+    };
     command::read_command(msg, formats)
 }
