@@ -1,5 +1,6 @@
 // What the owner reads of a port: its counters and its open commands. A listing is made by value, and what is to be written to a lent list of records
-// decided by value; list_into only copies it. No `&mut [Record]` is covered by the borrow checker: the proof of list_into is a walk of its code by hand.
+// decided by value; list_into only copies it. No `&mut [Record]` is covered by the borrow checker: the proofs of list_into and of lend, which makes one, are
+// walks of their code by hand.
 use srp::Counters;
 use srp::Record;
 use srp::Refusal;
@@ -19,6 +20,12 @@ ghost use Rattle.report.specs.Reports.{slotRecord, noRecord, CountFor, T
 pub struct Listing {
     pub reply: Reply,
     pub count: usize,
+    pub records: [Record; SLOTS],
+}
+
+// A lent list as it comes back, and the listing's reply.
+pub struct Lent {
+    pub reply: Reply,
     pub records: [Record; SLOTS],
 }
 
@@ -162,4 +169,15 @@ pub fn list_into(s: &[u64; PORT], records: &mut [Record]) -> Reply
         i += 1;
     }
     listing.reply
+}
+
+// The open commands, listed into a list that the caller has by value, which is lent to list_into and handed back: its callers are covered.
+pub fn lend(s: &[u64; PORT], mut records: [Record; SLOTS]) -> Lent
+    ensures { λ r. ⌜ WritesListing (now (s .entry)) records (r .records) (r .reply) ⌝ }
+{
+    let said = list_into(s, &mut records);
+    Lent {
+        reply: said,
+        records: records,
+    }
 }
