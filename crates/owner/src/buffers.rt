@@ -12,6 +12,9 @@ use words::PORT;
 // as many commands as can be open
 const RECORDS: usize = limits::MOST_BUFFERS as usize;
 
+// every number in the owner's list of records before a listing; no command of the programs has such a record
+const MARK: u32 = 0xffffffff;
+
 pub fn add(port: &mut [u64; PORT], k: u32) {
     show::number(b"   add ", k as u64);
     show::end();
@@ -58,13 +61,46 @@ fn show_records(records: [Record; RECORDS], n: usize) {
     }
 }
 
-// The open commands.
+fn marked() -> Record {
+    Record {
+        tag: MARK as u64,
+        lun: MARK as u64,
+        out: MARK,
+        inn: MARK,
+    }
+}
+
+fn is_marked(r: Record) -> bool {
+    r.tag == MARK as u64 && r.lun == MARK as u64 && r.out == MARK && r.inn == MARK
+}
+
+// How many records behind the first n are as they were, up to one that is not.
+fn untouched(records: [Record; RECORDS], n: usize) -> usize {
+    let mut i = n;
+    while i < RECORDS {
+        if !is_marked(records[i]) {
+            return i - n;
+        }
+        i += 1;
+    }
+    i - n
+}
+
+// The open commands of a listing, and what it left of the list.
+fn show_listed(records: [Record; RECORDS], n: usize) {
+    show_records(records, n);
+    show::number(b"   the rest of the list: ", untouched(records, n) as u64);
+    show::text(b" records untouched\n");
+}
+
+// The open commands, listed into a list of the owner's.
 pub fn show_list(port: &[u64; PORT]) {
-    let listing = report::list(port);
-    let reply = listing.reply;
-    let records = listing.records;
+    let blank = marked();
+    let list = report::lend(port, [blank; RECORDS]);
+    let reply = list.reply;
+    let records = list.records;
     match reply {
-        Reply::Listed(n) => show_records(records, n),
+        Reply::Listed(n) => show_listed(records, n),
         r => show::refusal(b"   ", r),
     }
 }
