@@ -10,7 +10,7 @@ use Rattle.srp.specs.Limits.{bothFormats}
 use Rattle.srp.specs.Descriptors.{badCount}
 use Rattle.srp.specs.Requests.{otherFormats, badLength}
 use Rattle.srp.specs.declared.Descriptor.{Descriptor}
-use Rattle.command.specs.Reading.{settingOf, lengthFrom, lengthIn, lengthIs, messageType, countOf}
+use Rattle.command.specs.Reading.{settingOf, lengthFrom, lengthIn, lengthIs, messageType, countFits}
 use Rattle.command.specs.declared.checks.Setting.{Setting}
 use Rattle.command.specs.declared.checks.Setting.the-variants.{InRange, OutOfRange}
 use Rattle.command.specs.declared.checks.Length.{Length}
@@ -93,7 +93,7 @@ module _ (code : ℕ) {r : MessageType} (e : r ≡ messageType code) where
 two-counts : Above ≡ Within → ⊥
 two-counts e = let z : _≡_ {A = ℕ} 0 1 = cc in omega arith
 
-module _ (d : Descriptor) {r : Count} (e : r ≡ countOf d) where
+module _ (d : Descriptor) {r : Count} (e : r ≡ countFits d) where
   pub above : r ≡ Above → badCount d ≡ true
   above q = was-true two-counts (badCount d) e q
 

@@ -55,8 +55,8 @@ messageType code = cond (eqb code (cmd .code)) SrpCmd Other
 abbrev pub agreedOf : ℕ → ℕ → Format
 agreedOf formats format = cond (agrees formats format) (Agreed format) NotAgreed
 
-abbrev pub countOf : Descriptor → Count
-countOf d = cond (badCount d) Above Within
+abbrev pub countFits : Descriptor → Count
+countFits d = cond (badCount d) Above Within
 
 -- ── a descriptor
 

@@ -15,7 +15,7 @@ ghost use mathlib.Core.Path.{_≡_};
 ghost use Prim.Native.Nat.{_+_, _≤_};
 ghost use lib.ListN.{length};
 ghost use Rattle.srp.specs.Descriptors.{descriptorSize, descriptorOf, goodTable, fetched, fetchOf, segmentBytes};
-ghost use Rattle.command.specs.Reading.{agreedOf, countOf, withTotal, LiesIn};
+ghost use Rattle.command.specs.Reading.{agreedOf, countFits, withTotal, LiesIn};
 
 // A format, where it is agreed.
 pub enum Format {
@@ -108,7 +108,7 @@ pub fn with_total(d: Descriptor, total: u32) -> Descriptor
 
 // Refusals 7 and 8.
 pub fn count_of(d: Descriptor) -> Count
-    ensures { λ r. ⌜ r ≡ countOf d ⌝ }
+    ensures { λ r. ⌜ r ≡ countFits d ⌝ }
 {
     let format = d.format;
     let count = d.count;

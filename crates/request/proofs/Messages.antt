@@ -21,9 +21,9 @@ use Rattle.srp.specs.declared.Message.the-variants.{Bad, Cmd, TskMgmt, CredRsp,
 use Rattle.srp.proofs.Reading.{Wrong, ByType, read-by-type}
 use Rattle.command.specs.Reading.{Fits}
 use Rattle.command.proofs.Told.{was-true, was-false, neither}
-use Rattle.request.specs.Reading.{kindOf, FitsMessage}
-use Rattle.request.specs.declared.Kind.{Kind}
-use Rattle.request.specs.declared.Kind.the-variants.{Taken, NotTaken}
+use Rattle.request.specs.Reading.{knownType, FitsMessage}
+use Rattle.request.specs.declared.KnownType.{KnownType}
+use Rattle.request.specs.declared.KnownType.the-variants.{Known, Unknown}
 
 -- ── a task request, from the fields that the code reads
 
@@ -36,8 +36,8 @@ task-is s eq ef em = rw (eq, ef, em)
 
 -- ── a message of type k that is no command: an SRP_TSK_MGMT, an SRP_I_LOGOUT, an SRP_CRED_RSP, each of its length, or one of no such type
 
-two-kinds : Taken ≡ NotTaken → ⊥
-two-kinds e = let z : _≡_ {A = ℕ} 0 1 = cc in omega arith
+two-types : Known ≡ Unknown → ⊥
+two-types e = let z : _≡_ {A = ℕ} 0 1 = cc in omega arith
 
 -- of three tests, none or the last hit
 none-hit : (a b c : Bool) → (a || (b || c)) ≡ false → (a ≡ false) × (b ≡ false) × (c ≡ false)
@@ -53,8 +53,8 @@ module _ (s : List ℕ) (k : ℕ) where
   abbrev taken : Bool
   taken = eqb k 1 || (eqb k 3 || eqb k 0x41)
 
-  pub no-type : {r : Kind} → r ≡ kindOf k → r ≡ NotTaken → (f : ℕ) → (k ≡ 2 → ⊥) → Bad OtherType ≡ byType k f s
-  no-type is t f c = let n = none-hit (eqb k 1) (eqb k 3) (eqb k 0x41) (was-false two-kinds taken is t) in rw (ne-eqb k 2 c, n .0, n .1, n .2)
+  pub no-type : {r : KnownType} → r ≡ knownType k → r ≡ Unknown → (f : ℕ) → (k ≡ 2 → ⊥) → Bad OtherType ≡ byType k f s
+  no-type is t f c = let n = none-hit (eqb k 1) (eqb k 3) (eqb k 0x41) (was-false two-types taken is t) in rw (ne-eqb k 2 c, n .0, n .1, n .2)
 
   module _ (e : k ≡ 1) where
     pub task-length : (length s ≡ 48 → ⊥) → (f : ℕ) → (k ≡ 2 → ⊥) → Bad Length ≡ byType k f s
@@ -71,9 +71,9 @@ module _ (s : List ℕ) (k : ℕ) where
       pub logout-read : length s ≡ 16 → (f : ℕ) → (k ≡ 2 → ⊥) → ILogout ≡ byType k f s
       logout-read h f c = rw (ne-eqb k 2 c, ne-eqb k 1 n₁, eq-eqb k 3 e, eq-eqb (length s) 16 h)
 
-    module _ (n₃ : k ≡ 3 → ⊥) {r : Kind} (is : r ≡ kindOf k) (t : r ≡ Taken) where
+    module _ (n₃ : k ≡ 3 → ⊥) {r : KnownType} (is : r ≡ knownType k) (t : r ≡ Known) where
       credit : eqb k 0x41 ≡ true
-      credit = last-hit (eqb k 1) (eqb k 3) (eqb k 0x41) (was-true two-kinds taken is t) (ne-eqb k 1 n₁) (ne-eqb k 3 n₃)
+      credit = last-hit (eqb k 1) (eqb k 3) (eqb k 0x41) (was-true two-types taken is t) (ne-eqb k 1 n₁) (ne-eqb k 3 n₃)
 
       pub credit-length : (length s ≡ 16 → ⊥) → (f : ℕ) → (k ≡ 2 → ⊥) → Bad Length ≡ byType k f s
       credit-length h f c = rw (ne-eqb k 2 c, ne-eqb k 1 n₁, ne-eqb k 3 n₃, credit, ne-eqb (length s) 16 h)

@@ -10,12 +10,12 @@ use Rattle.srp.specs.Requests.{byType}
 use Rattle.srp.specs.declared.Message.{Message}
 use Rattle.srp.specs.declared.Message.the-variants.{Bad, Cmd, TskMgmt, CredRsp, ILogout}
 use Rattle.command.specs.Reading.{FitsIn}
-use Rattle.request.specs.declared.Kind.{Kind}
-use Rattle.request.specs.declared.Kind.the-variants.{Taken, NotTaken}
+use Rattle.request.specs.declared.KnownType.{KnownType}
+use Rattle.request.specs.declared.KnownType.the-variants.{Known, Unknown}
 
 -- an SRP_TSK_MGMT's, an SRP_I_LOGOUT's or an SRP_CRED_RSP's type, or another
-abbrev pub kindOf : ℕ → Kind
-kindOf k = cond (eqb k (tskMgmt .code) || (eqb k (iLogout .code) || eqb k (credRsp .code))) Taken NotTaken
+abbrev pub knownType : ℕ → KnownType
+knownType k = cond (eqb k (tskMgmt .code) || (eqb k (iLogout .code) || eqb k (credRsp .code))) Known Unknown
 
 -- a command lies inside its message; a bad message draws a refusal that hangs up
 abbrev pub FitsMessage : List ℕ → Message → Type 0

@@ -19,28 +19,28 @@ ghost use Prim.Native.Nat.{_≤_};
 ghost use Rattle.srp.specs.Limits.{shortestMessage};
 ghost use Rattle.srp.specs.Messages.{tskMgmt};
 ghost use Rattle.srp.specs.Requests.{taskOf, readMessage};
-ghost use Rattle.request.specs.Reading.{kindOf, FitsMessage, OtherRead};
+ghost use Rattle.request.specs.Reading.{knownType, FitsMessage, OtherRead};
 
 // A type other than an SRP_CMD's.
-enum Kind {
-    Taken,
-    NotTaken,
+enum KnownType {
+    Known,
+    Unknown,
 }
 
 // Refusal 4 of a message that is no command.
-fn kind_of(kind: u8) -> Kind
-    ensures { λ r. ⌜ r ≡ kindOf kind ⌝ }
+fn known_type(kind: u8) -> KnownType
+    ensures { λ r. ⌜ r ≡ knownType kind ⌝ }
 {
     if kind == TSK_MGMT {
-        return Kind::Taken;
+        return KnownType::Known;
     }
     if kind == I_LOGOUT {
-        return Kind::Taken;
+        return KnownType::Known;
     }
     if kind == CRED_RSP {
-        return Kind::Taken;
+        return KnownType::Known;
     }
-    Kind::NotTaken
+    KnownType::Unknown
 }
 
 fn read_task(msg: &[u8]) -> TaskRequest
@@ -59,7 +59,7 @@ fn read_other(msg: &[u8], kind: u8) -> Message
     requires { ⌜ shortestMessage ≤ length (now msg) ⌝ }
     ensures { λ r. ⌜ OtherRead kind (now (msg .entry)) r ⌝ }
 {
-    let Kind::Taken = kind_of(kind) else {
+    let KnownType::Known = known_type(kind) else {
         return Message::Bad(Refusal::OtherType);
     };
     if kind == TSK_MGMT {

@@ -14,7 +14,7 @@ use Rattle.srp.specs.Credit.{closedPort}
 use Rattle.srp.specs.Calls.{wrapped, countersOf}
 use Rattle.srp.specs.Answers.{returned, valuesOf}
 use Rattle.srp.specs.declared.Reply.{Reply}
-use Rattle.srp.specs.ReadBack.{whole}
+use Rattle.srp.specs.ReadBack.{allFields}
 use Rattle.srp.proofs.Layouts.{bitsOf}
 use Rattle.srp.specs.Rows.{found, expected, no-data, cmd-bytes}
 use Rattle.srp.specs.Table.{table, two-entries}
@@ -34,7 +34,7 @@ pub layouts-hold : writtenByLayout ≡ writtenByHand
 layouts-hold = refl
 
 -- the bits that each of the ten layouts names
-pub named-bits : map (λ (l : Layout). bitsOf (whole l)) layouts ≡ 380 ∷ 210 ∷ 176 ∷ 72 ∷ 72 ∷ 185 ∷ 120 ∷ 247 ∷ 105 ∷ 105 ∷ []
+pub named-bits : map (λ (l : Layout). bitsOf (allFields l)) layouts ≡ 380 ∷ 210 ∷ 176 ∷ 72 ∷ 72 ∷ 185 ∷ 120 ∷ 247 ∷ 105 ∷ 105 ∷ []
 named-bits = refl
 
 -- numbers stand with their highest byte first

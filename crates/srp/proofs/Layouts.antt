@@ -10,7 +10,7 @@ use borrow.Author.Tests.{ltb-true}
 use Rattle.srp.specs.Bytes.{Field, bytes, bits, get, part, put, gets, puts, zeros, Layout, write, bound, InRange, inside, apart, apartFrom, sound}
 use Rattle.srp.specs.Lists.{All}
 use Rattle.srp.specs.Messages.{layouts}
-use Rattle.srp.specs.ReadBack.{whole, Written}
+use Rattle.srp.specs.ReadBack.{allFields, Written}
 use Rattle.srp.proofs.FieldLaws.{both, length-put, get-put, get-put-apart, part-put-apart, apart-sym, get-append, zeros-read}
 
 -- fields apart from the one that is written are as they were
@@ -75,24 +75,24 @@ bitsOf (bits at low count ∷ fs) = count + bitsOf fs
 
 -- a layout is sound, and its code is a byte
 abbrev pub fine : Layout → Bool
-fine l = sound (l .size) (whole l) && ltb (l .code) 256
+fine l = sound (l .size) (allFields l) && ltb (l .code) 256
 
 -- a message written by a sound layout is read back
 pub written : (l : Layout) → fine l ≡ true → (vs : List ℕ) → InRange (l .fields) vs → Written l vs
 written l ok vs r =
-    let a = both (sound (l .size) (whole l)) (ltb (l .code) 256) ok in
+    let a = both (sound (l .size) (allFields l)) (ltb (l .code) 256) ok in
     let c : l .code < 256 = ltb-true (l .code) 256 (a .1) in
     let n : length (zeros (l .size)) ≡ l .size = length-replicate (l .size) 0 in
-    let b = read-back (l .size) (whole l) (l .code ∷ vs) (zeros (l .size)) n (a .0) (c, r) in
-    let m : (t : List ℕ) → gets (whole l) (write l vs ++ t) ≡ l .code ∷ vs =
-    λ t. gets-append (whole l) (write l vs) t (ap (λ (k : ℕ). sound k (whole l)) (b .1) ∙ a .0) ∙ b .0 in
+    let b = read-back (l .size) (allFields l) (l .code ∷ vs) (zeros (l .size)) n (a .0) (c, r) in
+    let m : (t : List ℕ) → gets (allFields l) (write l vs ++ t) ≡ l .code ∷ vs =
+    λ t. gets-append (allFields l) (write l vs) t (ap (λ (k : ℕ). sound k (allFields l)) (b .1) ∙ a .0) ∙ b .0 in
     record {
       long = b .1;
       code = head-eq-of-cons-eq (b .0);
       values = tail-eq-of-cons-eq (b .0);
       code-before = λ t. head-eq-of-cons-eq (m t);
       values-before = λ t. tail-eq-of-cons-eq (m t);
-      zero-elsewhere = λ g e. reserved (l .size) g (whole l) (l .code ∷ vs) (zeros (l .size)) n (a .0) (c, r) e ∙ zeros-read g (l .size);
+      zero-elsewhere = λ g e. reserved (l .size) g (allFields l) (l .code ∷ vs) (zeros (l .size)) n (a .0) (c, r) e ∙ zeros-read g (l .size);
     }
 
 -- ── the ten messages

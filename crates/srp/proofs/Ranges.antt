@@ -16,13 +16,13 @@ use Rattle.srp.specs.Bytes.{bytes, number, get}
 use Rattle.srp.specs.Messages.{tag, outFormat, inFormat, outCount, inCount, segmentLength}
 use Rattle.srp.specs.Lists.{find, change, without, All}
 use Rattle.srp.specs.Limits.{bufferSize}
-use Rattle.srp.specs.Refusals.{Conduct, hangsUp, answered, stays, altersNothing, conductOf, firstOf, short}
+use Rattle.srp.specs.Refusals.{Conduct, hangsUp, answered, stays, altersNothing, conductOf, firstOf}
 use Rattle.srp.specs.Descriptors.{segmentsIn, segmentsOf, segments, sumOf, reachable, descriptorOf, goodTable, copiesAgree, goodFields}
 use Rattle.srp.specs.Requests.{outAt, inAt, outDescriptor, inDescriptor, commandOf, readMessage}
 use Rattle.srp.specs.Both.{Both, of, alter, Each}
 use Rattle.srp.specs.Credit.{Side, Open, ruleOf, Port, closedPort, due, withHeld, withWanted, withUnanswered}
 use Rattle.srp.specs.Take.{Outcome, closed, conducted, Tables, fieldsFit, newSide, newOpen, aborted, takeChecks, accepted, takeBy, takeDef, hasTag}
-use Rattle.srp.specs.Calls.{unless, planned as withPlan, planChecks, planDef, requiring, handing, advanced, nextIn, nextOf, wrapped, handOut, stepChecks, stepDef, finishChecks, finishDef, addChecks, addDef, withdrawChecks, withdrawDef, grantChecks, grantDef, closeDef}
+use Rattle.srp.specs.Calls.{unless, planned as withPlan, planChecks, planDef, requiring, handing, advanced, nextIn, nextOf, wrapped, handOut, stepChecks, stepDef, finishChecks, finishDef, addChecks, addDef, withdrawChecks, withdrawDef, grantChecks, grantDef, closeDef, closeChecks}
 use Rattle.srp.specs.declared.Refusal.{Refusal}
 use Rattle.srp.specs.declared.Refusal.the-variants.{ShortBuffer, Closed}
 use Rattle.srp.specs.declared.Descriptor.{Descriptor}
@@ -231,7 +231,7 @@ module _ {p : Port} (v : Ranges p) where
   grant-kept room = unless-kept v (firstOf (grantChecks p room)) _ λ _. inr (paid (asking v true))
 
   close-kept : (room reason : ℕ) → Ranged (closeDef p room reason .port)
-  close-kept room reason = unless-kept v (firstOf (short room ∷ closed p ∷ [])) _ λ _. inl refl
+  close-kept room reason = unless-kept v (firstOf (closeChecks p room)) _ λ _. inl refl
 
 -- ── the law
 

@@ -16,14 +16,14 @@ use Rattle.srp.specs.Bytes.{bit, get, gets, Layout, typeOf, write, InRan
 use Rattle.srp.specs.Messages.{tag, requestedLength, rsp, credReq, tLogout, loginRsp, loginRej, portLayouts, responseLength, senseLength}
 use Rattle.srp.specs.Lists.{find, without, isSome, All}
 use Rattle.srp.specs.Limits.{bufferSize}
-use Rattle.srp.specs.Refusals.{Conduct, hangsUp, answered, stays, altersNothing, conductOf, firstOf, short}
+use Rattle.srp.specs.Refusals.{Conduct, hangsUp, answered, stays, altersNothing, conductOf, firstOf}
 use Rattle.srp.specs.Requests.{isRequest, readMessage}
 use Rattle.srp.specs.Credit.{Side, Open, Port, due, withHeld}
 use Rattle.srp.specs.declared.Residual.{Residual}
 use Rattle.srp.specs.declared.Residual.the-variants.{Even, Over, Under}
 use Rattle.srp.specs.Writing.{residualOf, amount, isOver, isUnder, Response, responseBytes, responseValues, response, answer, targetLogout, solicited}
-use Rattle.srp.specs.Take.{Outcome, closed, hasTag, Tables, aborted, wholeLun, taskCode, requestIn, conducted, takeChecks, takeBy, takeDef}
-use Rattle.srp.specs.Calls.{unless, finalResponse, finishChecks, finishDef, grantChecks, grantDef, closeDef}
+use Rattle.srp.specs.Take.{Outcome, hasTag, Tables, aborted, wholeLun, taskCode, requestIn, conducted, takeChecks, takeBy, takeDef}
+use Rattle.srp.specs.Calls.{unless, finalResponse, finishChecks, finishDef, grantChecks, grantDef, closeDef, closeChecks}
 use Rattle.srp.specs.Login.{badSettings, loginChecks, supported, rejections, judged, loginBy, loginDef}
 use Rattle.srp.specs.declared.Settings.{Settings}
 use Rattle.srp.specs.declared.Refusal.{Refusal}
@@ -221,7 +221,7 @@ module _ (p : Port) (w : p .wanted ≤ 16) (o : All OpenRanges (p .held)) where
       (credit-request (bit (p .terms .crsolnt) ∷ due p ∷ 1 ∷ []) (omega (arith, one-bit (p .terms .crsolnt))), tt)
 
   close-sent : (room reason : ℕ) → reason < 2 ^ 32 → All Sent (closeDef p room reason .wrote)
-  close-sent room reason h = unless-sent (firstOf (short room ∷ closed p ∷ [])) _ λ _. (logout-sent (p .terms .losolnt) reason h, tt)
+  close-sent room reason h = unless-sent (firstOf (closeChecks p room)) _ λ _. (logout-sent (p .terms .losolnt) reason h, tt)
 
 -- every message that a call writes on a port that a login made is of the five kinds, with values in range
 pub every-write : {p : Port} → Reached p → Writes p

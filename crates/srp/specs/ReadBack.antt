@@ -8,8 +8,8 @@ use lib.ListN.{length}
 use Rattle.srp.specs.Bytes.{Field, get, gets, Layout, kind, typeOf, write, apartFrom}
 
 -- a message's fields, its type among them
-abbrev pub whole : Layout → List Field
-whole l = kind ∷ l .fields
+abbrev pub allFields : Layout → List Field
+allFields l = kind ∷ l .fields
 
 -- of the fixed part written by layout l from the values vs
 pub record Written (l : Layout) (vs : List ℕ) : Type 0 where
@@ -20,4 +20,4 @@ pub record Written (l : Layout) (vs : List ℕ) : Type 0 where
   pub code-before : (t : List ℕ) → typeOf (write l vs ++ t) ≡ l .code
   pub values-before : (t : List ℕ) → gets (l .fields) (write l vs ++ t) ≡ vs
   -- and any other bytes or bits are 0
-  pub zero-elsewhere : (g : Field) → apartFrom g (whole l) ≡ true → get g (write l vs) ≡ 0
+  pub zero-elsewhere : (g : Field) → apartFrom g (allFields l) ≡ true → get g (write l vs) ≡ 0

@@ -10,7 +10,7 @@ use lib.ListN.{length, take, drop}
 use Rattle.srp.specs.Limits.{bufferSize, longestSense}
 use Rattle.srp.specs.Bytes.{Bytes, Field, get, gets, Layout, typeOf, write, InRange, inside, apartFrom}
 use Rattle.srp.specs.Messages.{rsp, credReq, tLogout, loginRsp, loginRej, portLayouts, responseLength, senseLength}
-use Rattle.srp.specs.ReadBack.{whole}
+use Rattle.srp.specs.ReadBack.{allFields}
 use Rattle.srp.specs.Lists.{All}
 use Rattle.srp.specs.Credit.{Port}
 use Rattle.srp.specs.Writing.{Response, responseBytes, responseValues, response}
@@ -40,7 +40,7 @@ pub record Follows (s : List ℕ) : Type 0 where
   pub fields : gets (layout .fields) s ≡ values
   pub responds : typeOf s ≡ rsp .code → (r : Response) × Responds r s
   -- every other byte and bit of the fixed part is 0
-  pub elsewhere : (g : Field) → inside (layout .size) g ≡ true → apartFrom g (whole layout) ≡ true → get g s ≡ 0
+  pub elsewhere : (g : Field) → inside (layout .size) g ≡ true → apartFrom g (allFields layout) ≡ true → get g s ≡ 0
   -- it fits into a lent buffer
   pub fits : length s ≤ bufferSize
 

@@ -7,8 +7,8 @@ use borrow.Author.Needs.{needs}
 use Rattle.request.proofs.read_other.Statement.{statement}
 use Rattle.request.proofs.read_other.Tie as tie
 
-kind-of-requires : tie.Need-kind-of-requires
-kind-of-requires c κs = search needs
+known-type-requires : tie.Need-known-type-requires
+known-type-requires c κs = search needs
 
 enum-told : tie.Need-enum-told
 enum-told c = search needs
@@ -18,7 +18,7 @@ enum-told-2 c = search needs
 
 returns : tie.Need-returns
 returns c =
-    (no-type (c .before .before .before .before .args .msg .now) (c .before .before .before .before .args .kind) (c .before .before .kind-of .ensures) (c .enum-told2 .given .1), refl)
+    (no-type (c .before .before .before .before .args .msg .now) (c .before .before .before .before .args .kind) (c .before .before .known-type .ensures) (c .enum-told2 .given .1), refl)
 
 length-is-requires : tie.Need-length-is-requires
 length-is-requires c κs = search needs
@@ -79,7 +79,7 @@ returns-6 : tie.Need-returns-6
 returns-6 c =
     let k = c .before .before .before .before .before .before .before .before .before .args .kind in
     let s = c .before .before .before .before .before .before .before .before .before .args .msg .now in
-    (credit-length s k (c .before .before .before .before .if1 .left) (c .before .before .before .if2 .left) (c .before .before .before .before .before .before .before .kind-of .ensures) (c .before .before .before .before .before .enum-told .given .1) (not-so-long 16 (length s) (c .before .before .length-is3 .ensures) (c .enum-told8 .given .1)), refl)
+    (credit-length s k (c .before .before .before .before .if1 .left) (c .before .before .before .if2 .left) (c .before .before .before .before .before .before .before .known-type .ensures) (c .before .before .before .before .before .enum-told .given .1) (not-so-long 16 (length s) (c .before .before .length-is3 .ensures) (c .enum-told8 .given .1)), refl)
 
 read64-requires : tie.Need-read64-requires
 read64-requires c κs = search needs
@@ -88,13 +88,13 @@ returns-7 : tie.Need-returns-7
 returns-7 c =
     let k = c .before .before .before .before .before .before .before .before .before .before .args .kind in
     let s = c .before .before .before .before .before .before .before .before .before .before .args .msg .now in
-    (credit-read s k (c .before .before .before .before .before .if1 .left) (c .before .before .before .before .if2 .left) (c .before .before .before .before .before .before .before .before .kind-of .ensures) (c .before .before .before .before .before .before .enum-told .given .1) (so-long 16 (length s) (c .before .before .before .length-is3 .ensures) (c .before .enum-told7 .given .1)) (c .read64 .ensures), tt)
+    (credit-read s k (c .before .before .before .before .before .if1 .left) (c .before .before .before .before .if2 .left) (c .before .before .before .before .before .before .before .before .known-type .ensures) (c .before .before .before .before .before .before .enum-told .given .1) (so-long 16 (length s) (c .before .before .before .length-is3 .ensures) (c .before .enum-told7 .given .1)) (c .read64 .ensures), tt)
 
 pub read-other-spec : {M : Type 1} → statement M
 read-other-spec =
     tie.close
     (tie.spec
-    kind-of-requires
+    known-type-requires
     enum-told
     enum-told-2
     returns

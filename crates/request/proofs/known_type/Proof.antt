@@ -1,8 +1,8 @@
--- `request::kind_of` meets its contract. The tests are the definition's.
+-- `request::known_type` meets its contract. The tests are the definition's.
 -- Assumes nothing.
 use borrow.Author.Tests.{eq-eqb, ne-eqb}
-use Rattle.request.proofs.kind_of.Statement.{statement}
-use Rattle.request.proofs.kind_of.Tie as tie
+use Rattle.request.proofs.known_type.Statement.{statement}
+use Rattle.request.proofs.known_type.Tie as tie
 
 returns : tie.Need-returns
 returns c =
@@ -20,5 +20,5 @@ returns-4 : tie.Need-returns-4
 returns-4 c =
     rw (ne-eqb _ _ (c .before .before .if1 .left), ne-eqb _ _ (c .before .if2 .left), ne-eqb _ _ (c .if3 .left))
 
-pub kind-of-spec : {M : Type 1} → statement M
-kind-of-spec = tie.close (tie.spec returns returns-2 returns-3 returns-4)
+pub known-type-spec : {M : Type 1} → statement M
+known-type-spec = tie.close (tie.spec returns returns-2 returns-3 returns-4)
