@@ -171,7 +171,7 @@ pub fn list_into(s: &[u64; PORT], records: &mut [Record]) -> Reply
     listing.reply
 }
 
-// The open commands, listed into a list that the caller has by value, which is lent to list_into and handed back: its callers are covered.
+// The open commands, listed into a list that the caller has by value, which is lent to list_into and handed back: its callers are covered. Refused 21.
 pub fn lend(s: &[u64; PORT], mut records: [Record; SLOTS]) -> Lent
     ensures { λ r. ⌜ WritesListing (now (s .entry)) records (r .records) (r .reply) ⌝ }
 {
