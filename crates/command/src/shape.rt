@@ -40,16 +40,12 @@ pub fn read_shape(msg: &[u8], formats: u32) -> Shaped
     let Length::Allowed = checks::length_from(msg.len(), SHORTEST_COMMAND) else {
         return Shaped::Unfit(Refusal::Length);
     };
-    let Format::Agreed(out_format) = descriptors::format_of(
-        formats,
-        wire::read_bits(msg, FORMATS, 4, 4),
-    ) else {
+    let out_nibble = wire::read_bits(msg, FORMATS, 4, 4);
+    let Format::Agreed(out_format) = descriptors::format_of(formats, out_nibble) else {
         return Shaped::Unfit(Refusal::OutFormat);
     };
-    let Format::Agreed(in_format) = descriptors::format_of(
-        formats,
-        wire::read_bits(msg, FORMATS, 0, 4),
-    ) else {
+    let in_nibble = wire::read_bits(msg, FORMATS, 0, 4);
+    let Format::Agreed(in_format) = descriptors::format_of(formats, in_nibble) else {
         return Shaped::Unfit(Refusal::InFormat);
     };
     let out_count = wire::read8(msg, OUT_COUNT);
