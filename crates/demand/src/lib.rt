@@ -1,2 +1,2 @@
-// Demands 1 and 3 of the code. There is no code here: proofs/Judged.antt has demand 1; proofs/Calls.antt says when a call was made, by the function's own
-// contract, and proofs/Holds.antt has demand 3, which crate machine states and shows for any code whose calls equal their definitions.
+// Demands 1, 2 and 3 of the C functions. There is no code here: specs/ says them, when a call was made being the C function's own contract; proofs/ has
+// the theorems: demand 1 in Judges, JudgesTake and JudgesLogin, demand 2 in Following, demand 3 in Holds, each answer's number and values in Numbered.
