@@ -5,25 +5,30 @@ use mathlib.Core.Logic.{⊎-elim}
 use mathlib.Core.Bool.{Bool, true, false, true≢false}
 use mathlib.Core.List.{List, [], _∷_}
 use mathlib.Core.Option.{none}
+use mathlib.Core.Option.{Option}
 use Prim.Native.Nat.{ℕ, _≤_}
 use native.Mathlib.Omega.{arith}
 use borrow.Author.Tests.{ltb-false}
 use lib.Dec.{ltb}
 use lib.ListN.{length}
 use Rattle.srp.specs.Limits.{bufferSize, shortestAgreed}
-use Rattle.srp.specs.Bytes.{Bytes}
+use Rattle.srp.specs.Bytes.{Bytes, get, part, typeOf}
+use Rattle.srp.specs.Messages.{tag, formatBits, requestedLength, loginCrsolnt, loginLosolnt, channelAction, targetIdentifier, loginReq}
 use Rattle.srp.specs.Lists.{All}
-use Rattle.srp.specs.Credit.{Port}
+use Rattle.srp.specs.Refusals.{firstOf}
+use Rattle.srp.specs.Credit.{Port, closedPort}
 use Rattle.srp.specs.Requests.{ReadAs}
 use Rattle.srp.specs.Take.{Outcome, Tables, takeRead, takeDef}
-use Rattle.srp.specs.Calls.{planDef, stepDef, finishDef, addDef, withdrawDef, grantDef, closeDef}
-use Rattle.srp.specs.Login.{loginDef}
+use Rattle.srp.specs.Calls.{unless, planDef, stepDef, finishDef, addDef, withdrawDef, grantDef, closeDef}
+use Rattle.srp.specs.Login.{loginByValues, settingChecks, rejections, judged, loginChecks, loginDef}
 use Rattle.srp.specs.Ranges as def
 use Rattle.srp.specs.Sent.{Sent}
 use Rattle.srp.specs.Initiator.{commandIn}
 use Rattle.srp.specs.declared.Message.{Message}
 use Rattle.srp.specs.declared.Message.the-variants.{Cmd}
+use Rattle.srp.specs.declared.Refusal.{Refusal}
 use Rattle.srp.specs.declared.Reply.{Reply}
+use Rattle.srp.specs.declared.Settings.{Settings}
 use Rattle.srp.proofs.Reading.{read-as}
 use Rattle.srp.proofs.Received.{task-received, logout-received, credit-received, command-received, login-received}
 use Rattle.srp.proofs.Sent.{every-write, login-writes, sent-follows, sent-fits}
@@ -157,12 +162,22 @@ by-layouts s s′ c r ss L y m =
     let R : def.Reached (seen s) = led-reached s L in
     record { reached = R; reached′ = reached-next s c r ss s′ R y m; writes = writes-of s c r ss s′ R y m; received = received s c r ss s′ m }
 
--- and of a login, accepted or not
-pub login-by-layouts : (settings own msg : List ℕ) (room : ℕ) (r : Reply) (ss : List (List ℕ)) (p : List ℕ) → Bytes msg → LoggedIn settings own msg room r ss p
-    → LoginByLayouts settings own msg room r ss p
-login-by-layouts settings own msg room r ss p b l =
-    let C = settingsIn settings in
+-- a message of a login request's length and type draws neither 3 nor 4
+login-fields : (c : Settings) (own : List ℕ) (room : ℕ) (s : List ℕ) → length s ≡ loginReq .size → typeOf s ≡ loginReq .code
+    → loginDef c own room s
+    ≡ loginByValues c own room (get tag s) (get requestedLength s) (get formatBits s) (get loginCrsolnt s) (get loginLosolnt s) (get channelAction s) (part targetIdentifier s)
+login-fields c own room s l k =
+    let e : firstOf (loginChecks c room s) ≡ firstOf (settingChecks c room) = rw (l, k) in
+    ap (λ (x : Option Refusal). unless x closedPort (judged (firstOf (rejections c own s)) c s)) e
+
+-- of a login, accepted or not, and any store
+pub login-by-layouts : (settings own msg : List ℕ) (room : ℕ) (r : Reply) (ss : List (List ℕ)) (p store : List ℕ) → Bytes msg → LoggedIn settings own msg room r ss p
+    → LoginByLayouts settings own msg room (record { reply = r; port = view p store; wrote = ss })
+login-by-layouts settings own msg room r ss p store b l =
+    let C : Settings = settingsIn settings in
+    let is = logged-in l store in
     record {
-      writes = written (loginDef C own room msg) r (view p []) ss (logged-in l []) room (login-writes C own room msg b) (λ e. rw e);
-      reads = λ t n f c o a i g h e store. sym (logged-in l store) ∙ ap (λ (s : List ℕ). loginDef C own room s) e ∙ login-received C own room t n f c o a i g h;
+      writes = written (loginDef C own room msg) r (view p store) ss is room (login-writes C own room msg b) (λ e. rw e);
+      reads = λ n k. sym is ∙ login-fields C own room msg n k;
+      request = λ t n f c o a i g h e. sym is ∙ ap (λ (s : List ℕ). loginDef C own room s) e ∙ login-received C own room t n f c o a i g h;
     }

@@ -10,6 +10,9 @@ use Rattle.srp.specs.Limits.{mostBuffers}
 use Rattle.srp.specs.Take.{Outcome, takeDef}
 use Rattle.srp.specs.Calls.{planDef, stepDef, finishDef, addDef, withdrawDef, grantDef, closeDef, countersDef, listDef}
 use Rattle.srp.specs.Login.{loginDef}
+use Rattle.srp.specs.Requests.{lookDef}
+use Rattle.srp.specs.Cutting.{cutDef}
+use Rattle.srp.specs.Outside.{inBuffer, lookAnswer, cutAnswer}
 use Rattle.srp.specs.Answers.{returned, valuesOf, answerOf}
 use Rattle.srp.specs.declared.Answer.{Answer}
 use Rattle.srp.specs.declared.Direction.{Direction}
@@ -21,6 +24,7 @@ use Rattle.take.specs.Taking.{tables}
 use Rattle.report.specs.Reports.{WritesListing}
 use Rattle.report.specs.declared.Listing.{Listing}
 use Rattle.exports.specs.Arguments.{recordSize, settingsIn, directionIn}
+use Rattle.exports.specs.Answered.{Answered}
 use Rattle.exports.specs.Calls.{InC}
 use Rattle.login.proofs.login.Reads as login-call
 use Rattle.take.proofs.take.Reads as take-call
@@ -33,6 +37,8 @@ use Rattle.credit.proofs.grant.Reads as grant-call
 use Rattle.close.proofs.close.Reads as close-call
 use Rattle.report.proofs.counters.Reads as counters-call
 use Rattle.report.proofs.list.Reads as list-call
+use Rattle.exports.proofs.srp_look.Reads as look-in-c
+use Rattle.exports.proofs.srp_cut.Reads as cut-in-c
 use Rattle.exports.proofs.port.srp_target_login.Reads as login-in-c
 use Rattle.exports.proofs.port.srp_target_take.Reads as take-in-c
 use Rattle.exports.proofs.port.srp_target_plan.Reads as plan-in-c
@@ -148,3 +154,13 @@ module _ (st : List ℕ) (p q : RefT (List ℕ)) (n : ℕ) where
 
   pub withdraw-counts : (κs : Lfts 1) (k : ℕ) → withdraw-in-c.Post κs (p, (k, tt)) n (q, (k, tt)) → n ≡ returned (withdrawDef (view (now p) st) k .reply)
   withdraw-counts κs k post = post st .number
+
+-- look and the cut: the number, and their 32 bytes as the values
+module _ (b d : RefT (List ℕ)) (n : ℕ) where
+  pub look-counts : (κs : Lfts 2) (m : RefT (List ℕ)) (agreed formats : ℕ) → look-in-c.Post κs (m, (agreed, (formats, (b, tt)))) n (m, (agreed, (formats, (d, tt))))
+      → Answered n (now b) (now d) (inBuffer (length (now b)) (lookAnswer (lookDef agreed formats (now m))))
+  look-counts κs m agreed formats post = post
+
+  pub cut-counts : (κs : Lfts 2) (l : RefT (List ℕ)) (M R handed : ℕ) → cut-in-c.Post κs (l, (M, (R, (handed, (b, tt))))) n (l, (M, (R, (handed, (d, tt)))))
+      → Answered n (now b) (now d) (inBuffer (length (now b)) (cutAnswer (cutDef (now l) M R handed)))
+  cut-counts κs l M R handed post = post

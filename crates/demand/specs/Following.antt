@@ -8,8 +8,8 @@ use Prim.Native.Nat.{ℕ, _+_, _*_, _^_, _<_, _≤_}
 use lib.ListN.{length}
 use denote.Ref.{RefT, now}
 use contract.Lifetimes.{Lfts}
-use Rattle.srp.specs.Bytes.{Bytes, bytesOf, write, InRange}
-use Rattle.srp.specs.Messages.{loginReq, tskMgmt, cmd, iLogout, credRsp}
+use Rattle.srp.specs.Bytes.{Bytes, bytesOf, get, part, typeOf, write, InRange}
+use Rattle.srp.specs.Messages.{tag, formatBits, requestedLength, loginCrsolnt, loginLosolnt, channelAction, targetIdentifier, loginReq, tskMgmt, cmd, iLogout, credRsp}
 use Rattle.srp.specs.Initiator.{CommandFields, values, commandBytes, formatOf, Fit, Copied, commandIn}
 use Rattle.srp.specs.Descriptors.{agrees}
 use Rattle.srp.specs.Lists.{All}
@@ -24,7 +24,6 @@ use Rattle.srp.specs.declared.Message.the-variants.{Cmd, TskMgmt, CredRsp, ILog
 use Rattle.srp.specs.declared.Terms.{Terms}
 use Rattle.srp.specs.declared.Reply.{Reply}
 use Rattle.srp.specs.declared.Reply.the-variants.{Accepted}
-use Rattle.words.specs.View.{view}
 use Rattle.request.proofs.read_message.Reads as read-message
 use Rattle.exports.specs.Arguments.{settingsIn}
 use Rattle.demand.specs.Calls.{Memory, seen, LoggedIn, Took, Finished, Granted, Ended, Planned, Stepped, Added, Withdrew}
@@ -127,9 +126,12 @@ pub record ByLayouts (s : Memory) (c : PortCall) (r : Reply) (ss : List (List �
 
 -- ── and of a login, accepted or not
 
-pub record LoginByLayouts (settings own msg : List ℕ) (room : ℕ) (r : Reply) (ss : List (List ℕ)) (p : List ℕ) : Type 0 where
-  pub writes : All (InRoom room) ss
-  -- a request written by the layout from these values is read as those values: its outcome is made of them
-  pub reads : (t n f c o a i g : ℕ) → InRange (loginReq .fields) (t ∷ n ∷ f ∷ c ∷ o ∷ a ∷ i ∷ g ∷ []) → msg ≡ write loginReq (t ∷ n ∷ f ∷ c ∷ o ∷ a ∷ i ∷ g ∷ [])
-      → (store : List ℕ)
-      → _≡_ {A = Outcome} (record { reply = r; port = view p store; wrote = ss }) (loginByValues (settingsIn settings) own room t n f c o a (bytesOf 16 g))
+-- o is the outcome: the reply, the port, the message
+pub record LoginByLayouts (settings own msg : List ℕ) (room : ℕ) (o : Outcome) : Type 0 where
+  pub writes : All (InRoom room) (o .wrote)
+  -- a message of its length and type is read as the fields of its layout: the outcome is made of them
+  pub reads : length msg ≡ loginReq .size → typeOf msg ≡ loginReq .code
+      → o ≡ loginByValues (settingsIn settings) own room (get tag msg) (get requestedLength msg) (get formatBits msg) (get loginCrsolnt msg) (get loginLosolnt msg) (get channelAction msg) (part targetIdentifier msg)
+  -- and one that was written by the layout, as the values that were written
+  pub request : (t n f c l a i g : ℕ) → InRange (loginReq .fields) (t ∷ n ∷ f ∷ c ∷ l ∷ a ∷ i ∷ g ∷ []) → msg ≡ write loginReq (t ∷ n ∷ f ∷ c ∷ l ∷ a ∷ i ∷ g ∷ [])
+      → o ≡ loginByValues (settingsIn settings) own room t n f c l a (bytesOf 16 g)
