@@ -28,7 +28,7 @@ use Rattle.request.proofs.read_message.Reads as read-message
 use Rattle.exports.specs.Arguments.{settingsIn}
 use Rattle.demand.specs.Calls.{Memory, seen, LoggedIn, Took, Finished, Granted, Ended, Planned, Stepped, Added, Withdrew}
 
--- ── a run
+-- ── the calls
 
 -- a call that may change a port, with its arguments; `room` is the length of the lent buffer
 pub data PortCall : Type 0 where
@@ -41,45 +41,7 @@ pub data PortCall : Type 0 where
   grant-call : (room : ℕ) → PortCall
   close-call : (room reason : ℕ) → PortCall
 
--- made on s it replied r, wrote ss and left s′
-abbrev pub Made : Memory → PortCall → Reply → List (List ℕ) → Memory → Type 0
-Made s (take-call room t msg) r ss s′ = Took s room t msg r ss s′
-Made s (plan-call tag out inn) r ss s′ = Planned s tag out inn r ss s′
-Made s (step-call tag d) r ss s′ = Stepped s tag d r ss s′
-Made s (finish-call room tag status sense) r ss s′ = Finished s room tag status sense r ss s′
-Made s (add-call k) r ss s′ = Added s k r ss s′
-Made s (withdraw-call k) r ss s′ = Withdrew s k r ss s′
-Made s (grant-call room) r ss s′ = Granted s room r ss s′
-Made s (close-call room reason) r ss s′ = Ended s room reason r ss s′
-
--- the message is bytes, and the numbers that it or a later message can carry have their widths
-abbrev pub Typed : PortCall → Type 0
-Typed (take-call room t msg) = Bytes msg
-Typed (plan-call tag out inn) = (out < 2 ^ 32) × (inn < 2 ^ 32)
-Typed (step-call tag d) = Unit {0}
-Typed (finish-call room tag status sense) = status < 2 ^ 8
-Typed (add-call k) = Unit {0}
-Typed (withdraw-call k) = Unit {0}
-Typed (grant-call room) = Unit {0}
-Typed (close-call room reason) = reason < 2 ^ 32
-
--- what an accepted login left, with any store, and what calls made of it one after the other
-pub data Led : Memory → Type 0 where
-  begins : (settings own msg : List ℕ) (room : ℕ) (ss : List (List ℕ)) (p store : List ℕ) → LoggedIn settings own msg room Accepted ss p
-      → Led (record { words = p; store = store })
-  goes-on : (s s′ : Memory) (c : PortCall) (r : Reply) (ss : List (List ℕ)) → Led s → Typed c → Made s c r ss s′ → Led s′
-
--- ── what is said of each call of it
-
-abbrev pub roomOf : PortCall → ℕ
-roomOf (take-call room t msg) = room
-roomOf (plan-call tag out inn) = 0
-roomOf (step-call tag d) = 0
-roomOf (finish-call room tag status sense) = room
-roomOf (add-call k) = 0
-roomOf (withdraw-call k) = 0
-roomOf (grant-call room) = room
-roomOf (close-call room reason) = room
+-- ── a message put to take
 
 -- a command that an initiator may write to a port with these terms: its values are in their ranges, its CDB has the length that n says, its formats are
 -- agreed, its copies fit, and it is not too long
@@ -89,10 +51,6 @@ pub record Sendable (T : Terms) (c : CommandFields) : Type 0 where
   pub out-fits : Fit (c .out) × Copied (c .out) × (agrees (T .formats) (formatOf (c .out)) ≡ true)
   pub in-fits : Fit (c .inn) × Copied (c .inn) × (agrees (T .formats) (formatOf (c .inn)) ≡ true)
   pub long : length (commandBytes c) ≤ T .agreed
-
--- a message written follows its layout, and fits the lent buffer
-abbrev pub InRoom : ℕ → List ℕ → Type 0
-InRoom room m = Follows m × (length m ≤ room)
 
 -- a message msg put to take on s, whose answer, port and messages are the outcome o
 pub record Receives (s : Memory) (room : ℕ) (t : Tables) (msg : List ℕ) (o : Outcome) : Type 0 where
@@ -107,22 +65,53 @@ pub record Receives (s : Memory) (room : ℕ) (t : Tables) (msg : List ℕ) (o :
   pub logout : seen s .live ≡ true → (vs : List ℕ) → InRange (iLogout .fields) vs → msg ≡ write iLogout vs → o ≡ takeRead (seen s) room msg t ILogout
   pub command : (c : CommandFields) → Sendable (seen s .terms) c → msg ≡ commandBytes c → o ≡ takeRead (seen s) room msg t (Cmd (commandIn c msg))
 
-abbrev pub Received : Memory → PortCall → Outcome → Type 0
-Received s (take-call room t msg) o = Receives s room t msg o
-Received s (plan-call tag out inn) o = Unit {0}
-Received s (step-call tag d) o = Unit {0}
-Received s (finish-call room tag status sense) o = Unit {0}
-Received s (add-call k) o = Unit {0}
-Received s (withdraw-call k) o = Unit {0}
-Received s (grant-call room) o = Unit {0}
-Received s (close-call room reason) o = Unit {0}
+-- ── what each call is
+
+-- what a call is: that it was made, with its reply, what it wrote and what it left; C's types of its arguments, as far as a message can carry them; the
+-- length of its lent buffer; and what is said of a message put to it, whose outcome is o
+pub record Calling : Type 1 where
+  pub made : (s : Memory) (r : Reply) (ss : List (List ℕ)) (s′ : Memory) → Type 0
+  pub typed : Type 0
+  pub room : ℕ
+  pub received : (s : Memory) (o : Outcome) → Type 0
+
+-- a call that gets no message: with a lent buffer, and without
+abbrev pub writing : ℕ → (Memory → Reply → List (List ℕ) → Memory → Type 0) → Type 0 → Calling
+writing room made typed = record { made = made; typed = typed; room = room; received = λ s o. Unit {0} }
+
+abbrev pub quiet : (Memory → Reply → List (List ℕ) → Memory → Type 0) → Type 0 → Calling
+quiet made typed = writing 0 made typed
+
+abbrev pub callingOf : PortCall → Calling
+callingOf (take-call room t msg) = record { made = λ s. Took s room t msg; typed = Bytes msg; room = room; received = λ s o. Receives s room t msg o }
+callingOf (plan-call tag out inn) = quiet (λ s. Planned s tag out inn) ((out < 2 ^ 32) × (inn < 2 ^ 32))
+callingOf (step-call tag d) = quiet (λ s. Stepped s tag d) (Unit {0})
+callingOf (finish-call room tag status sense) = writing room (λ s. Finished s room tag status sense) (status < 2 ^ 8)
+callingOf (add-call k) = quiet (λ s. Added s k) (Unit {0})
+callingOf (withdraw-call k) = quiet (λ s. Withdrew s k) (Unit {0})
+callingOf (grant-call room) = writing room (λ s. Granted s room) (Unit {0})
+callingOf (close-call room reason) = writing room (λ s. Ended s room reason) (reason < 2 ^ 32)
+
+-- ── a run
+
+-- what an accepted login left, with any store, and what calls made of it one after the other
+pub data Led : Memory → Type 0 where
+  begins : (settings own msg : List ℕ) (room : ℕ) (ss : List (List ℕ)) (p store : List ℕ) → LoggedIn settings own msg room Accepted ss p
+      → Led (record { words = p; store = store })
+  goes-on : (s s′ : Memory) (c : PortCall) (r : Reply) (ss : List (List ℕ)) → Led s → callingOf c .typed → callingOf c .made s r ss s′ → Led s′
+
+-- ── what is said of each call of it
+
+-- a message written follows its layout, and fits the lent buffer
+abbrev pub InRoom : ℕ → List ℕ → Type 0
+InRoom room m = Follows m × (length m ≤ room)
 
 pub record ByLayouts (s : Memory) (c : PortCall) (r : Reply) (ss : List (List ℕ)) (s′ : Memory) : Type 0 where
   -- both ports are ones that a login made and calls changed
   pub reached : Reached (seen s)
   pub reached′ : Reached (seen s′)
-  pub writes : All (InRoom (roomOf c)) ss
-  pub received : Received s c (record { reply = r; port = seen s′; wrote = ss })
+  pub writes : All (InRoom (callingOf c .room)) ss
+  pub received : callingOf c .received s (record { reply = r; port = seen s′; wrote = ss })
 
 -- ── and of a login, accepted or not
 
