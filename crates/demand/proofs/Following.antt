@@ -3,41 +3,49 @@
 use mathlib.Core.Path.{_≡_, refl, sym, _∙_, ap, subst}
 use mathlib.Core.Logic.{⊎-elim}
 use mathlib.Core.Bool.{Bool, true, false, true≢false}
-use mathlib.Core.List.{List, [], _∷_}
+use mathlib.Core.List.{List, [], _∷_, _++_}
 use mathlib.Core.Option.{none}
-use mathlib.Core.Option.{Option}
+use mathlib.Core.Option.{Option, none, some}
 use Prim.Native.Nat.{ℕ, _≤_}
 use native.Mathlib.Omega.{arith}
-use borrow.Author.Tests.{ltb-false}
+use borrow.Author.Tests.{le-ltb, ltb-false}
 use lib.Dec.{ltb}
 use lib.ListN.{length}
+use denote.Ref.{now}
 use Rattle.srp.specs.Limits.{bufferSize, shortestAgreed}
 use Rattle.srp.specs.Bytes.{Bytes, get, part, typeOf}
 use Rattle.srp.specs.Messages.{tag, formatBits, requestedLength, loginCrsolnt, loginLosolnt, channelAction, targetIdentifier, loginReq}
 use Rattle.srp.specs.Lists.{All}
 use Rattle.srp.specs.Refusals.{firstOf}
 use Rattle.srp.specs.Credit.{Port, closedPort}
-use Rattle.srp.specs.Requests.{ReadAs}
+use Rattle.srp.specs.Requests.{readMessage, commandOf, unlessBad, lookChecks}
+use Rattle.srp.specs.Descriptors.{fetchOf}
+use Rattle.srp.specs.Outside.{fetchBytes}
+use Rattle.srp.specs.Writing.{placed}
 use Rattle.srp.specs.Take.{Outcome, Tables, takeRead, takeDef}
 use Rattle.srp.specs.Calls.{unless, finishDef, grantDef, closeDef}
 use Rattle.srp.specs.Login.{loginByValues, settingChecks, rejections, judged, loginChecks, loginDef}
 use Rattle.srp.specs.Ranges as def
 use Rattle.srp.specs.Sent.{Sent}
-use Rattle.srp.specs.Initiator.{commandIn}
+use Rattle.srp.specs.Initiator.{CommandFields, commandBytes, commandIn, Reads}
+use Rattle.srp.specs.declared.Command.{Command}
 use Rattle.srp.specs.declared.Message.{Message}
 use Rattle.srp.specs.declared.Message.the-variants.{Cmd}
 use Rattle.srp.specs.declared.Refusal.{Refusal}
 use Rattle.srp.specs.declared.Reply.{Reply}
 use Rattle.srp.specs.declared.Settings.{Settings}
 use Rattle.srp.proofs.Reading.{read-as}
-use Rattle.srp.proofs.Received.{task-received, logout-received, credit-received, command-received, login-received}
+use Rattle.srp.proofs.Commands.{command-read}
+use Rattle.srp.proofs.Ranges.{reached}
+use Rattle.srp.proofs.Received.{look-as-take, task-received, logout-received, credit-received, command-received, login-received}
 use Rattle.srp.proofs.Sent.{every-write, login-writes, sent-follows, sent-fits}
 use Rattle.words.specs.View.{view}
 use Rattle.words.proofs.Ports.{any-words}
 use Rattle.exports.specs.Arguments.{settingsIn}
 use Rattle.demand.specs.Calls.{Memory, seen, LoggedIn}
-use Rattle.demand.specs.Judged.{readOn}
-use Rattle.demand.specs.Following.{PortCall, take-call, plan-call, step-call, finish-call, add-call, withdraw-call, grant-call, close-call, Receives, callingOf, Led, begins, goes-on, InRoom, ByLayouts, LoginByLayouts}
+use Rattle.demand.specs.Judgement.{readOn, shortAnswer, JudgesLook}
+use Rattle.demand.specs.Following.{PortCall, take-call, plan-call, step-call, finish-call, add-call, withdraw-call, grant-call, close-call, Sendable, Receives, callingOf, Led, begins, goes-on, InRoom, ByLayouts, LoginByLayouts, LookByLayouts, Demand2InC}
+use Rattle.demand.proofs.Judges.{judges-look}
 use Rattle.demand.proofs.Holds.{took, planned-is, stepped, finished, added, withdrew, granted, ended, logged-in}
 
 -- ── every message written follows its layout and fits
@@ -61,20 +69,25 @@ agreed-least : (s : Memory) → seen s .live ≡ true → shortestAgreed ≤ see
 agreed-least s h =
     ⊎-elim (λ e. let z : true ≡ false = sym h ∙ ap (λ (p : Port). p .live) e in absurd (true≢false z)) (λ R. R .terms .shortest) (any-words (s .words) (s .store))
 
+-- a command written by the layouts is read as its values
+command-read-as : (agreed formats : ℕ) (msg : List ℕ) (c : CommandFields) → Sendable agreed formats c → msg ≡ commandBytes c
+    → Reads c msg × (readMessage agreed formats msg ≡ Cmd (commandIn c msg))
+command-read-as agreed formats msg c k e = (
+  subst (λ (x : List ℕ). Reads c x) (sym e) (command-read c (k .ranged) (k .cdb) (k .out-fits .0) (k .in-fits .0)),
+  subst (λ (x : List ℕ). readMessage agreed formats x ≡ Cmd (commandIn c x)) (sym e)
+      (command-received agreed formats c (k .ranged) (k .cdb) (k .out-fits .0) (k .in-fits .0) (k .out-fits .1) (k .in-fits .1) (k .out-fits .2) (k .in-fits .2) (k .long)),
+)
+
 receives : (s : Memory) (room : ℕ) (t : Tables) (msg : List ℕ) → Receives s room t msg (takeDef (seen s) room msg t)
 receives s room t msg =
     record {
-      reads = λ κs m e x post.
-          let r : x ≡ readOn p msg = post .0 ∙ ap (λ (l : List ℕ). readOn p l) e in
-          (subst (λ (y : Message). ReadAs agreed msg y) (sym r) (read-as agreed formats msg), by-read x (sym r));
+      layout = read-as agreed formats msg;
+      outcome = refl;
+      reader = λ κs m e x post. post .0 ∙ ap (λ (l : List ℕ). readOn p l) e;
       task = λ h u c g l f k r e. by-read _ (again e ∙ task-received agreed formats u c g l f k r (let n = agreed-least s h in omega arith));
       credit = λ h g r e. by-read _ (again e ∙ credit-received agreed formats g r (let n = agreed-least s h in omega arith));
       logout = λ h vs r e. by-read _ (again e ∙ logout-received agreed formats vs r (let n = agreed-least s h in omega arith));
-      command = λ c k e.
-          by-read _
-          (again e
-          ∙ command-received agreed formats c (k .ranged) (k .cdb) (k .out-fits .0) (k .in-fits .0) (k .out-fits .1) (k .in-fits .1) (k .out-fits .2) (k .in-fits .2) (k .long)
-          ∙ ap (λ (x : List ℕ). Cmd (commandIn c x)) (sym e));
+      command = λ c k e. let C = command-read-as agreed formats msg c k e in (C .0, by-read _ (C .1));
     }
   where
     p : Port
@@ -104,6 +117,7 @@ module _ (s : Memory) (r : Reply) (ss : List (List ℕ)) (s′ : Memory) (R : de
       record {
         reached = R;
         reached′ = subst (λ (o : Outcome). def.Reached (o .port)) is n;
+        ranged′ = subst (λ (o : Outcome). def.Ranged (o .port)) is (reached n);
         writes = subst (λ (o : Outcome). All (InRoom (callingOf c .room)) (o .wrote)) is w;
         received = subst (λ (o : Outcome). callingOf c .received s o) is x;
       }
@@ -134,9 +148,6 @@ led-reached s (begins settings own msg room ss p store l) =
     subst (λ (o : Outcome). def.Reached (o .port)) (logged-in l store) (def.logged-in (settingsIn settings) own room msg)
 led-reached s (goes-on s₀ s₁ c r ss L y m) = follows s₀ r ss s₁ (led-reached s₀ L) c y m .reached′
 
-pub by-layouts : (s s′ : Memory) (c : PortCall) (r : Reply) (ss : List (List ℕ)) → Led s → callingOf c .typed → callingOf c .made s r ss s′ → ByLayouts s c r ss s′
-by-layouts s s′ c r ss L y m = follows s r ss s′ (led-reached s L) c y m
-
 -- a message of a login request's length and type draws neither 3 nor 4
 login-fields : (c : Settings) (own : List ℕ) (room : ℕ) (s : List ℕ) → length s ≡ loginReq .size → typeOf s ≡ loginReq .code
     → loginDef c own room s
@@ -145,8 +156,24 @@ login-fields c own room s l k =
     let e : firstOf (loginChecks c room s) ≡ firstOf (settingChecks c room) = rw (l, k) in
     ap (λ (x : Option Refusal). unless x closedPort (judged (firstOf (rejections c own s)) c s)) e
 
+-- a message that is read as a command draws none of look's checks
+none-hits : (x : Option Refusal) (c d : Command) → unlessBad x (Cmd c) ≡ Cmd d → (x ≡ none) × (c ≡ d)
+none-hits none c d e = (refl, cc)
+none-hits (some r) c d e = let z : _≡_ {A = ℕ} 0 1 = cc in absurd (omega arith)
+
+look-by-layouts : (agreed formats : ℕ) (msg b b′ : List ℕ) (n : ℕ) → JudgesLook agreed formats msg b b′ n → LookByLayouts agreed formats msg b b′ n
+look-by-layouts agreed formats msg b b′ n J c k e good room =
+    let C = command-read-as agreed formats msg c k e in
+    let look = none-hits (firstOf (lookChecks agreed formats msg)) (commandOf msg) (commandIn c msg) (sym (look-as-take agreed formats msg (C .0 .code) good) ∙ C .1) in
+    let hits : firstOf (shortAnswer (length b) ∷ lookChecks agreed formats msg) ≡ none = rw (le-ltb (length b) 32 room) (look .0) in (
+      C .0,
+      J .unrefused .1 hits,
+      J .performs hits
+          ∙ ap (λ (x : Command). placed ((fetchBytes (fetchOf (x .out) msg) ++ fetchBytes (fetchOf (x .inn) msg)) ∷ []) b) (look .1),
+    )
+
 -- of a login, accepted or not, and any store
-pub login-by-layouts : (settings own msg : List ℕ) (room : ℕ) (r : Reply) (ss : List (List ℕ)) (p store : List ℕ) → Bytes msg → LoggedIn settings own msg room r ss p
+login-by-layouts : (settings own msg : List ℕ) (room : ℕ) (r : Reply) (ss : List (List ℕ)) (p store : List ℕ) → Bytes msg → LoggedIn settings own msg room r ss p
     → LoginByLayouts settings own msg room (record { reply = r; port = view p store; wrote = ss })
 login-by-layouts settings own msg room r ss p store b l =
     let C : Settings = settingsIn settings in
@@ -155,4 +182,12 @@ login-by-layouts settings own msg room r ss p store b l =
       writes = subst (λ (o : Outcome). All (InRoom room) (o .wrote)) is (in-room room (loginDef C own room msg .wrote) (login-writes C own room msg b) (λ e. rw e));
       reads = λ n k. sym is ∙ login-fields C own room msg n k;
       request = λ t n f c o a i g h e. sym is ∙ ap (λ (s : List ℕ). loginDef C own room s) e ∙ login-received C own room t n f c o a i g h;
+    }
+
+pub demand-2-in-c : Demand2InC
+demand-2-in-c =
+    record {
+      calls = λ s s′ c r ss L y m. follows s r ss s′ (led-reached s L) c y m;
+      login = λ settings own msg room r ss p store b l. login-by-layouts settings own msg room r ss p store b l;
+      look = λ κs m b d agreed formats n post. look-by-layouts agreed formats (now m) (now b) (now d) n (judges-look (now b) (now d) n agreed formats (now m) post);
     }

@@ -7,8 +7,6 @@ use mathlib.Core.Option.{Option, none, some}
 use Prim.Native.Nat.{ℕ}
 use native.Mathlib.Omega.{arith}
 use lib.ListN.{length}
-use denote.Ref.{RefT, now}
-use contract.Lifetimes.{Lfts}
 use Rattle.srp.specs.Refusals.{firstOf}
 use Rattle.srp.specs.Writing.{placed}
 use Rattle.srp.specs.Take.{Outcome}
@@ -18,12 +16,10 @@ use Rattle.srp.specs.declared.Refusal.{Refusal}
 use Rattle.srp.specs.declared.Settings.{Settings}
 use Rattle.srp.specs.declared.Reply.the-variants.{Accepted, Rejected}
 use Rattle.answer.specs.Words.{answerWords}
-use Rattle.words.specs.View.{closedWords}
 use Rattle.exports.specs.Arguments.{settingsIn}
-use Rattle.exports.specs.Calls.{LogsInC}
-use Rattle.exports.proofs.port.srp_target_login.Reads as login-in-c
+use Rattle.exports.specs.Calls.{LoginInC, LogsInC}
 use Rattle.demand.specs.Replies.{replyBy, loggedIn}
-use Rattle.demand.specs.Judged.{Unaltered, LoginJudged, JudgesLogin}
+use Rattle.demand.specs.Judgement.{LoginRefused, LoginJudged, JudgesLogin}
 use Rattle.demand.proofs.Told.{login-told, logs-in}
 use Rattle.demand.proofs.Judging.{numberFor, judge}
 
@@ -66,7 +62,7 @@ module _ (c : Settings) (own s : List ℕ) where
               let i : _≡_ {A = ℕ} 0 1 = cc in omega arith;
         }
 
-    refused : (f : Refusal) → firstOf (loginChecks c (length b) s) ≡ some f → Unaltered closedWords b l′ b′ w
+    refused : (f : Refusal) → firstOf (loginChecks c (length b) s) ≡ some f → LoginRefused b l′ b′ w
     refused f e =
         let is : loginDef c own (length b) s ≡ loginBy (some f) c own s = ap (λ (x : Option Refusal). loginBy x c own s) e in
         record {
@@ -77,11 +73,7 @@ module _ (c : Settings) (own s : List ℕ) where
           buffer = A .call .buffer ∙ ap (λ (o : Outcome). placed (o .wrote) b) is;
         }
 
-pub judges-login : (κs : Lfts 6) (p q c id m b d w v : RefT (List ℕ)) (n : ℕ)
-    → login-in-c.Post κs (p, (c, (id, (m, (b, (w, tt)))))) n (q, (c, (id, (m, (d, (v, tt))))))
-    → JudgesLogin (now b) (now q) (now d) (now c) (now id) (now m) n (now v)
-judges-login κs p q c id m b d w v n post st =
-    let C : Settings = settingsIn (now c) in
-    judge (loginChecks C (length (now b)) (now m)) n _ _
-    (post st .numbers .number ∙ login-number C (now id) (now m) (firstOf (loginChecks C (length (now b)) (now m))))
-    (unrefused C (now id) (now m) (post st)) (refused C (now id) (now m) (post st))
+pub judges-login : (b l′ b′ settings own s : List ℕ) (n : ℕ) (w : List ℕ) → LoginInC b l′ b′ settings own s n w → JudgesLogin b l′ b′ settings own s n w
+judges-login b l′ b′ settings own s n w P st =
+    let c : Settings = settingsIn settings in
+    judge (loginChecks c (length b) s) n _ _ (P st .numbers .number ∙ login-number c own s (firstOf (loginChecks c (length b) s))) (unrefused c own s (P st)) (refused c own s (P st))

@@ -8,8 +8,6 @@ use mathlib.Core.Option.{Option, none, some, Option·some-injective}
 use Prim.Native.Nat.{ℕ}
 use lib.Dec.{ltb}
 use lib.ListN.{length}
-use denote.Ref.{RefT, now}
-use contract.Lifetimes.{Lfts}
 use Rattle.srp.specs.Limits.{bufferSize}
 use Rattle.srp.specs.Refusals.{Conduct, hangsUp, answered, stays, altersNothing, numberOf, conductOf, firstOf}
 use Rattle.srp.specs.Credit.{Port}
@@ -25,10 +23,9 @@ use Rattle.srp.proofs.Checks.{passes}
 use Rattle.srp.proofs.Refusing.{take-order}
 use Rattle.answer.specs.Words.{answerWords}
 use Rattle.words.specs.View.{view}
-use Rattle.take.specs.Taking.{tables, takesCommand, Stores}
+use Rattle.take.specs.Taking.{takesCommand, Stores}
 use Rattle.exports.specs.Calls.{TakeInC}
-use Rattle.exports.proofs.port.srp_target_take.Reads as take-in-c
-use Rattle.demand.specs.Judged.{noWords, Comes, Unaltered, readOn, Left, JudgesTake}
+use Rattle.demand.specs.Judgement.{noWords, Comes, Unaltered, readOn, Left, JudgesTake}
 use Rattle.demand.proofs.Judging.{numberFor, not-zero, judge}
 
 -- ── of the definition
@@ -150,11 +147,6 @@ module _ {l st b l′ st′ b′ : List ℕ} {n : ℕ} {w : List ℕ} (s : List 
           store = A .store .kept (ap (λ (x : Outcome). takesCommand (x .reply)) refused ∙ none-taken (conductOf f));
         }
 
--- the theorem: κs are the lifetimes of the lent words, store, message, tables, buffer and answer
-pub judges-take : (κs : Lfts 5) (p q st st′ m out inn b d w v : RefT (List ℕ)) (n : ℕ)
-    → take-in-c.Post κs (p, (st, (m, (out, (inn, (b, (w, tt))))))) n (q, (st′, (m, (out, (inn, (d, (v, tt)))))))
-    → JudgesTake (now p) (now st) (now b) (now q) (now st′) (now d) (now m) (tables (now out) (now inn)) n (now v)
-judges-take κs p q st st′ m out inn b d w v n post =
-    let P : Port = view (now p) (now st) in
-    let t : Tables = tables (now out) (now inn) in
-    judge (takeOrder P (length (now b)) (now m) t) n _ _ (post .answers .numbers .number ∙ order-number P (length (now b)) (now m) t) (taken (now m) t post) (left (now m) t post)
+pub judges-take : (l st b l′ st′ b′ s : List ℕ) (t : Tables) (n : ℕ) (w : List ℕ) → TakeInC l st b l′ st′ b′ s t n w → JudgesTake l st b l′ st′ b′ s t n w
+judges-take l st b l′ st′ b′ s t n w A =
+    judge (takeOrder (view l st) (length b) s t) n _ _ (A .answers .numbers .number ∙ order-number (view l st) (length b) s t) (taken s t A) (left s t A)

@@ -2,7 +2,7 @@
 use mathlib.Core.Path.{_≡_, refl, sym, _∙_, ap}
 use mathlib.Core.Logic.{_↔_}
 use mathlib.Core.Bool.{Bool, true, false, cond}
-use mathlib.Core.List.{List, [], _∷_}
+use mathlib.Core.List.{List, _∷_}
 use mathlib.Core.Option.{Option, none, some, Option·none-ne-some, Option·some-ne-none, Option·some-injective}
 use Prim.Native.Nat.{ℕ}
 use lib.Dec.{ltb}
@@ -14,6 +14,7 @@ use Rattle.srp.specs.Take.{Outcome}
 use Rattle.srp.specs.Calls.{unless}
 use Rattle.srp.specs.Answers.{returned, answerOf}
 use Rattle.srp.specs.Outside.{CReturn, refusingC, inBuffer}
+use Rattle.srp.specs.declared.Reply.the-variants.{Done}
 use Rattle.srp.specs.declared.Refusal.{Refusal}
 use Rattle.srp.specs.declared.Refusal.the-variants.{ShortBuffer}
 use Rattle.srp.proofs.RefusalLaws.{number-range, number-injective}
@@ -21,7 +22,7 @@ use Rattle.answer.specs.Words.{answerWords}
 use Rattle.words.specs.View.{view}
 use Rattle.exports.specs.Answered.{Answered}
 use Rattle.exports.specs.Calls.{InC, AnswersInC, StepsInC, RepliesInC}
-use Rattle.demand.specs.Judged.{Judged, Comes, Unaltered, noWords, shortAnswer}
+use Rattle.demand.specs.Judgement.{Judgement, Comes, Unaltered, Handed, noWords, shortAnswer}
 
 -- ── of any call
 
@@ -46,7 +47,7 @@ module _ (n : ℕ) where
 pub judge : (checks : List Check) (n : ℕ) (Performs : Type 0) (Leaves : Refusal → Type 0) → n ≡ numberFor (firstOf checks)
     → (firstOf checks ≡ none → Performs)
     → ((f : Refusal) → firstOf checks ≡ some f → Leaves f)
-    → Judged checks n Performs Leaves
+    → Judgement checks n Performs Leaves
 judge checks n P L e p q =
     record { refuses = numbers-one n (firstOf checks) e; unrefused = numbers-none n (firstOf checks) e; performs = p; leaves = q }
 
@@ -59,7 +60,7 @@ module _ (p : Port) (o : Outcome) (unrefused : returned (o .reply) ≡ 0) where
 
   -- with words and a lent buffer
   pub judge-answers : (checks : List Check) (l st b l′ st′ b′ : List ℕ) (n : ℕ) (w : List ℕ) → AnswersInC l st b l′ st′ b′ n w (unless (firstOf checks) p o)
-      → Judged checks n (Comes o l′ st′ b b′ w) (λ f. Unaltered l b l′ b′ w)
+      → Judgement checks n (Comes o l′ st′ b b′ w) (λ f. Unaltered l b l′ b′ w)
   judge-answers checks l st b l′ st′ b′ n w A =
       judge checks n (Comes o l′ st′ b b′ w) (λ f. Unaltered l b l′ b′ w) (A .numbers .number ∙ number-is (firstOf checks)) comes left
     where
@@ -84,7 +85,7 @@ module _ (p : Port) (o : Outcome) (unrefused : returned (o .reply) ≡ 0) where
 
   -- without words and buffer
   pub judge-replies : (checks : List Check) (l st l′ : List ℕ) (n : ℕ) → RepliesInC l st l′ n (unless (firstOf checks) p o)
-      → Judged checks n (view l′ st ≡ o .port) (λ f. l′ ≡ l)
+      → Judgement checks n (view l′ st ≡ o .port) (λ f. l′ ≡ l)
   judge-replies checks l st l′ n R =
       judge checks n (view l′ st ≡ o .port) (λ f. l′ ≡ l) (R .number ∙ number-is (firstOf checks))
       (λ e. R .call .port ∙ ap (λ (x : Option Refusal). unless x p o .port) e)
@@ -92,33 +93,33 @@ module _ (p : Port) (o : Outcome) (unrefused : returned (o .reply) ≡ 0) where
 
   -- with words alone
   pub judge-numbers : (checks : List Check) (n : ℕ) (w : List ℕ) → InC n w (unless (firstOf checks) p o)
-      → Judged checks n (w ≡ answerWords (answerOf o)) (λ f. w ≡ noWords)
+      → Judgement checks n (w ≡ answerWords (answerOf o)) (λ f. w ≡ noWords)
   judge-numbers checks n w N =
       judge checks n (w ≡ answerWords (answerOf o)) (λ f. w ≡ noWords) (N .number ∙ number-is (firstOf checks))
       (λ e. N .words ∙ ap (λ (x : Option Refusal). answerWords (answerOf (unless x p o))) e)
       (λ f e. N .words ∙ ap (λ (x : Option Refusal). answerWords (answerOf (unless x p o))) e)
 
   -- step: with words and no buffer
-  pub judge-steps : (checks : List Check) (l st l′ : List ℕ) (n : ℕ) (w : List ℕ) → o .wrote ≡ [] → StepsInC l st l′ n w (unless (firstOf checks) p o)
-      → Judged checks n (Comes o l′ st [] [] w) (λ f. Unaltered l [] l′ [] w)
-  judge-steps checks l st l′ n w nothing S =
-      judge checks n (Comes o l′ st [] [] w) (λ f. Unaltered l [] l′ [] w) (S .numbers .number ∙ number-is (firstOf checks))
+  pub judge-steps : (checks : List Check) (l st l′ : List ℕ) (n : ℕ) (w : List ℕ) → StepsInC l st l′ n w (unless (firstOf checks) p o)
+      → (unless (firstOf checks) p o .reply ≡ Done → l′ ≡ l)
+      → Judgement checks n (Handed o l l′ st w) (λ f. (w ≡ noWords) × (l′ ≡ l))
+  judge-steps checks l st l′ n w S done =
+      judge checks n (Handed o l l′ st w) (λ f. (w ≡ noWords) × (l′ ≡ l)) (S .numbers .number ∙ number-is (firstOf checks))
       (λ e. record {
         words = S .numbers .words ∙ ap (λ (x : Option Refusal). answerWords (answerOf (unless x p o))) e;
         port = S .call .port ∙ ap (λ (x : Option Refusal). unless x p o .port) e;
-        buffer = ap (λ (ss : List (List ℕ)). placed ss []) (sym nothing);
+        done = λ d. done (ap (λ (x : Option Refusal). unless x p o .reply) e ∙ d);
       })
-      (λ f e. record {
-        words = S .numbers .words ∙ ap (λ (x : Option Refusal). answerWords (answerOf (unless x p o))) e;
-        port = S .call .raw (λ z. not-zero f (sym (ap (λ (x : Option Refusal). returned (unless x p o .reply)) e) ∙ z)) .0;
-        buffer = refl;
-      })
+      (λ f e. (
+        S .numbers .words ∙ ap (λ (x : Option Refusal). answerWords (answerOf (unless x p o))) e,
+        S .call .raw (λ z. not-zero f (sym (ap (λ (x : Option Refusal). returned (unless x p o .reply)) e) ∙ z)) .0,
+      ))
 
 -- ── look and the cut: g is what C is given, by the first check that hits
 
 module _ (g : Option Refusal → CReturn) (refused : (f : Refusal) → g (some f) ≡ refusingC f) (unrefused : g none .returns ≡ 0) where
   pub judge-bytes : (checks : List Check) (room n : ℕ) (b b′ : List ℕ) → Answered n b b′ (inBuffer room (g (firstOf checks)))
-      → Judged (shortAnswer room ∷ checks) n (b′ ≡ placed (g none .wrote) b) (λ f. b′ ≡ b)
+      → Judgement (shortAnswer room ∷ checks) n (b′ ≡ placed (g none .wrote) b) (λ f. b′ ≡ b)
   judge-bytes checks room n b b′ A =
       judge (shortAnswer room ∷ checks) n (b′ ≡ placed (g none .wrote) b) (λ f. b′ ≡ b)
       (A .number ∙ ap (λ (a : CReturn). a .returns) first ∙ number (firstOf (shortAnswer room ∷ checks)))

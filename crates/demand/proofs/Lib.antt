@@ -3,6 +3,7 @@ pub mod Judging
 pub mod Judges
 pub mod JudgesTake
 pub mod JudgesLogin
+pub mod Demand1
 pub mod Holds
 pub mod Following
 pub mod Numbered

@@ -33,7 +33,7 @@ use Rattle.answer.specs.Words.{answerWords}
 use Rattle.words.specs.View.{view}
 use Rattle.exports.specs.Calls.{InC, AnswersInC, StepsInC, RepliesInC, LogsInC}
 use Rattle.demand.specs.Replies.{refusedOr, replyBy, performed, taken, stepped, loggedIn, written, messageIn}
-use Rattle.demand.specs.Judged.{readOn}
+use Rattle.demand.specs.Judgement.{readOn}
 
 -- ── one message at most
 

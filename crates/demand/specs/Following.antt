@@ -2,22 +2,26 @@
 -- back as those fields, on either side". It is said along every run from an accepted login; its premises are C's types: messages are bytes, and
 -- numbers have the widths that the header gives them.
 use mathlib.Core.Path.{_≡_}
-use mathlib.Core.Bool.{true}
-use mathlib.Core.List.{List, [], _∷_}
+use mathlib.Core.Bool.{true, false, _||_}
+use mathlib.Core.List.{List, [], _∷_, _++_}
 use Prim.Native.Nat.{ℕ, _+_, _*_, _^_, _<_, _≤_}
 use lib.ListN.{length}
 use denote.Ref.{RefT, now}
 use contract.Lifetimes.{Lfts}
+use Rattle.srp.specs.Limits.{bothFormats}
 use Rattle.srp.specs.Bytes.{Bytes, bytesOf, get, part, typeOf, write, InRange}
 use Rattle.srp.specs.Messages.{tag, formatBits, requestedLength, loginCrsolnt, loginLosolnt, channelAction, targetIdentifier, loginReq, tskMgmt, cmd, iLogout, credRsp}
-use Rattle.srp.specs.Initiator.{CommandFields, values, commandBytes, formatOf, Fit, Copied, commandIn}
-use Rattle.srp.specs.Descriptors.{agrees}
+use Rattle.srp.specs.Initiator.{CommandFields, values, commandBytes, formatOf, Fit, Copied, commandIn, Reads}
+use Rattle.srp.specs.Descriptors.{agrees, fetchOf}
 use Rattle.srp.specs.Lists.{All}
-use Rattle.srp.specs.Requests.{flag, ReadAs}
+use Rattle.srp.specs.Requests.{flag, ReadAs, badLength, otherFormats}
+use Rattle.srp.specs.Writing.{placed}
+use Rattle.srp.specs.Outside.{fetchBytes}
 use Rattle.srp.specs.Take.{Outcome, Tables, takeRead}
 use Rattle.srp.specs.Login.{loginByValues}
-use Rattle.srp.specs.Ranges.{Reached}
+use Rattle.srp.specs.Ranges.{Reached, Ranged}
 use Rattle.srp.specs.Sent.{Follows}
+use Rattle.srp.specs.declared.Descriptor.{Descriptor}
 use Rattle.srp.specs.declared.Direction.{Direction}
 use Rattle.srp.specs.declared.Message.{Message}
 use Rattle.srp.specs.declared.Message.the-variants.{Cmd, TskMgmt, CredRsp, ILogout}
@@ -25,7 +29,10 @@ use Rattle.srp.specs.declared.Terms.{Terms}
 use Rattle.srp.specs.declared.Reply.{Reply}
 use Rattle.srp.specs.declared.Reply.the-variants.{Accepted}
 use Rattle.request.proofs.read_message.Reads as read-message
+use Rattle.words.specs.View.{view}
 use Rattle.exports.specs.Arguments.{settingsIn}
+use Rattle.exports.proofs.srp_look.Reads as look-in-c
+use Rattle.demand.specs.Judgement.{readOn}
 use Rattle.demand.specs.Calls.{Memory, seen, LoggedIn, Took, Finished, Granted, Ended, Planned, Stepped, Added, Withdrew}
 
 -- ── the calls
@@ -43,27 +50,32 @@ pub data PortCall : Type 0 where
 
 -- ── a message put to take
 
--- a command that an initiator may write to a port with these terms: its values are in their ranges, its CDB has the length that n says, its formats are
--- agreed, its copies fit, and it is not too long
-pub record Sendable (T : Terms) (c : CommandFields) : Type 0 where
+-- a command that an initiator may write where this length and these formats are agreed: its values are in their ranges, its CDB has the length that n
+-- says, its formats are agreed, its copies fit, and it is not too long
+pub record Sendable (agreed formats : ℕ) (c : CommandFields) : Type 0 where
   pub ranged : InRange (cmd .fields) (values c)
   pub cdb : length (c .cdb) ≡ 16 + 4 * c .n
-  pub out-fits : Fit (c .out) × Copied (c .out) × (agrees (T .formats) (formatOf (c .out)) ≡ true)
-  pub in-fits : Fit (c .inn) × Copied (c .inn) × (agrees (T .formats) (formatOf (c .inn)) ≡ true)
-  pub long : length (commandBytes c) ≤ T .agreed
+  pub out-fits : Fit (c .out) × Copied (c .out) × (agrees formats (formatOf (c .out)) ≡ true)
+  pub in-fits : Fit (c .inn) × Copied (c .inn) × (agrees formats (formatOf (c .inn)) ≡ true)
+  pub long : length (commandBytes c) ≤ agreed
 
--- a message msg put to take on s, whose answer, port and messages are the outcome o
+-- a message msg put to take on s, whose reply, port and messages are the outcome o
 pub record Receives (s : Memory) (room : ℕ) (t : Tables) (msg : List ℕ) (o : Outcome) : Type 0 where
-  -- it is read as the fields of its layout, and the outcome is that of what was read: whatever `read_message` answers by its own contract
-  pub reads : (κs : Lfts 1) (m : RefT (List ℕ)) → now m ≡ msg → (x : Message)
+  -- it is read as the fields of its layout, and the outcome is that of what was read
+  pub layout : ReadAs (seen s .terms .agreed) msg (readOn (seen s) msg)
+  pub outcome : o ≡ takeRead (seen s) room msg t (readOn (seen s) msg)
+  -- `read_message` reads it so, by its own contract
+  pub reader : (κs : Lfts 1) (m : RefT (List ℕ)) → now m ≡ msg → (x : Message)
       → let T : Terms = seen s .terms in
-      read-message.Post κs (m, (T .agreed, (T .formats, tt))) x (m, (T .agreed, (T .formats, tt))) → ReadAs (T .agreed) msg x × (o ≡ takeRead (seen s) room msg t x)
-  -- written by the layouts while the channel is open, it is taken as the values that were written
+      read-message.Post κs (m, (T .agreed, (T .formats, tt))) x (m, (T .agreed, (T .formats, tt))) → x ≡ readOn (seen s) msg
+  -- written by the layouts while the channel is open, it is read as the values that were written
   pub task : seen s .live ≡ true → (u c g l f k : ℕ) → InRange (tskMgmt .fields) (u ∷ c ∷ g ∷ l ∷ f ∷ k ∷ []) → msg ≡ write tskMgmt (u ∷ c ∷ g ∷ l ∷ f ∷ k ∷ [])
       → o ≡ takeRead (seen s) room msg t (TskMgmt (record { request = record { tag = g; lun = l; ucsolnt = flag u; scsolnt = flag c }; function = f; managed = k }))
   pub credit : seen s .live ≡ true → (g : ℕ) → InRange (credRsp .fields) (g ∷ []) → msg ≡ write credRsp (g ∷ []) → o ≡ takeRead (seen s) room msg t (CredRsp g)
   pub logout : seen s .live ≡ true → (vs : List ℕ) → InRange (iLogout .fields) vs → msg ≡ write iLogout vs → o ≡ takeRead (seen s) room msg t ILogout
-  pub command : (c : CommandFields) → Sendable (seen s .terms) c → msg ≡ commandBytes c → o ≡ takeRead (seen s) room msg t (Cmd (commandIn c msg))
+  -- of a command also the CDB and both buffers, with their addresses, handles and lengths (`Reads`)
+  pub command : (c : CommandFields) → Sendable (seen s .terms .agreed) (seen s .terms .formats) c → msg ≡ commandBytes c
+      → Reads c msg × (o ≡ takeRead (seen s) room msg t (Cmd (commandIn c msg)))
 
 -- ── what each call is
 
@@ -107,9 +119,10 @@ abbrev pub InRoom : ℕ → List ℕ → Type 0
 InRoom room m = Follows m × (length m ≤ room)
 
 pub record ByLayouts (s : Memory) (c : PortCall) (r : Reply) (ss : List (List ℕ)) (s′ : Memory) : Type 0 where
-  -- both ports are ones that a login made and calls changed
+  -- both ports are ones that a login made and calls changed, and the port after it has the ranges of those
   pub reached : Reached (seen s)
   pub reached′ : Reached (seen s′)
+  pub ranged′ : Ranged (seen s′)
   pub writes : All (InRoom (callingOf c .room)) ss
   pub received : callingOf c .received s (record { reply = r; port = seen s′; wrote = ss })
 
@@ -124,3 +137,21 @@ pub record LoginByLayouts (settings own msg : List ℕ) (room : ℕ) (o : Outcom
   -- and one that was written by the layout, as the values that were written
   pub request : (t n f c l a i g : ℕ) → InRange (loginReq .fields) (t ∷ n ∷ f ∷ c ∷ l ∷ a ∷ i ∷ g ∷ []) → msg ≡ write loginReq (t ∷ n ∷ f ∷ c ∷ l ∷ a ∷ i ∷ g ∷ [])
       → o ≡ loginByValues (settingsIn settings) own room t n f c l a (bytesOf 16 g)
+
+-- ── and of look
+
+-- a command that was written by the layouts is read as its values, and look names the tables of its two buffers
+abbrev pub LookByLayouts : (agreed formats : ℕ) (msg b b′ : List ℕ) (n : ℕ) → Type 0
+LookByLayouts agreed formats msg b b′ n =
+    (c : CommandFields) → Sendable agreed formats c → msg ≡ commandBytes c → (badLength agreed || otherFormats bothFormats formats) ≡ false → 32 ≤ length b
+    → let f : Descriptor → List ℕ = λ d. fetchBytes (fetchOf d msg) in
+    Reads c msg × (n ≡ 0) × (b′ ≡ placed ((f (commandIn c msg .out) ++ f (commandIn c msg .inn)) ∷ []) b)
+
+-- ── demand 2, whole
+
+pub record Demand2InC : Type 0 where
+  pub calls : (s s′ : Memory) (c : PortCall) (r : Reply) (ss : List (List ℕ)) → Led s → callingOf c .typed → callingOf c .made s r ss s′ → ByLayouts s c r ss s′
+  pub login : (settings own msg : List ℕ) (room : ℕ) (r : Reply) (ss : List (List ℕ)) (p store : List ℕ) → Bytes msg → LoggedIn settings own msg room r ss p
+      → LoginByLayouts settings own msg room (record { reply = r; port = view p store; wrote = ss })
+  pub look : (κs : Lfts 2) (m b d : RefT (List ℕ)) (agreed formats n : ℕ) → look-in-c.Post κs (m, (agreed, (formats, (b, tt)))) n (m, (agreed, (formats, (d, tt))))
+      → LookByLayouts agreed formats (now m) (now b) (now d) n

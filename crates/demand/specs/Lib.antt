@@ -1,6 +1,7 @@
 pub mod Replies
 pub mod Calls
-pub mod Judged
-pub mod Holding
+pub mod Judgement
+pub mod Demand1
 pub mod Following
+pub mod Holding
 pub mod Numbered

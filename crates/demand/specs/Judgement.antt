@@ -34,7 +34,7 @@ use Rattle.demand.specs.Replies.{replyBy, loggedIn}
 -- ── one record for every call
 
 -- of a call with these checks, in document 01's order: what it does where none hits, and what each refusal leaves
-pub record Judged (checks : List Check) (n : ℕ) (Performs : Type 0) (Leaves : Refusal → Type 0) : Type 0 where
+pub record Judgement (checks : List Check) (n : ℕ) (Performs : Type 0) (Leaves : Refusal → Type 0) : Type 0 where
   -- refused with f exactly if f is the first of the checks that hits
   pub refuses : (f : Refusal) → (n ≡ numberOf f) ↔ (firstOf checks ≡ some f)
   pub unrefused : (n ≡ 0) ↔ (firstOf checks ≡ none)
@@ -85,7 +85,7 @@ pub record Left (l st b l′ st′ b′ s w : List ℕ) (f : Refusal) : Type 0 w
 abbrev pub JudgesTake : (l st b l′ st′ b′ s : List ℕ) → Tables → (n : ℕ) (w : List ℕ) → Type 0
 JudgesTake l st b l′ st′ b′ s t n w =
     let o : Outcome = accepted (view l st) s t (readOn (view l st) s) in
-    Judged (takeOrder (view l st) (length b) s t) n (Comes o l′ st′ b b′ w × Stores l st l′ st′ (o .reply)) (Left l st b l′ st′ b′ s w)
+    Judgement (takeOrder (view l st) (length b) s t) n (Comes o l′ st′ b b′ w × Stores l st l′ st′ (o .reply)) (Left l st b l′ st′ b′ s w)
 
 -- ── login with the settings c, whose own identifier is `own`, by its rejections
 
@@ -97,55 +97,65 @@ pub record LoginJudged (c : Settings) (own s l′ st b b′ : List ℕ) (n : ℕ
   -- a rejection leaves the closed port's words
   pub closed : (reason : ℕ) → firstOf (rejections c own s) ≡ some reason → l′ ≡ closedWords
 
--- "without an accepted login it is closed": a refused login leaves the closed port's words too
+-- "without an accepted login it is closed": a refused login leaves the closed port's words, and the buffer as it was
+pub record LoginRefused (b l′ b′ w : List ℕ) : Type 0 where
+  pub words : w ≡ noWords
+  pub port : l′ ≡ closedWords
+  pub buffer : b′ ≡ b
+
 abbrev pub JudgesLogin : (b l′ b′ settings own s : List ℕ) (n : ℕ) (w : List ℕ) → Type 0
 JudgesLogin b l′ b′ settings own s n w =
     (st : List ℕ)
-    → Judged (loginChecks (settingsIn settings) (length b) s) n (LoginJudged (settingsIn settings) own s l′ st b b′ n w) (λ f. Unaltered closedWords b l′ b′ w)
+    → let c : Settings = settingsIn settings in
+    Judgement (loginChecks c (length b) s) n (LoginJudged c own s l′ st b b′ n w) (λ f. LoginRefused b l′ b′ w)
 
 -- ── the other calls on a port; those that are not lent the store, for every store
 
 abbrev pub JudgesPlan : (l l′ : List ℕ) (tag out inn n : ℕ) → Type 0
-JudgesPlan l l′ tag out inn n = (st : List ℕ) → Judged (planChecks (view l st) tag) n (view l′ st ≡ planOutcome (view l st) tag out inn .port) (λ f. l′ ≡ l)
+JudgesPlan l l′ tag out inn n = (st : List ℕ) → Judgement (planChecks (view l st) tag) n (view l′ st ≡ planOutcome (view l st) tag out inn .port) (λ f. l′ ≡ l)
 
--- a step that says done alters no word
+-- step has words and no buffer; one that says done alters no word of the port
+pub record Handed (o : Outcome) (l l′ st w : List ℕ) : Type 0 where
+  pub words : w ≡ answerWords (answerOf o)
+  pub port : view l′ st ≡ o .port
+  pub done : o .reply ≡ Done → l′ ≡ l
+
 abbrev pub JudgesStep : (l l′ st : List ℕ) (tag direction n : ℕ) (w : List ℕ) → Type 0
 JudgesStep l l′ st tag direction n w =
-    let o : Outcome = stepOutcome (view l st) tag (directionIn direction) in
-    Judged (stepChecks (view l st) tag) n (Comes o l′ st [] [] w × (o .reply ≡ Done → l′ ≡ l)) (λ f. Unaltered l [] l′ [] w)
+    Judgement (stepChecks (view l st) tag) n (Handed (stepOutcome (view l st) tag (directionIn direction)) l l′ st w) (λ f. (w ≡ noWords) × (l′ ≡ l))
 
 abbrev pub JudgesFinish : (l b l′ b′ : List ℕ) (tag status : ℕ) (sense : List ℕ) (n : ℕ) (w : List ℕ) → Type 0
 JudgesFinish l b l′ b′ tag status sense n w =
     (st : List ℕ)
-    → Judged (finishChecks (view l st) (length b) tag status sense) n (Comes (finishOutcome (view l st) tag status sense) l′ st b b′ w) (λ f. Unaltered l b l′ b′ w)
+    → Judgement (finishChecks (view l st) (length b) tag status sense) n (Comes (finishOutcome (view l st) tag status sense) l′ st b b′ w) (λ f. Unaltered l b l′ b′ w)
 
 abbrev pub JudgesAdd : (l l′ : List ℕ) (k n : ℕ) → Type 0
-JudgesAdd l l′ k n = (st : List ℕ) → Judged (addChecks (view l st) k) n (view l′ st ≡ addOutcome (view l st) k .port) (λ f. l′ ≡ l)
+JudgesAdd l l′ k n = (st : List ℕ) → Judgement (addChecks (view l st) k) n (view l′ st ≡ addOutcome (view l st) k .port) (λ f. l′ ≡ l)
 
 abbrev pub JudgesWithdraw : (l l′ : List ℕ) (k n : ℕ) → Type 0
-JudgesWithdraw l l′ k n = (st : List ℕ) → Judged (withdrawChecks (view l st) k) n (view l′ st ≡ withdrawOutcome (view l st) k .port) (λ f. l′ ≡ l)
+JudgesWithdraw l l′ k n = (st : List ℕ) → Judgement (withdrawChecks (view l st) k) n (view l′ st ≡ withdrawOutcome (view l st) k .port) (λ f. l′ ≡ l)
 
 abbrev pub JudgesGrant : (l b l′ b′ : List ℕ) (n : ℕ) (w : List ℕ) → Type 0
 JudgesGrant l b l′ b′ n w =
-    (st : List ℕ) → Judged (grantChecks (view l st) (length b)) n (Comes (grantOutcome (view l st)) l′ st b b′ w) (λ f. Unaltered l b l′ b′ w)
+    (st : List ℕ) → Judgement (grantChecks (view l st) (length b)) n (Comes (grantOutcome (view l st)) l′ st b b′ w) (λ f. Unaltered l b l′ b′ w)
 
 -- an unrefused close leaves the closed port's words
 abbrev pub JudgesClose : (l b l′ b′ : List ℕ) (reason n : ℕ) (w : List ℕ) → Type 0
 JudgesClose l b l′ b′ reason n w =
     (st : List ℕ)
-    → Judged (closeChecks (view l st) (length b)) n (Comes (closeOutcome (view l st) reason) l′ st b b′ w × (l′ ≡ closedWords)) (λ f. Unaltered l b l′ b′ w)
+    → Judgement (closeChecks (view l st) (length b)) n (Comes (closeOutcome (view l st) reason) l′ st b b′ w × (l′ ≡ closedWords)) (λ f. Unaltered l b l′ b′ w)
 
 -- ── counters and listing, which change no word
 
 abbrev pub JudgesCounters : (l : List ℕ) (n : ℕ) (w : List ℕ) → Type 0
-JudgesCounters l n w = (st : List ℕ) → Judged (countersChecks (view l st)) n (w ≡ answerWords (answerOf (countersOutcome (view l st)))) (λ f. w ≡ noWords)
+JudgesCounters l n w = (st : List ℕ) → Judgement (countersChecks (view l st)) n (w ≡ answerWords (answerOf (countersOutcome (view l st)))) (λ f. w ≡ noWords)
 
 -- the lent words before and after it hold a fourth as many records
 abbrev pub JudgesList : (l before after : List ℕ) (n : ℕ) (w : List ℕ) → Type 0
 JudgesList l before after n w =
     (st : List ℕ)
     → let records : List ℕ = allWords (listing (view l st)) in
-    Judged (listChecks (view l st) (length before / recordSize)) n
+    Judgement (listChecks (view l st) (length before / recordSize)) n
     ((w ≡ answerWords (answerOf (listOutcome (view l st)))) × (after ≡ records ++ drop (length records) before))
     (λ f. (w ≡ noWords) × (after ≡ before))
 
@@ -157,12 +167,12 @@ shortAnswer room = (ltb room 32, ShortBuffer)
 
 abbrev pub JudgesLook : (agreed formats : ℕ) (s b b′ : List ℕ) (n : ℕ) → Type 0
 JudgesLook agreed formats s b b′ n =
-    Judged (shortAnswer (length b) ∷ lookChecks agreed formats s) n
+    Judgement (shortAnswer (length b) ∷ lookChecks agreed formats s) n
     (b′ ≡ placed ((fetchBytes (fetchOf (outDescriptor s) s) ++ fetchBytes (fetchOf (inDescriptor s) s)) ∷ []) b)
     (λ f. b′ ≡ b)
 
 abbrev pub JudgesCut : (list : List ℕ) (M R handed : ℕ) (b b′ : List ℕ) (n : ℕ) → Type 0
 JudgesCut list M R handed b b′ n =
-    Judged (shortAnswer (length b) ∷ cutChecks list M R handed) n
+    Judgement (shortAnswer (length b) ∷ cutChecks list M R handed) n
     (b′ ≡ placed (cutAnswer (cutNext (next (upTo M) handed (min R (sumOf (segmentsOf list))) (segmentsOf list))) .wrote) b)
     (λ f. b′ ≡ b)
