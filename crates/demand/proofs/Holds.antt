@@ -7,7 +7,6 @@ use Prim.Native.Nat.{ℕ, _/_}
 use borrow.Author.Tests.{le-ltb}
 use lib.ListN.{length, drop}
 use denote.Ref.{RefT, now}
-use contract.Lifetimes.{Lfts}
 use Rattle.srp.specs.Limits.{mostBuffers}
 use Rattle.srp.specs.Refusals.{firstOf}
 use Rattle.srp.specs.Credit.{Port, owed}
@@ -32,13 +31,13 @@ use Rattle.answer.specs.Words.{answerWords}
 use Rattle.words.specs.View.{view}
 use Rattle.take.specs.Taking.{tables}
 use Rattle.exports.specs.Arguments.{recordSize, allWords, settingsIn, directionIn}
-use Rattle.exports.specs.Calls.{InC, AnswersInC, RepliesInC, ListsInC}
+use Rattle.exports.specs.Calls.{InC, AnswersInC, RepliesInC, CountersInC, ListInC}
 use Rattle.exports.proofs.Listing.{counters-unwritten, list-unwritten}
 use Rattle.exports.proofs.port.srp_target_counters.Reads as counters-in-c
 use Rattle.exports.proofs.port.srp_target_list.Reads as list-in-c
 use Rattle.demand.specs.Replies.{performed}
 use Rattle.demand.specs.Calls.{Memory, seen, LoggedIn, Took, WithMessage, Finished, Granted, Ended, WithoutMessage, Planned, Stepped, Added, Withdrew, Untouched, TookFront, Call}
-use Rattle.demand.specs.Holding.{Holds, Reports, Lists}
+use Rattle.demand.specs.Holding.{Holds, Reports, Lists, Demand3InC}
 use Rattle.demand.proofs.Told as told
 
 -- ── each call that was made is its definition's
@@ -118,7 +117,7 @@ logged-in l store =
     rw (← l .settings-are, ← l .own-is, ← l .message, ← l .gave .room-is, ← l .gave .reply, ← l .gave .wrote, ← l .words)
     (told.logs-in (l .post store) (told.login-told (settingsIn (now (l .c))) (now (l .id)) (length (now (l .b))) (now (l .m))))
 
-pub holds : (settings own msg : List ℕ) (room : ℕ) (ss : List (List ℕ)) (p store : List ℕ) → Holds settings own msg room ss p store
+holds : (settings own msg : List ℕ) (room : ℕ) (ss : List (List ℕ)) (p store : List ℕ) → Holds settings own msg room ss p store
 holds settings own msg room ss p store l es run f =
     let c : Settings = settingsIn settings in
     let e = logged-in l store in
@@ -126,27 +125,33 @@ holds settings own msg room ss p store l es run f =
 
 -- ── what the owner reads while the channel is open: document 01's "Owed is the D that the port reports"
 
-module _ (L : Login) (m : Machine) (s : Memory) (now-holds : Now L m (seen s)) (p : RefT (List ℕ)) (words : now p ≡ s .words) (w v : RefT (List ℕ)) (n : ℕ) where
-  -- an unrefused call that writes nothing, by its reply
-  in-words : (o : Outcome) (r : Reply) → o .reply ≡ r → o .wrote ≡ [] → InC n (now v) o → (n ≡ returned r) × (now v ≡ answerWords (record { reply = r; wrote = 0 }))
-  in-words o r e f N = (
-    N .number ∙ ap returned e,
-    N .words ∙ ap (λ (a : Answer). answerWords a) (λ i. record { reply = e i; wrote = sizeOf (f i) }),
-  )
+-- an unrefused call that writes nothing, by its reply
+in-words : (o : Outcome) (r : Reply) (n : ℕ) (w : List ℕ) → o .reply ≡ r → o .wrote ≡ [] → InC n w o → (n ≡ returned r) × (w ≡ answerWords (record { reply = r; wrote = 0 }))
+in-words o r n w e f N = (
+  N .number ∙ ap returned e,
+  N .words ∙ ap (λ (a : Answer). answerWords a) (λ i. record { reply = e i; wrote = sizeOf (f i) }),
+)
 
-  pub reports : (κs : Lfts 2) → counters-in-c.Post κs (p, (w, tt)) n (p, (v, tt)) → Reports L m s n (now v)
-  reports κs post =
-      in-words (countersDef (seen s)) (Counts (counted L m (owed (seen s)))) (now-holds .reports) (counters-unwritten (seen s))
-      (subst (λ (l : List ℕ). InC n (now v) (countersDef (view l (s .store)))) words (post (s .store)))
+module _ (L : Login) (m : Machine) (s : Memory) (is : Now L m (seen s)) (n : ℕ) (w : List ℕ) where
+  reports : CountersInC (s .words) n w → Reports L m s n w
+  reports C = in-words (countersDef (seen s)) (Counts (counted L m (owed (seen s)))) n w (is .reports) (counters-unwritten (seen s)) (C (s .store))
 
-  pub lists : (κs : Lfts 3) (before after : RefT (List ℕ)) → list-in-c.Post κs (p, (before, (w, tt))) n (p, (after, (v, tt))) → Lists m (now before) (now after) n (now v)
-  lists κs before after post room =
-      let R : ListsInC (seen s) (now before) (now after) n (now v) = subst (λ (l : List ℕ). ListsInC (view l (s .store)) (now before) (now after) n (now v)) words (post (s .store)) in
-      let k : ℕ = length (now before) / recordSize in
+  lists : (before after : List ℕ) → ListInC (s .words) before after n w → Lists m before after n w
+  lists before after C room =
+      let k : ℕ = length before / recordSize in
       let e : listDef (seen s) k .reply ≡ Listed (requestsHeld m) =
-      ap (λ (b : Bool). unless (firstOf (def.closed (seen s) ∷ (b, Argument) ∷ [])) (seen s) (listOutcome (seen s)) .reply) (le-ltb k mostBuffers room) ∙ now-holds .lists in
-      let N = in-words (listDef (seen s) k) (Listed (requestsHeld m)) e (list-unwritten (seen s) k) (R .numbers) in (
+      ap (λ (b : Bool). unless (firstOf (def.closed (seen s) ∷ (b, Argument) ∷ [])) (seen s) (listOutcome (seen s)) .reply) (le-ltb k mostBuffers room) ∙ is .lists in
+      let N = in-words (listDef (seen s) k) (Listed (requestsHeld m)) n w e (list-unwritten (seen s) k) (C (s .store) .numbers) in (
         N .0,
         N .1,
-        R .listed (N .0) ∙ ap (λ (x : List Record). allWords x ++ drop (length (allWords x)) (now before)) (now-holds .listed),
+        C (s .store) .listed (N .0) ∙ ap (λ (x : List Record). allWords x ++ drop (length (allWords x)) before) (is .listed),
       )
+
+pub demand-3-in-c : Demand3InC
+demand-3-in-c =
+    record {
+      holds = holds;
+      reports = λ L m s is κs p w v n e post. reports L m s is n (now v) (subst (λ (l : List ℕ). CountersInC l n (now v)) e post);
+      lists = λ L m s is κs p before after w v n e post.
+          lists L m s is n (now v) (now before) (now after) (subst (λ (l : List ℕ). ListInC l (now before) (now after) n (now v)) e post);
+    }

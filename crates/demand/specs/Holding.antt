@@ -3,15 +3,19 @@ use mathlib.Core.Path.{_≡_}
 use mathlib.Core.List.{List, _∷_, _++_, map}
 use Prim.Native.Nat.{ℕ, _/_, _≤_}
 use lib.ListN.{length, drop, replicate}
+use denote.Ref.{RefT, now}
+use contract.Lifetimes.{Lfts}
 use Rattle.srp.specs.Limits.{mostBuffers}
 use Rattle.srp.specs.Credit.{owed}
 use Rattle.srp.specs.declared.Settings.{Settings}
 use Rattle.srp.specs.declared.Reply.the-variants.{Accepted, Counts}
 use Rattle.machine.specs.Machine.{shownAs, Machine, start, requestsHeld, Login, loginOf}
 use Rattle.machine.specs.Events.{Event}
-use Rattle.machine.specs.Demand.{counted, Run, Fair, Demand}
+use Rattle.machine.specs.Demand.{counted, Now, Run, Fair, Demand}
 use Rattle.answer.specs.Words.{answerWords}
 use Rattle.exports.specs.Arguments.{recordSize, allWords, settingsIn}
+use Rattle.exports.proofs.port.srp_target_counters.Reads as counters-in-c
+use Rattle.exports.proofs.port.srp_target_list.Reads as list-in-c
 use Rattle.demand.specs.Calls.{Memory, seen, LoggedIn, Call}
 
 -- the login with these settings and this message was accepted and left the words p, and each call is made on the words and the store that the last
@@ -35,3 +39,14 @@ Lists m before after n w =
     mostBuffers ≤ length before / recordSize
     → let records : List ℕ = allWords (map shownAs (m .work .tracks)) in
     (n ≡ 0) × (w ≡ requestsHeld m ∷ replicate 7 0) × (after ≡ records ++ drop (length records) before)
+
+-- ── demand 3, whole; of the listing and the counters, wherever `Now` holds of the machine and the words p
+
+pub record Demand3InC : Type 0 where
+  pub holds : (settings own msg : List ℕ) (room : ℕ) (ss : List (List ℕ)) (p store : List ℕ) → Holds settings own msg room ss p store
+  pub reports : (L : Login) (m : Machine) (s : Memory) → Now L m (seen s) → (κs : Lfts 2) (p w v : RefT (List ℕ)) (n : ℕ) → now p ≡ s .words
+      → counters-in-c.Post κs (p, (w, tt)) n (p, (v, tt))
+      → Reports L m s n (now v)
+  pub lists : (L : Login) (m : Machine) (s : Memory) → Now L m (seen s) → (κs : Lfts 3) (p before after w v : RefT (List ℕ)) (n : ℕ) → now p ≡ s .words
+      → list-in-c.Post κs (p, (before, (w, tt))) n (p, (after, (v, tt)))
+      → Lists m (now before) (now after) n (now v)
