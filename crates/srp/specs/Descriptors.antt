@@ -32,7 +32,8 @@ abbrev pub sumOf : List Segment → ℕ
 sumOf [] = 0
 sumOf (s ∷ ss) = s .len + sumOf ss
 
--- "Format 0: no bytes. 1: one memory descriptor. 2: table descriptor, total length (4 bytes), then count c copies; 20 + 16c bytes"
+-- "Format 0: no bytes. 1: one memory descriptor, its only segment. 2: table descriptor, total length (4 bytes), then count c copies; 20 + 16c
+-- bytes"
 abbrev pub descriptorSize : ℕ → ℕ → ℕ
 descriptorSize format count = cond (eqb format 1) 16 (cond (eqb format 2) (20 + 16 * count) 0)
 

@@ -10,7 +10,7 @@ use Rattle.srp.specs.Limits.{bufferSize}
 use Rattle.srp.specs.declared.Refusal.{Refusal}
 use Rattle.srp.specs.declared.Refusal.the-variants.{ShortBuffer, Setting, Length, OtherType, OutFormat, InFormat, OutCount, InCount, TableLength, Fields, Argument, Closed, NoCredit, TagOpen, TagNotOpen, CreditResponse, Unanswered, NotOwed, Wanted, Unplanned, Planned}
 
--- what take does that draws a refusal
+-- what a take that draws a refusal does
 pub data Conduct : Type 0 where
   -- "write SRP_T_LOGOUT, drop all commands and close"
   hangsUp : (reason : ℕ) → Conduct
@@ -21,7 +21,7 @@ pub data Conduct : Type 0 where
   -- the same, but the message leaves its queue
   altersNothing : Conduct
 
--- each refusal's number, and what take does that draws it: "Take's 3 to 8, 22, 23 and 25 write SRP_T_LOGOUT ..; reasons 0, but 6, 7, 8, 9 for
+-- each refusal's number, and what a take that draws it does: "Take's 3 to 8, 22, 23 and 25 write SRP_T_LOGOUT ..; reasons 0, but 6, 7, 8, 9 for
 -- 5, 6, 7, 8. Refusal 10 is taken and answered"; "On refusals 1 and 9 the message stays there, else it leaves"
 abbrev pub entry : Refusal → ℕ × Conduct
 -- from the message or the caller

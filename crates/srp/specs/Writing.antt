@@ -14,7 +14,8 @@ use Rattle.srp.specs.declared.Request.{Request}
 use Rattle.srp.specs.declared.Residual.{Residual}
 use Rattle.srp.specs.declared.Residual.the-variants.{Even, Over, Under}
 
--- "Residual per direction. R > B: over, R - B. Else moved < B: under, B - moved, moved being the bytes handed out. Else no flag, count 0"
+-- "Residual per direction: R > B: over, R - B. Else moved < B: under, B - moved, moved being the bytes handed out (unplanned: R = 0). Else no flag,
+-- count 0"
 abbrev pub residualOf : Side → Residual
 residualOf s =
     let B : ℕ = s .extent .total in
