@@ -9,7 +9,7 @@ use Prim.Native.Nat.{ℕ}
 use lib.Dec.{ltb}
 use lib.ListN.{length}
 use Rattle.srp.specs.Limits.{bufferSize}
-use Rattle.srp.specs.Refusals.{Conduct, hangsUp, answered, stays, altersNothing, numberOf, conductOf, firstOf}
+use Rattle.srp.specs.Refusals.{Conduct, hangsUp, answered, stays, altersNothing, conductOf, firstOf}
 use Rattle.srp.specs.Credit.{Port}
 use Rattle.srp.specs.Writing.{placed}
 use Rattle.srp.specs.Take.{Outcome, Tables, laterChecks, takeChecks, conducted, refusedBy, accepted, takeBy, takeDef}
@@ -17,29 +17,23 @@ use Rattle.srp.specs.Order.{takeOrder}
 use Rattle.srp.specs.Answers.{returned, sizeOf, answerOf}
 use Rattle.srp.specs.declared.Refusal.{Refusal}
 use Rattle.srp.specs.declared.Refusal.the-variants.{ShortBuffer, Closed}
+use Rattle.srp.specs.declared.Reply.the-variants.{Refused}
 use Rattle.srp.specs.declared.Message.{Message}
 use Rattle.srp.specs.declared.Message.the-variants.{Bad, Cmd, TskMgmt, CredRsp, ILogout}
 use Rattle.srp.proofs.Checks.{passes}
-use Rattle.srp.proofs.Refusing.{take-order}
+use Rattle.srp.proofs.Refusing.{refused-as, take-order}
 use Rattle.answer.specs.Words.{answerWords}
 use Rattle.words.specs.View.{view}
 use Rattle.take.specs.Taking.{takesCommand, Stores}
 use Rattle.exports.specs.Calls.{TakeInC}
-use Rattle.demand.specs.Judgement.{noWords, Comes, Unaltered, readOn, Left, JudgesTake}
+use Rattle.demand.specs.Judgement.{Comes, Unaltered, readOn, Left, JudgesTake}
 use Rattle.demand.proofs.Judging.{numberFor, not-zero, judge}
 
 -- ── of the definition
 
 module _ (p : Port) (room : ℕ) (s : List ℕ) (t : Tables) where
-  -- what is returned where a refusal is drawn
-  refused-number : (m : Message) (f : Refusal) (c : Conduct) → returned (conducted c p m f .reply) ≡ numberOf f
-  refused-number m f (hangsUp reason) = refl
-  refused-number m f answered = refl
-  refused-number m f stays = refl
-  refused-number m f altersNothing = refl
-
   take-number : (m : Message) (x : Option Refusal) → firstOf (takeChecks p room s t m) ≡ x → returned (takeBy x p s t m .reply) ≡ numberFor x
-  take-number m (some f) e = refused-number m f (conductOf f)
+  take-number m (some f) e = ap returned (refused-as p m f)
   take-number (Bad r) none e = absurd (true≢false (passes (takeChecks p room s t (Bad r)) e .1 .1 .0))
   take-number (Cmd c) none e = refl
   take-number (TskMgmt k) none e = refl
@@ -105,31 +99,14 @@ module _ {l st b l′ st′ b′ : List ℕ} {n : ℕ} {w : List ℕ} (s : List 
       -- nothing is altered where nothing is written
       same : conducted c (view l st) (readOn (view l st) s) f .wrote ≡ [] → Unaltered l b l′ b′ w
       same z =
-          let size : answerOf (takeDef (view l st) (length b) s t) .wrote ≡ 0 = ap (λ (x : Outcome). sizeOf (x .wrote)) outcome ∙ ap sizeOf z in
-          let not-zero-is : returned (takeDef (view l st) (length b) s t .reply) ≡ 0 → ⊥ =
-          λ q. not-zero f (sym (ap numberFor e) ∙ sym (order-number (view l st) (length b) s t) ∙ q) in
+          let o : Outcome = takeDef (view l st) (length b) s t in
+          let reply : o .reply ≡ Refused f = ap (λ (x : Outcome). x .reply) refused ∙ refused-as (view l st) (readOn (view l st) s) f in
+          let size : sizeOf (o .wrote) ≡ 0 = ap (λ (x : Outcome). sizeOf (x .wrote)) outcome ∙ ap sizeOf z in
           record {
-            words =
-                A .answers .numbers .words
-                ∙ ap (λ (x : Outcome). answerWords (answerOf x)) outcome
-                ∙ ap (λ (k : ℕ). answerWords (record { reply = conducted c (view l st) (readOn (view l st) s) f .reply; wrote = k })) (ap sizeOf z)
-                ∙ refusal-words c;
-            port = A .answers .call .raw not-zero-is size .0;
+            words = A .answers .numbers .words ∙ (λ i. answerWords (record { reply = reply i; wrote = size i }));
+            port = A .answers .call .raw (λ q. not-zero f (sym (ap returned reply) ∙ q)) size .0;
             buffer = buffer-is ∙ ap (λ (x : List (List ℕ)). placed x b) z;
           }
-        where
-          refusal-words : (c : Conduct) → answerWords (record { reply = conducted c (view l st) (readOn (view l st) s) f .reply; wrote = 0 }) ≡ noWords
-          refusal-words (hangsUp reason) = refl
-          refusal-words answered = refl
-          refusal-words stays = refl
-          refusal-words altersNothing = refl
-
-    -- no refusal takes a command into the store
-    none-taken : (c : Conduct) → takesCommand (conducted c (view l st) (readOn (view l st) s) f .reply) ≡ false
-    none-taken (hangsUp reason) = refl
-    none-taken answered = refl
-    none-taken stays = refl
-    none-taken altersNothing = refl
 
     left : Left l st b l′ st′ b′ s w f
     left =
@@ -144,7 +121,7 @@ module _ {l st b l′ st′ b′ : List ℕ} {n : ℕ} {w : List ℕ} (s : List 
           responded = λ h. (port-is answered h, buffer-is answered h);
           stayed = λ h. same stays h refl;
           unaltered = λ h. same altersNothing h refl;
-          store = A .store .kept (ap (λ (x : Outcome). takesCommand (x .reply)) refused ∙ none-taken (conductOf f));
+          store = A .store .kept (ap (λ (x : Outcome). takesCommand (x .reply)) refused ∙ ap takesCommand (refused-as (view l st) (readOn (view l st) s) f));
         }
 
 pub judges-take : (l st b l′ st′ b′ s : List ℕ) (t : Tables) (n : ℕ) (w : List ℕ) → TakeInC l st b l′ st′ b′ s t n w → JudgesTake l st b l′ st′ b′ s t n w

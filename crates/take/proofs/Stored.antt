@@ -1,17 +1,18 @@
 -- The store after take: unless a command was taken it is as it was.
 -- Assumes nothing.
 use mathlib.Core.Path.{_≡_, refl, sym, _∙_, ap}
-use mathlib.Core.Bool.{Bool, true, false, true≢false}
+use mathlib.Core.Bool.{true, false, true≢false}
 use mathlib.Core.List.{List}
 use mathlib.Core.Option.{Option, none, some}
 use Prim.Native.Nat.{ℕ}
-use Rattle.srp.specs.Refusals.{Conduct, hangsUp, answered, stays, altersNothing, conductOf, firstOf}
+use Rattle.srp.specs.Refusals.{firstOf}
 use Rattle.srp.specs.Credit.{Port}
-use Rattle.srp.specs.Take.{Outcome, Tables, laterChecks, accepted, conducted, takeBy}
+use Rattle.srp.specs.Take.{Outcome, Tables, laterChecks, accepted, takeBy}
 use Rattle.srp.specs.declared.Refusal.{Refusal}
 use Rattle.srp.specs.declared.Message.{Message}
 use Rattle.srp.specs.declared.Reply.{Reply}
 use Rattle.srp.specs.declared.Answer.{Answer}
+use Rattle.srp.proofs.Refusing.{refused-as}
 use Rattle.state.specs.Promises.{AnswersAs}
 use Rattle.store.specs.Places.{OwnPlace}
 use Rattle.take.specs.Taking.{laterDef, takesCommand, Stores}
@@ -25,17 +26,10 @@ pub not-taken : {l st b l′ b′ : List ℕ} {r : Answer} {o : Outcome} → Ans
 not-taken A e =
     record { kept = λ f. refl; entered = λ t. absurd (true≢false (sym t ∙ ap (λ (a : Answer). takesCommand (a .reply)) (A .answer) ∙ e)) }
 
--- a message refused is no command taken
-refused-takes : (x : Conduct) (p : Port) (m : Message) (f : Refusal) → takesCommand (conducted x p m f .reply) ≡ false
-refused-takes (hangsUp reason) p m f = refl
-refused-takes answered p m f = refl
-refused-takes stays p m f = refl
-refused-takes altersNothing p m f = refl
-
--- nor is a message other than a command, refused or not
+-- a message other than a command is no command taken, refused or not
 pub later-takes : (p : Port) (s : List ℕ) (t : Tables) (m : Message) → takesCommand (accepted p s t m .reply) ≡ false → takesCommand (laterDef p s t m .reply) ≡ false
 later-takes p s t m e = by (firstOf (laterChecks p s t m))
   where
     by : (x : Option Refusal) → takesCommand (takeBy x p s t m .reply) ≡ false
     by none = e
-    by (some f) = refused-takes (conductOf f) p m f
+    by (some f) = ap takesCommand (refused-as p m f)
