@@ -10,18 +10,18 @@ use Rattle.demand.proofs.JudgesLogin.{judges-login}
 pub demand-1-in-c : Demand1InC
 demand-1-in-c =
     record {
-      login = λ κs p q c id m b d w v n post. judges-login (now b) (now q) (now d) (now c) (now id) (now m) n (now v) post;
-      take = λ κs p q st st′ m out inn b d w v n post.
-          judges-take (now p) (now st) (now b) (now q) (now st′) (now d) (now m) (tables (now out) (now inn)) n (now v) post;
-      plan = λ κs p q tag out inn n post. judges-plan (now p) (now q) n tag out inn post;
-      step = λ κs p q st w v tag direction n post. judges-step (now p) (now q) (now st) tag direction n (now v) post;
-      finish = λ κs p q e b d w v tag status n post. judges-finish (now p) (now b) (now q) (now d) n (now v) tag status (now e) post;
-      add = λ κs p q k n post. judges-add (now p) (now q) n k post;
-      withdraw = λ κs p q k n post. judges-withdraw (now p) (now q) n k post;
-      grant = λ κs p q b d w v n post. judges-grant (now p) (now b) (now q) (now d) n (now v) post;
-      close = λ κs p q b d w v reason n post. judges-close (now p) (now b) (now q) (now d) n (now v) reason post;
-      counters = λ κs p w v n post. judges-counters (now p) n (now v) post;
-      list = λ κs p before after w v n post. judges-list (now p) (now before) (now after) n (now v) post;
-      look = λ κs m b d agreed formats n post. judges-look (now b) (now d) n agreed formats (now m) post;
-      cut = λ κs l b d M R handed n post. judges-cut (now b) (now d) n (now l) M R handed post;
+      login = λ p q c id m b d w v n post. judges-login (now b) (now q) (now d) (now c) (now id) (now m) n (now v) (post .1);
+      take = λ p q st st′ m out inn b d w v n post.
+          judges-take (now p) (now st) (now b) (now q) (now st′) (now d) (now m) (tables (now out) (now inn)) n (now v) (post .1);
+      plan = λ p q tag out inn n post. judges-plan (now p) (now q) n tag out inn (post .1);
+      step = λ p q st w v tag direction n post. judges-step (now p) (now q) (now st) tag direction n (now v) (post .1);
+      finish = λ p q e b d w v tag status n post. judges-finish (now p) (now b) (now q) (now d) n (now v) tag status (now e) (post .1);
+      add = λ p q k n post. judges-add (now p) (now q) n k (post .1);
+      withdraw = λ p q k n post. judges-withdraw (now p) (now q) n k (post .1);
+      grant = λ p q b d w v n post. judges-grant (now p) (now b) (now q) (now d) n (now v) (post .1);
+      close = λ p q b d w v reason n post. judges-close (now p) (now b) (now q) (now d) n (now v) reason (post .1);
+      counters = λ p w v n post. judges-counters (now p) n (now v) (post .1);
+      list = λ p before after w v n post. judges-list (now p) (now before) (now after) n (now v) (post .1);
+      look = λ m b d agreed formats n post. judges-look (now b) (now d) n agreed formats (now m) (post .1);
+      cut = λ l b d M R handed n post. judges-cut (now b) (now d) n (now l) M R handed (post .1);
     }

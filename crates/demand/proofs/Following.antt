@@ -75,7 +75,7 @@ command-read-as : (agreed formats : ℕ) (msg : List ℕ) (c : CommandFields) �
 command-read-as agreed formats msg c k e = (
   subst (λ (x : List ℕ). Reads c x) (sym e) (command-read c (k .ranged) (k .cdb) (k .out-fits .0) (k .in-fits .0)),
   subst (λ (x : List ℕ). readMessage agreed formats x ≡ Cmd (commandIn c x)) (sym e)
-      (command-received agreed formats c (k .ranged) (k .cdb) (k .out-fits .0) (k .in-fits .0) (k .out-fits .1) (k .in-fits .1) (k .out-fits .2) (k .in-fits .2) (k .long)),
+      (command-received agreed formats c (k .ranged) (k .cdb) (k .out-fits .0) (k .in-fits .0) (k .out-fits .1) (k .in-fits .1) (k .out-fits .2) (k .in-fits .2) (k .fits)),
 )
 
 receives : (s : Memory) (room : ℕ) (t : Tables) (msg : List ℕ) → Receives s room t msg (takeDef (seen s) room msg t)
@@ -116,6 +116,7 @@ module _ (s : Memory) (r : Reply) (ss : List (List ℕ)) (s′ : Memory) (R : de
   gives c o is n w x =
       record {
         reached = R;
+        ranged = reached R;
         reached′ = subst (λ (o : Outcome). def.Reached (o .port)) is n;
         ranged′ = subst (λ (o : Outcome). def.Ranged (o .port)) is (reached n);
         writes = subst (λ (o : Outcome). All (InRoom (callingOf c .room)) (o .wrote)) is w;
@@ -189,5 +190,5 @@ demand-2-in-c =
     record {
       calls = λ s s′ c r ss L y m. follows s r ss s′ (led-reached s L) c y m;
       login = λ settings own msg room r ss p store b l. login-by-layouts settings own msg room r ss p store b l;
-      look = λ κs m b d agreed formats n post. look-by-layouts agreed formats (now m) (now b) (now d) n (judges-look (now b) (now d) n agreed formats (now m) post);
+      look = λ m b d agreed formats n post. look-by-layouts agreed formats (now m) (now b) (now d) n (judges-look (now b) (now d) n agreed formats (now m) (post .1));
     }

@@ -6,7 +6,7 @@ use mathlib.Core.List.{List, [], _∷_, _++_}
 use Prim.Native.Nat.{ℕ, _/_}
 use borrow.Author.Tests.{le-ltb}
 use lib.ListN.{length, drop}
-use denote.Ref.{RefT, now}
+use denote.Ref.{now}
 use Rattle.srp.specs.Limits.{mostBuffers}
 use Rattle.srp.specs.Refusals.{firstOf}
 use Rattle.srp.specs.Credit.{Port, owed}
@@ -33,8 +33,7 @@ use Rattle.take.specs.Taking.{tables}
 use Rattle.exports.specs.Arguments.{recordSize, allWords, settingsIn, directionIn}
 use Rattle.exports.specs.Calls.{InC, AnswersInC, RepliesInC, CountersInC, ListInC}
 use Rattle.exports.proofs.Listing.{counters-unwritten, list-unwritten}
-use Rattle.exports.proofs.port.srp_target_counters.Reads as counters-in-c
-use Rattle.exports.proofs.port.srp_target_list.Reads as list-in-c
+use Rattle.demand.specs.Posts.{Slice}
 use Rattle.demand.specs.Replies.{performed}
 use Rattle.demand.specs.Calls.{Memory, seen, LoggedIn, Took, WithMessage, Finished, Granted, Ended, WithoutMessage, Planned, Stepped, Added, Withdrew, Untouched, TookFront, Call}
 use Rattle.demand.specs.Holding.{Holds, Reports, Lists, Demand3InC}
@@ -46,11 +45,11 @@ module _ {s : Memory} {r : Reply} {ss : List (List ℕ)} {s′ : Memory} where
   pub took : (room : ℕ) (t : Tables) (msg : List ℕ) → Took s room t msg r ss s′ → takeDef (seen s) room msg t ≡ record { reply = r; port = seen s′; wrote = ss }
   took room t msg c =
       rw (← c .words, ← c .store, ← c .message, ← c .lent, ← c .gave .room-is, ← c .gave .reply, ← c .gave .wrote, ← c .words′, ← c .store′)
-      (told.answers (c .post .answers) (told.take-told (view (now (c .p)) (now (c .st))) (length (now (c .b))) (now (c .m)) (tables (now (c .out)) (now (c .inn)))))
+      (told.answers (c .post .1 .answers) (told.take-told (view (now (c .p)) (now (c .st))) (length (now (c .b))) (now (c .m)) (tables (now (c .out)) (now (c .inn)))))
 
   -- with a lent message buffer: o is the call's definition, by the port and the buffer's length
-  module _ (o : Port → ℕ → Outcome) (one : (p : Port) (room : ℕ) → told.Told performed (o p room)) {Post : (p q b d w v : RefT (List ℕ)) (n : ℕ) → Type 0}
-      (promises : (p q b d w v : RefT (List ℕ)) (n : ℕ) → Post p q b d w v n → (st : List ℕ) → AnswersInC (now p) st (now b) (now q) st (now d) n (now v) (o (view (now p) st) (length (now b)))) where
+  module _ (o : Port → ℕ → Outcome) (one : (p : Port) (room : ℕ) → told.Told performed (o p room)) {Post : (p q b d w v : Slice) (n : ℕ) → Type 0}
+      (promises : (p q b d w v : Slice) (n : ℕ) → Post p q b d w v n → (st : List ℕ) → AnswersInC (now p) st (now b) (now q) st (now d) n (now v) (o (view (now p) st) (length (now b)))) where
     answered : (room : ℕ) → WithMessage s room Post r ss s′ → o (seen s) room ≡ record { reply = r; port = seen s′; wrote = ss }
     answered room c =
         rw (← c .words, ← c .gave .room-is, ← c .gave .reply, ← c .gave .wrote, ← c .words′, ← c .store′)
@@ -59,7 +58,7 @@ module _ {s : Memory} {r : Reply} {ss : List (List ℕ)} {s′ : Memory} where
   pub finished : (room tag status : ℕ) (sense : List ℕ) → Finished s room tag status sense r ss s′
       → finishDef (seen s) room tag status sense ≡ record { reply = r; port = seen s′; wrote = ss }
   finished room tag status sense c =
-      answered (λ p n. finishDef p n tag status sense) (λ p n. told.finish-told p n tag status sense) (λ p q b d w v n post st. rw (← post .2) (post .3 st)) room c
+      answered (λ p n. finishDef p n tag status sense) (λ p n. told.finish-told p n tag status sense) (λ p q b d w v n post st. rw (← post .1) (post .2 .1 st)) room c
 
   pub granted : (room : ℕ) → Granted s room r ss s′ → grantDef (seen s) room ≡ record { reply = r; port = seen s′; wrote = ss }
   granted room c = answered (λ p n. grantDef p n) (λ p n. told.grant-told p n) (λ p q b d w v n post. post .1) room c
@@ -68,8 +67,8 @@ module _ {s : Memory} {r : Reply} {ss : List (List ℕ)} {s′ : Memory} where
   ended room reason c = answered (λ p n. closeDef p n reason) (λ p n. told.close-told p n reason) (λ p q b d w v n post. post .1) room c
 
   -- without one
-  module _ (o : Port → Outcome) (one : (p : Port) → told.Silent (o p)) {Post : (p q : RefT (List ℕ)) (n : ℕ) → Type 0}
-      (promises : (p q : RefT (List ℕ)) (n : ℕ) → Post p q n → (st : List ℕ) → RepliesInC (now p) st (now q) n (o (view (now p) st))) where
+  module _ (o : Port → Outcome) (one : (p : Port) → told.Silent (o p)) {Post : (p q : Slice) (n : ℕ) → Type 0}
+      (promises : (p q : Slice) (n : ℕ) → Post p q n → (st : List ℕ) → RepliesInC (now p) st (now q) n (o (view (now p) st))) where
     silently : WithoutMessage s Post r ss s′ → o (seen s) ≡ record { reply = r; port = seen s′; wrote = ss }
     silently c =
         rw (← c .words, ← c .reply, ← c .wrote, ← c .words′, ← c .store′)
@@ -87,7 +86,7 @@ module _ {s : Memory} {r : Reply} {ss : List (List ℕ)} {s′ : Memory} where
   pub stepped : (tag : ℕ) (d : Direction) → Stepped s tag d r ss s′ → stepDef (seen s) tag d ≡ record { reply = r; port = seen s′; wrote = ss }
   stepped tag d c =
       rw (← c .words, ← c .direction-is, ← c .reply, ← c .wrote, ← c .words′, ← c .store′, ← c .store)
-      (told.steps (c .post .steps) (told.step-said (view (now (c .p)) (now (c .st))) tag (directionIn (c .k))))
+      (told.steps (c .post .1 .steps) (told.step-said (view (now (c .p)) (now (c .st))) tag (directionIn (c .k))))
 
   untouched : Untouched s r ss s′ → silent (seen s) Performed ≡ record { reply = r; port = seen s′; wrote = ss }
   untouched c = λ i. record { reply = c .reply i; port = seen (c .same i); wrote = c .wrote i }
@@ -115,7 +114,7 @@ pub logged-in : {settings own msg : List ℕ} {room : ℕ} {r : Reply} {ss : Lis
     → loginDef (settingsIn settings) own room msg ≡ record { reply = r; port = view p store; wrote = ss }
 logged-in l store =
     rw (← l .settings-are, ← l .own-is, ← l .message, ← l .gave .room-is, ← l .gave .reply, ← l .gave .wrote, ← l .words)
-    (told.logs-in (l .post store) (told.login-told (settingsIn (now (l .c))) (now (l .id)) (length (now (l .b))) (now (l .m))))
+    (told.logs-in (l .post .1 store) (told.login-told (settingsIn (now (l .c))) (now (l .id)) (length (now (l .b))) (now (l .m))))
 
 holds : (settings own msg : List ℕ) (room : ℕ) (ss : List (List ℕ)) (p store : List ℕ) → Holds settings own msg room ss p store
 holds settings own msg room ss p store l es run f =
@@ -151,7 +150,7 @@ pub demand-3-in-c : Demand3InC
 demand-3-in-c =
     record {
       holds = holds;
-      reports = λ L m s is κs p w v n e post. reports L m s is n (now v) (subst (λ (l : List ℕ). CountersInC l n (now v)) e post);
-      lists = λ L m s is κs p before after w v n e post.
-          lists L m s is n (now v) (now before) (now after) (subst (λ (l : List ℕ). ListInC l (now before) (now after) n (now v)) e post);
+      reports = λ L m s is p w v n e post. reports L m s is n (now v) (subst (λ (l : List ℕ). CountersInC l n (now v)) e (post .1));
+      lists = λ L m s is p before after w v n e post.
+          lists L m s is n (now v) (now before) (now after) (subst (λ (l : List ℕ). ListInC l (now before) (now after) n (now v)) e (post .1));
     }

@@ -9,9 +9,9 @@ use borrow.Author.Tests.{not-false}
 use lib.ListN.{length}
 use Rattle.srp.specs.Lists.{find}
 use Rattle.srp.specs.Refusals.{firstOf}
-use Rattle.srp.specs.Descriptors.{segmentsOf, sumOf, fetchOf}
-use Rattle.srp.specs.Requests.{lookChecks, outDescriptor, inDescriptor}
-use Rattle.srp.specs.Cutting.{upTo, next, cutNext, cutChecks}
+use Rattle.srp.specs.Descriptors.{segmentsOf, sumOf}
+use Rattle.srp.specs.Requests.{lookChecks, lookOutcome}
+use Rattle.srp.specs.Cutting.{upTo, next, cutNext, cutChecks, cutOutcome}
 use Rattle.srp.specs.Credit.{Port}
 use Rattle.srp.specs.Take.{hasTag}
 use Rattle.srp.specs.Calls.{handOut, nextOf, planChecks, planOutcome, stepChecks, stepOutcome, finishChecks, finishOutcome, addChecks, addOutcome, withdrawChecks, withdrawOutcome, grantChecks, grantOutcome, closeChecks, closeOutcome, countersChecks, countersOutcome, listChecks, listOutcome}
@@ -19,7 +19,7 @@ use Rattle.srp.specs.Outside.{lookInC, lookAnswer, cutInC, cutAnswer}
 use Rattle.srp.specs.Answers.{returned}
 use Rattle.srp.specs.declared.Direction.{Direction}
 use Rattle.srp.specs.declared.Piece.{Piece}
-use Rattle.srp.specs.declared.Look.the-variants.{LookRefused, Fetches}
+use Rattle.srp.specs.declared.Look.the-variants.{LookRefused}
 use Rattle.srp.specs.declared.Cut.the-variants.{CutRefused}
 use Rattle.srp.proofs.Checks.{passes}
 use Rattle.words.specs.View.{view}
@@ -99,16 +99,14 @@ judges-list l before after n w P st =
 module _ (b b′ : List ℕ) (n : ℕ) where
   pub judges-look : (agreed formats : ℕ) (s : List ℕ) → Answered n b b′ (lookInC agreed formats s (length b)) → JudgesLook agreed formats s b b′ n
   judges-look agreed formats s A =
-      judge-bytes (λ x. lookAnswer (elim x [ none ↦ Fetches (fetchOf (outDescriptor s) s) (fetchOf (inDescriptor s) s) | some r ↦ LookRefused r ])) (λ f. refl) refl
+      judge-bytes (λ x. lookAnswer (elim x [ none ↦ lookOutcome s | some r ↦ LookRefused r ])) (λ f. refl) refl
       (lookChecks agreed formats s) (length b) n b b′ A
 
   pub judges-cut : (list : List ℕ) (M R handed : ℕ) → Answered n b b′ (cutInC list M R handed (length b)) → JudgesCut list M R handed b b′ n
   judges-cut list M R handed A =
-      judge-bytes (λ x. cutAnswer (elim x [ none ↦ cutNext piece-next | some r ↦ CutRefused r ])) (λ f. refl) (unrefused piece-next) (cutChecks list M R handed) (length b) n b b′ A
+      judge-bytes (λ x. cutAnswer (elim x [ none ↦ cutOutcome list M R handed | some r ↦ CutRefused r ])) (λ f. refl)
+      (unrefused (next (upTo M) handed (min R (sumOf (segmentsOf list))) (segmentsOf list))) (cutChecks list M R handed) (length b) n b b′ A
     where
-      piece-next : Option Piece
-      piece-next = next (upTo M) handed (min R (sumOf (segmentsOf list))) (segmentsOf list)
-
       unrefused : (x : Option Piece) → cutAnswer (cutNext x) .returns ≡ 0
       unrefused none = refl
       unrefused (some o) = refl

@@ -7,6 +7,7 @@ use mathlib.Core.List.{List, []}
 use mathlib.Core.Option.{Option, none, some, Option·some-injective}
 use Prim.Native.Nat.{ℕ}
 use lib.Dec.{ltb}
+use borrow.Author.Tests.{not-false}
 use lib.ListN.{length}
 use Rattle.srp.specs.Limits.{bufferSize}
 use Rattle.srp.specs.Refusals.{Conduct, hangsUp, answered, stays, altersNothing, conductOf, firstOf}
@@ -26,7 +27,7 @@ use Rattle.answer.specs.Words.{answerWords}
 use Rattle.words.specs.View.{view}
 use Rattle.take.specs.Taking.{takesCommand, Stores}
 use Rattle.exports.specs.Calls.{TakeInC}
-use Rattle.demand.specs.Judgement.{Comes, Unaltered, readOn, Left, JudgesTake}
+use Rattle.demand.specs.Judgement.{Unaltered, readOn, TakenAs, Left, JudgesTake}
 use Rattle.demand.proofs.Judging.{numberFor, not-zero, judge}
 
 -- ── of the definition
@@ -64,19 +65,21 @@ module _ (p : Port) (room : ℕ) (s : List ℕ) (t : Tables) where
 
 module _ {l st b l′ st′ b′ : List ℕ} {n : ℕ} {w : List ℕ} (s : List ℕ) (t : Tables) (A : TakeInC l st b l′ st′ b′ s t n w) where
   -- where none of document 01's checks hits, the message is taken
-  taken : firstOf (takeOrder (view l st) (length b) s t) ≡ none
-      → let o : Outcome = accepted (view l st) s t (readOn (view l st) s) in
-      Comes o l′ st′ b b′ w × Stores l st l′ st′ (o .reply)
+  taken : firstOf (takeOrder (view l st) (length b) s t) ≡ none → TakenAs (accepted (view l st) s t (readOn (view l st) s)) l st b l′ st′ b′ w
   taken e =
       let is : takeDef (view l st) (length b) s t ≡ accepted (view l st) s t (readOn (view l st) s) =
-      by-order (view l st) (length b) s t ∙ ap (λ (x : Option Refusal). takeBy x (view l st) s t (readOn (view l st) s)) e in (
-        record {
+      by-order (view l st) (length b) s t ∙ ap (λ (x : Option Refusal). takeBy x (view l st) s t (readOn (view l st) s)) e in
+      let port : view l′ st′ ≡ accepted (view l st) s t (readOn (view l st) s) .port = A .answers .call .port ∙ ap (λ (x : Outcome). x .port) is in
+      record {
+        comes = record {
           words = A .answers .numbers .words ∙ ap (λ (x : Outcome). answerWords (answerOf x)) is;
-          port = A .answers .call .port ∙ ap (λ (x : Outcome). x .port) is;
+          port = port;
           buffer = A .answers .call .buffer ∙ ap (λ (x : Outcome). placed (x .wrote) b) is;
-        },
-        subst (λ (x : Outcome). Stores l st l′ st′ (x .reply)) is (A .store),
-      )
+        };
+        store = subst (λ (x : Outcome). Stores l st l′ st′ (x .reply)) is (A .store);
+        closed = λ h.
+            A .answers .call .closed (not-false (view l st .live) (passes (takeOrder (view l st) (length b) s t) e .1 .0)) (ap (λ (x : Port). x .live) port ∙ h);
+      }
 
   module _ (f : Refusal) (e : firstOf (takeOrder (view l st) (length b) s t) ≡ some f) where
     refused : takeDef (view l st) (length b) s t ≡ refusedBy (view l st) (readOn (view l st) s) f

@@ -40,17 +40,17 @@ each-says =
 pub each-counts : EachCounts
 each-counts =
     record {
-      login = λ p q w v n κs c id m b d post. counts (post [] .numbers);
-      take = λ p q w v n κs s s′ m out inn b d post. counts (post .answers .numbers);
-      plan = λ st p q n κs tag out inn post. post st .number;
-      step = λ p q w v n κs s tag k post. counts (post .steps .numbers);
-      finish = λ st p q w v n κs tag status e b d post. counts (post st .numbers);
-      add = λ st p q n κs k post. post st .number;
-      withdraw = λ st p q n κs k post. post st .number;
-      grant = λ st p q w v n κs b d post. counts (post st .numbers);
-      close = λ st p q w v n κs reason b d post. counts (post st .numbers);
-      counters = λ st p w v n κs post. counts (post st);
-      list = λ st p w v n κs before after post. counts (post st .numbers);
-      look = λ b d n κs m agreed formats post. post;
-      cut = λ b d n κs l M R handed post. post;
+      login = λ p q c id m b d w v n post. counts (post .1 [] .numbers);
+      take = λ p q st st′ m out inn b d w v n post. counts (post .1 .answers .numbers);
+      plan = λ st p q tag out inn n post. post .1 st .number;
+      step = λ p q st w v tag direction n post. counts (post .1 .steps .numbers);
+      finish = λ st p q e b d w v tag status n post. counts (post .1 st .numbers);
+      add = λ st p q k n post. post .1 st .number;
+      withdraw = λ st p q k n post. post .1 st .number;
+      grant = λ st p q b d w v n post. counts (post .1 st .numbers);
+      close = λ st p q b d w v reason n post. counts (post .1 st .numbers);
+      counters = λ st p w v n post. counts (post .1 st);
+      list = λ st p before after w v n post. counts (post .1 st .numbers);
+      look = λ m b d agreed formats n post. post .1;
+      cut = λ l b d M R handed n post. post .1;
     }

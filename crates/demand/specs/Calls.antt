@@ -1,12 +1,11 @@
--- A call was made: the contract of the C function holds of what it was given, what it returned and what it left. The contract is the function's own (the
--- generated `Post`), so a weaker contract makes the theorems of proofs/ fail. The reply is what the number and the words say, the message stands in
--- the lent buffer. κs are the lifetimes; p and q the lent words before and after, st and st′ the store, b and d the message buffer, w and v the answer.
+-- A call was made: the contract of the C function (specs/Posts.antt) holds of what it was given, what it returned and what it left. The reply is what the
+-- number and the words say, the message stands in the lent buffer. p and q are the lent words before and after, st and st′ the store, b and d the message
+-- buffer, w and v the answer.
 use mathlib.Core.Path.{_≡_}
 use mathlib.Core.List.{List, [], _∷_}
 use Prim.Native.Nat.{ℕ}
 use lib.ListN.{length}
-use denote.Ref.{RefT, now}
-use contract.Lifetimes.{Lfts}
+use denote.Ref.{now}
 use Rattle.srp.specs.Credit.{Port}
 use Rattle.srp.specs.Take.{Tables}
 use Rattle.srp.specs.declared.Direction.{Direction}
@@ -17,15 +16,7 @@ use Rattle.machine.specs.Events.{Event, sends, delivers, takes, plans, steps, f
 use Rattle.words.specs.View.{view}
 use Rattle.take.specs.Taking.{tables}
 use Rattle.exports.specs.Arguments.{directionIn}
-use Rattle.exports.proofs.port.srp_target_login.Reads as login-in-c
-use Rattle.exports.proofs.port.srp_target_take.Reads as take-in-c
-use Rattle.exports.proofs.port.srp_target_plan.Reads as plan-in-c
-use Rattle.exports.proofs.port.srp_target_step.Reads as step-in-c
-use Rattle.exports.proofs.port.srp_target_finish.Reads as finish-in-c
-use Rattle.exports.proofs.port.srp_target_add.Reads as add-in-c
-use Rattle.exports.proofs.port.srp_target_withdraw.Reads as withdraw-in-c
-use Rattle.exports.proofs.port.srp_target_grant.Reads as grant-in-c
-use Rattle.exports.proofs.port.srp_target_close.Reads as close-in-c
+use Rattle.demand.specs.Posts.{Slice, LoginPost, TakePost, PlanPost, StepPost, FinishPost, AddPost, WithdrawPost, GrantPost, ClosePost}
 use Rattle.demand.specs.Replies.{replyBy, performed, taken, stepped, loggedIn, messageIn}
 
 -- what the owner keeps of a port: its words and its store
@@ -46,57 +37,55 @@ pub record Gave (said : List ℕ → Reply) (room : ℕ) (b d v : List ℕ) (n :
 -- ── login, with the five settings as numbers; p are the words that it left, r its reply, ss what it wrote
 
 pub record LoggedIn (settings own msg : List ℕ) (room : ℕ) (r : Reply) (ss : List (List ℕ)) (p : List ℕ) : Type 0 where
-  pub κs : Lfts 6
-  pub before : RefT (List ℕ)
-  pub after : RefT (List ℕ)
-  pub c : RefT (List ℕ)
-  pub id : RefT (List ℕ)
-  pub m : RefT (List ℕ)
-  pub b : RefT (List ℕ)
-  pub d : RefT (List ℕ)
-  pub w : RefT (List ℕ)
-  pub v : RefT (List ℕ)
+  pub before : Slice
+  pub after : Slice
+  pub c : Slice
+  pub id : Slice
+  pub m : Slice
+  pub b : Slice
+  pub d : Slice
+  pub w : Slice
+  pub v : Slice
   pub n : ℕ
   pub settings-are : now c ≡ settings
   pub own-is : now id ≡ own
   pub message : now m ≡ msg
-  pub post : login-in-c.Post κs (before, (c, (id, (m, (b, (w, tt)))))) n (after, (c, (id, (m, (d, (v, tt))))))
+  pub post : LoginPost before after c id m b d w v n
   pub gave : Gave loggedIn room (now b) (now d) (now v) n r ss
   pub words : now after ≡ p
 
 -- ── the calls with a lent message buffer
 
 pub record Took (s : Memory) (room : ℕ) (t : Tables) (msg : List ℕ) (r : Reply) (ss : List (List ℕ)) (s′ : Memory) : Type 0 where
-  pub κs : Lfts 5
-  pub p : RefT (List ℕ)
-  pub q : RefT (List ℕ)
-  pub st : RefT (List ℕ)
-  pub st′ : RefT (List ℕ)
-  pub m : RefT (List ℕ)
-  pub out : RefT (List ℕ)
-  pub inn : RefT (List ℕ)
-  pub b : RefT (List ℕ)
-  pub d : RefT (List ℕ)
-  pub w : RefT (List ℕ)
-  pub v : RefT (List ℕ)
+  pub p : Slice
+  pub q : Slice
+  pub st : Slice
+  pub st′ : Slice
+  pub m : Slice
+  pub out : Slice
+  pub inn : Slice
+  pub b : Slice
+  pub d : Slice
+  pub w : Slice
+  pub v : Slice
   pub n : ℕ
   pub words : now p ≡ s .words
   pub store : now st ≡ s .store
   pub message : now m ≡ msg
   pub lent : tables (now out) (now inn) ≡ t
-  pub post : take-in-c.Post κs (p, (st, (m, (out, (inn, (b, (w, tt))))))) n (q, (st′, (m, (out, (inn, (d, (v, tt)))))))
+  pub post : TakePost p q st st′ m out inn b d w v n
   pub gave : Gave taken room (now b) (now d) (now v) n r ss
   pub words′ : now q ≡ s′ .words
   pub store′ : now st′ ≡ s′ .store
 
--- finish, grant, close: Post is the function's contract, whatever its lifetimes
-pub record WithMessage (s : Memory) (room : ℕ) (Post : (p q b d w v : RefT (List ℕ)) (n : ℕ) → Type 0) (r : Reply) (ss : List (List ℕ)) (s′ : Memory) : Type 0 where
-  pub p : RefT (List ℕ)
-  pub q : RefT (List ℕ)
-  pub b : RefT (List ℕ)
-  pub d : RefT (List ℕ)
-  pub w : RefT (List ℕ)
-  pub v : RefT (List ℕ)
+-- finish, grant, close: Post is the function's contract
+pub record WithMessage (s : Memory) (room : ℕ) (Post : (p q b d w v : Slice) (n : ℕ) → Type 0) (r : Reply) (ss : List (List ℕ)) (s′ : Memory) : Type 0 where
+  pub p : Slice
+  pub q : Slice
+  pub b : Slice
+  pub d : Slice
+  pub w : Slice
+  pub v : Slice
   pub n : ℕ
   pub words : now p ≡ s .words
   pub post : Post p q b d w v n
@@ -105,22 +94,20 @@ pub record WithMessage (s : Memory) (room : ℕ) (Post : (p q b d w v : RefT (Li
   pub store′ : s .store ≡ s′ .store
 
 abbrev pub Finished : Memory → (room tag status : ℕ) → List ℕ → Reply → List (List ℕ) → Memory → Type 0
-Finished s room tag status sense =
-    WithMessage s room λ p q b d w v n.
-    (κs : Lfts 4) × (e : RefT (List ℕ)) × (now e ≡ sense) × finish-in-c.Post κs (p, (tag, (status, (e, (b, (w, tt)))))) n (q, (tag, (status, (e, (d, (v, tt))))))
+Finished s room tag status sense = WithMessage s room λ p q b d w v n. (e : Slice) × (now e ≡ sense) × FinishPost p q e b d w v tag status n
 
 abbrev pub Granted : Memory → (room : ℕ) → Reply → List (List ℕ) → Memory → Type 0
-Granted s room = WithMessage s room λ p q b d w v n. (κs : Lfts 3) × grant-in-c.Post κs (p, (b, (w, tt))) n (q, (d, (v, tt)))
+Granted s room = WithMessage s room GrantPost
 
 abbrev pub Ended : Memory → (room reason : ℕ) → Reply → List (List ℕ) → Memory → Type 0
-Ended s room reason = WithMessage s room λ p q b d w v n. (κs : Lfts 3) × close-in-c.Post κs (p, (reason, (b, (w, tt)))) n (q, (reason, (d, (v, tt))))
+Ended s room reason = WithMessage s room λ p q b d w v n. ClosePost p q b d w v reason n
 
 -- ── the calls without one
 
 -- plan, add, withdraw: there are no words either
-pub record WithoutMessage (s : Memory) (Post : (p q : RefT (List ℕ)) (n : ℕ) → Type 0) (r : Reply) (ss : List (List ℕ)) (s′ : Memory) : Type 0 where
-  pub p : RefT (List ℕ)
-  pub q : RefT (List ℕ)
+pub record WithoutMessage (s : Memory) (Post : (p q : Slice) (n : ℕ) → Type 0) (r : Reply) (ss : List (List ℕ)) (s′ : Memory) : Type 0 where
+  pub p : Slice
+  pub q : Slice
   pub n : ℕ
   pub words : now p ≡ s .words
   pub post : Post p q n
@@ -130,28 +117,27 @@ pub record WithoutMessage (s : Memory) (Post : (p q : RefT (List ℕ)) (n : ℕ)
   pub store′ : s .store ≡ s′ .store
 
 abbrev pub Planned : Memory → (tag out inn : ℕ) → Reply → List (List ℕ) → Memory → Type 0
-Planned s tag out inn = WithoutMessage s λ p q n. (κs : Lfts 1) × plan-in-c.Post κs (p, (tag, (out, (inn, tt)))) n (q, (tag, (out, (inn, tt))))
+Planned s tag out inn = WithoutMessage s λ p q n. PlanPost p q tag out inn n
 
 abbrev pub Added : Memory → (k : ℕ) → Reply → List (List ℕ) → Memory → Type 0
-Added s k = WithoutMessage s λ p q n. (κs : Lfts 1) × add-in-c.Post κs (p, (k, tt)) n (q, (k, tt))
+Added s k = WithoutMessage s λ p q n. AddPost p q k n
 
 abbrev pub Withdrew : Memory → (k : ℕ) → Reply → List (List ℕ) → Memory → Type 0
-Withdrew s k = WithoutMessage s λ p q n. (κs : Lfts 1) × withdraw-in-c.Post κs (p, (k, tt)) n (q, (k, tt))
+Withdrew s k = WithoutMessage s λ p q n. WithdrawPost p q k n
 
 -- the direction as a number
 pub record Stepped (s : Memory) (tag : ℕ) (direction : Direction) (r : Reply) (ss : List (List ℕ)) (s′ : Memory) : Type 0 where
-  pub κs : Lfts 3
-  pub p : RefT (List ℕ)
-  pub q : RefT (List ℕ)
-  pub st : RefT (List ℕ)
-  pub w : RefT (List ℕ)
-  pub v : RefT (List ℕ)
+  pub p : Slice
+  pub q : Slice
+  pub st : Slice
+  pub w : Slice
+  pub v : Slice
   pub k : ℕ
   pub n : ℕ
   pub words : now p ≡ s .words
   pub store : now st ≡ s .store
   pub direction-is : directionIn k ≡ direction
-  pub post : step-in-c.Post κs (p, (st, (tag, (k, (w, tt))))) n (q, (st, (tag, (k, (v, tt)))))
+  pub post : StepPost p q st w v tag k n
   pub reply : replyBy stepped n (now v) ≡ r
   pub wrote : [] ≡ ss
   pub words′ : now q ≡ s′ .words

@@ -6,9 +6,9 @@ use mathlib.Core.Bool.{true, false, _||_}
 use mathlib.Core.List.{List, [], _∷_, _++_}
 use Prim.Native.Nat.{ℕ, _+_, _*_, _^_, _<_, _≤_}
 use lib.ListN.{length}
-use denote.Ref.{RefT, now}
+use denote.Ref.{now}
 use contract.Lifetimes.{Lfts}
-use Rattle.srp.specs.Limits.{bothFormats}
+use Rattle.srp.specs.Limits.{answerSize, bothFormats}
 use Rattle.srp.specs.Bytes.{Bytes, bytesOf, get, part, typeOf, write, InRange}
 use Rattle.srp.specs.Messages.{tag, formatBits, requestedLength, loginCrsolnt, loginLosolnt, channelAction, targetIdentifier, loginReq, tskMgmt, cmd, iLogout, credRsp}
 use Rattle.srp.specs.Initiator.{CommandFields, values, commandBytes, formatOf, Fit, Copied, commandIn, Reads}
@@ -31,7 +31,7 @@ use Rattle.srp.specs.declared.Reply.the-variants.{Accepted}
 use Rattle.request.proofs.read_message.Reads as read-message
 use Rattle.words.specs.View.{view}
 use Rattle.exports.specs.Arguments.{settingsIn}
-use Rattle.exports.proofs.srp_look.Reads as look-in-c
+use Rattle.demand.specs.Posts.{Slice, LookPost}
 use Rattle.demand.specs.Judgement.{readOn}
 use Rattle.demand.specs.Calls.{Memory, seen, LoggedIn, Took, Finished, Granted, Ended, Planned, Stepped, Added, Withdrew}
 
@@ -57,7 +57,7 @@ pub record Sendable (agreed formats : ℕ) (c : CommandFields) : Type 0 where
   pub cdb : length (c .cdb) ≡ 16 + 4 * c .n
   pub out-fits : Fit (c .out) × Copied (c .out) × (agrees formats (formatOf (c .out)) ≡ true)
   pub in-fits : Fit (c .inn) × Copied (c .inn) × (agrees formats (formatOf (c .inn)) ≡ true)
-  pub long : length (commandBytes c) ≤ agreed
+  pub fits : length (commandBytes c) ≤ agreed
 
 -- a message msg put to take on s, whose reply, port and messages are the outcome o
 pub record Receives (s : Memory) (room : ℕ) (t : Tables) (msg : List ℕ) (o : Outcome) : Type 0 where
@@ -65,7 +65,7 @@ pub record Receives (s : Memory) (room : ℕ) (t : Tables) (msg : List ℕ) (o :
   pub layout : ReadAs (seen s .terms .agreed) msg (readOn (seen s) msg)
   pub outcome : o ≡ takeRead (seen s) room msg t (readOn (seen s) msg)
   -- `read_message` reads it so, by its own contract
-  pub reader : (κs : Lfts 1) (m : RefT (List ℕ)) → now m ≡ msg → (x : Message)
+  pub reader : (κs : Lfts 1) (m : Slice) → now m ≡ msg → (x : Message)
       → let T : Terms = seen s .terms in
       read-message.Post κs (m, (T .agreed, (T .formats, tt))) x (m, (T .agreed, (T .formats, tt))) → x ≡ readOn (seen s) msg
   -- written by the layouts while the channel is open, it is read as the values that were written
@@ -119,8 +119,9 @@ abbrev pub InRoom : ℕ → List ℕ → Type 0
 InRoom room m = Follows m × (length m ≤ room)
 
 pub record ByLayouts (s : Memory) (c : PortCall) (r : Reply) (ss : List (List ℕ)) (s′ : Memory) : Type 0 where
-  -- both ports are ones that a login made and calls changed, and the port after it has the ranges of those
+  -- the ports before and after it are ones that a login made and calls changed, and in the ranges of such ports
   pub reached : Reached (seen s)
+  pub ranged : Ranged (seen s)
   pub reached′ : Reached (seen s′)
   pub ranged′ : Ranged (seen s′)
   pub writes : All (InRoom (callingOf c .room)) ss
@@ -143,7 +144,7 @@ pub record LoginByLayouts (settings own msg : List ℕ) (room : ℕ) (o : Outcom
 -- a command that was written by the layouts is read as its values, and look names the tables of its two buffers
 abbrev pub LookByLayouts : (agreed formats : ℕ) (msg b b′ : List ℕ) (n : ℕ) → Type 0
 LookByLayouts agreed formats msg b b′ n =
-    (c : CommandFields) → Sendable agreed formats c → msg ≡ commandBytes c → (badLength agreed || otherFormats bothFormats formats) ≡ false → 32 ≤ length b
+    (c : CommandFields) → Sendable agreed formats c → msg ≡ commandBytes c → (badLength agreed || otherFormats bothFormats formats) ≡ false → answerSize ≤ length b
     → let f : Descriptor → List ℕ = λ d. fetchBytes (fetchOf d msg) in
     Reads c msg × (n ≡ 0) × (b′ ≡ placed ((f (commandIn c msg .out) ++ f (commandIn c msg .inn)) ∷ []) b)
 
@@ -153,5 +154,4 @@ pub record Demand2InC : Type 0 where
   pub calls : (s s′ : Memory) (c : PortCall) (r : Reply) (ss : List (List ℕ)) → Led s → callingOf c .typed → callingOf c .made s r ss s′ → ByLayouts s c r ss s′
   pub login : (settings own msg : List ℕ) (room : ℕ) (r : Reply) (ss : List (List ℕ)) (p store : List ℕ) → Bytes msg → LoggedIn settings own msg room r ss p
       → LoginByLayouts settings own msg room (record { reply = r; port = view p store; wrote = ss })
-  pub look : (κs : Lfts 2) (m b d : RefT (List ℕ)) (agreed formats n : ℕ) → look-in-c.Post κs (m, (agreed, (formats, (b, tt)))) n (m, (agreed, (formats, (d, tt))))
-      → LookByLayouts agreed formats (now m) (now b) (now d) n
+  pub look : (m b d : Slice) (agreed formats n : ℕ) → LookPost m b d agreed formats n → LookByLayouts agreed formats (now m) (now b) (now d) n

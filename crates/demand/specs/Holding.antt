@@ -3,8 +3,7 @@ use mathlib.Core.Path.{_≡_}
 use mathlib.Core.List.{List, _∷_, _++_, map}
 use Prim.Native.Nat.{ℕ, _/_, _≤_}
 use lib.ListN.{length, drop, replicate}
-use denote.Ref.{RefT, now}
-use contract.Lifetimes.{Lfts}
+use denote.Ref.{now}
 use Rattle.srp.specs.Limits.{mostBuffers}
 use Rattle.srp.specs.Credit.{owed}
 use Rattle.srp.specs.declared.Settings.{Settings}
@@ -14,8 +13,7 @@ use Rattle.machine.specs.Events.{Event}
 use Rattle.machine.specs.Demand.{counted, Now, Run, Fair, Demand}
 use Rattle.answer.specs.Words.{answerWords}
 use Rattle.exports.specs.Arguments.{recordSize, allWords, settingsIn}
-use Rattle.exports.proofs.port.srp_target_counters.Reads as counters-in-c
-use Rattle.exports.proofs.port.srp_target_list.Reads as list-in-c
+use Rattle.demand.specs.Posts.{Slice, CountersPost, ListPost}
 use Rattle.demand.specs.Calls.{Memory, seen, LoggedIn, Call}
 
 -- the login with these settings and this message was accepted and left the words p, and each call is made on the words and the store that the last
@@ -44,9 +42,6 @@ Lists m before after n w =
 
 pub record Demand3InC : Type 0 where
   pub holds : (settings own msg : List ℕ) (room : ℕ) (ss : List (List ℕ)) (p store : List ℕ) → Holds settings own msg room ss p store
-  pub reports : (L : Login) (m : Machine) (s : Memory) → Now L m (seen s) → (κs : Lfts 2) (p w v : RefT (List ℕ)) (n : ℕ) → now p ≡ s .words
-      → counters-in-c.Post κs (p, (w, tt)) n (p, (v, tt))
-      → Reports L m s n (now v)
-  pub lists : (L : Login) (m : Machine) (s : Memory) → Now L m (seen s) → (κs : Lfts 3) (p before after w v : RefT (List ℕ)) (n : ℕ) → now p ≡ s .words
-      → list-in-c.Post κs (p, (before, (w, tt))) n (p, (after, (v, tt)))
+  pub reports : (L : Login) (m : Machine) (s : Memory) → Now L m (seen s) → (p w v : Slice) (n : ℕ) → now p ≡ s .words → CountersPost p w v n → Reports L m s n (now v)
+  pub lists : (L : Login) (m : Machine) (s : Memory) → Now L m (seen s) → (p before after w v : Slice) (n : ℕ) → now p ≡ s .words → ListPost p before after w v n
       → Lists m (now before) (now after) n (now v)

@@ -3,22 +3,23 @@
 -- words and store before the call, l′ and st′ after it; b and b′ the lent buffer; n is returned, w are the words of the answer.
 use mathlib.Core.Path.{_≡_}
 use mathlib.Core.Logic.{_↔_}
+use mathlib.Core.Bool.{false}
 use mathlib.Core.List.{List, [], _∷_, _++_}
 use mathlib.Core.Option.{none, some}
-use Prim.Native.Nat.{ℕ, _/_, min}
+use Prim.Native.Nat.{ℕ, _/_}
 use lib.Dec.{ltb}
 use lib.ListN.{length, drop, replicate}
+use Rattle.srp.specs.Limits.{answerSize}
 use Rattle.srp.specs.Refusals.{hangsUp, answered, stays, altersNothing, numberOf, conductOf, Check, firstOf}
-use Rattle.srp.specs.Descriptors.{segmentsOf, sumOf, fetchOf}
-use Rattle.srp.specs.Requests.{readMessage, lookChecks, outDescriptor, inDescriptor}
-use Rattle.srp.specs.Cutting.{upTo, next, cutNext, cutChecks}
+use Rattle.srp.specs.Requests.{readMessage, lookChecks, lookOutcome}
+use Rattle.srp.specs.Cutting.{cutChecks, cutOutcome}
 use Rattle.srp.specs.Credit.{Port, closedPort}
 use Rattle.srp.specs.Writing.{targetLogout, placed}
 use Rattle.srp.specs.Take.{Outcome, Tables, answerBad, refusedBy, accepted}
 use Rattle.srp.specs.Order.{takeOrder}
 use Rattle.srp.specs.Calls.{planChecks, planOutcome, stepChecks, stepOutcome, finishChecks, finishOutcome, addChecks, addOutcome, withdrawChecks, withdrawOutcome, grantChecks, grantOutcome, closeChecks, closeOutcome, countersChecks, countersOutcome, listing, listChecks, listOutcome}
 use Rattle.srp.specs.Login.{loginChecks, rejections, judged}
-use Rattle.srp.specs.Outside.{fetchBytes, cutAnswer}
+use Rattle.srp.specs.Outside.{lookAnswer, cutAnswer}
 use Rattle.srp.specs.Answers.{answerOf}
 use Rattle.srp.specs.declared.Refusal.{Refusal}
 use Rattle.srp.specs.declared.Refusal.the-variants.{ShortBuffer}
@@ -81,11 +82,15 @@ pub record Left (l st b l′ st′ b′ s w : List ℕ) (f : Refusal) : Type 0 w
   -- and whatever the refusal, no byte of the store is altered
   pub store : st′ ≡ st
 
--- a message taken comes to its outcome, and the store is altered for a command alone, at its own place
+-- it was taken, with the outcome o: the store is altered for a command alone, at its own place, and a logout leaves the closed port's words
+pub record TakenAs (o : Outcome) (l st b l′ st′ b′ w : List ℕ) : Type 0 where
+  pub comes : Comes o l′ st′ b b′ w
+  pub store : Stores l st l′ st′ (o .reply)
+  pub closed : o .port .live ≡ false → l′ ≡ closedWords
+
 abbrev pub JudgesTake : (l st b l′ st′ b′ s : List ℕ) → Tables → (n : ℕ) (w : List ℕ) → Type 0
 JudgesTake l st b l′ st′ b′ s t n w =
-    let o : Outcome = accepted (view l st) s t (readOn (view l st) s) in
-    Judgement (takeOrder (view l st) (length b) s t) n (Comes o l′ st′ b b′ w × Stores l st l′ st′ (o .reply)) (Left l st b l′ st′ b′ s w)
+    Judgement (takeOrder (view l st) (length b) s t) n (TakenAs (accepted (view l st) s t (readOn (view l st) s)) l st b l′ st′ b′ w) (Left l st b l′ st′ b′ s w)
 
 -- ── login with the settings c, whose own identifier is `own`, by its rejections
 
@@ -150,7 +155,7 @@ JudgesClose l b l′ b′ reason n w =
 abbrev pub JudgesCounters : (l : List ℕ) (n : ℕ) (w : List ℕ) → Type 0
 JudgesCounters l n w = (st : List ℕ) → Judgement (countersChecks (view l st)) n (w ≡ answerWords (answerOf (countersOutcome (view l st)))) (λ f. w ≡ noWords)
 
--- the lent words before and after it hold a fourth as many records
+-- the lent words have room for a fourth as many records
 abbrev pub JudgesList : (l before after : List ℕ) (n : ℕ) (w : List ℕ) → Type 0
 JudgesList l before after n w =
     (st : List ℕ)
@@ -163,16 +168,16 @@ JudgesList l before after n w =
 
 -- "In C the answer takes 32 bytes (a shorter buffer draws 1 first)"
 abbrev pub shortAnswer : ℕ → Check
-shortAnswer room = (ltb room 32, ShortBuffer)
+shortAnswer room = (ltb room answerSize, ShortBuffer)
 
 abbrev pub JudgesLook : (agreed formats : ℕ) (s b b′ : List ℕ) (n : ℕ) → Type 0
 JudgesLook agreed formats s b b′ n =
     Judgement (shortAnswer (length b) ∷ lookChecks agreed formats s) n
-    (b′ ≡ placed ((fetchBytes (fetchOf (outDescriptor s) s) ++ fetchBytes (fetchOf (inDescriptor s) s)) ∷ []) b)
+    (b′ ≡ placed (lookAnswer (lookOutcome s) .wrote) b)
     (λ f. b′ ≡ b)
 
 abbrev pub JudgesCut : (list : List ℕ) (M R handed : ℕ) (b b′ : List ℕ) (n : ℕ) → Type 0
 JudgesCut list M R handed b b′ n =
     Judgement (shortAnswer (length b) ∷ cutChecks list M R handed) n
-    (b′ ≡ placed (cutAnswer (cutNext (next (upTo M) handed (min R (sumOf (segmentsOf list))) (segmentsOf list))) .wrote) b)
+    (b′ ≡ placed (cutAnswer (cutOutcome list M R handed) .wrote) b)
     (λ f. b′ ≡ b)

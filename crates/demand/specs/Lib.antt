@@ -1,3 +1,4 @@
+pub mod Posts
 pub mod Replies
 pub mod Calls
 pub mod Judgement

@@ -8,7 +8,7 @@ use Rattle.srp.specs.Answers.{returned, valuesOf, sizeOf}
 use Rattle.srp.specs.declared.Reply.{Reply}
 use Rattle.answer.specs.Words.{leading, eight}
 use lib.ListN.{length}
-use denote.Ref.{RefT, now}
+use denote.Ref.{now}
 use contract.Lifetimes.{Lfts}
 use Rattle.srp.specs.Limits.{mostBuffers}
 use Rattle.srp.specs.Calls.{planDef, stepDef, finishDef, addDef, withdrawDef, grantDef, closeDef, countersDef, listDef}
@@ -37,26 +37,14 @@ use Rattle.credit.proofs.grant.Reads as grant-call
 use Rattle.close.proofs.close.Reads as close-call
 use Rattle.report.proofs.counters.Reads as counters-call
 use Rattle.report.proofs.list.Reads as list-call
-use Rattle.exports.proofs.srp_look.Reads as look-in-c
-use Rattle.exports.proofs.srp_cut.Reads as cut-in-c
-use Rattle.exports.proofs.port.srp_target_login.Reads as login-in-c
-use Rattle.exports.proofs.port.srp_target_take.Reads as take-in-c
-use Rattle.exports.proofs.port.srp_target_plan.Reads as plan-in-c
-use Rattle.exports.proofs.port.srp_target_step.Reads as step-in-c
-use Rattle.exports.proofs.port.srp_target_finish.Reads as finish-in-c
-use Rattle.exports.proofs.port.srp_target_add.Reads as add-in-c
-use Rattle.exports.proofs.port.srp_target_withdraw.Reads as withdraw-in-c
-use Rattle.exports.proofs.port.srp_target_grant.Reads as grant-in-c
-use Rattle.exports.proofs.port.srp_target_close.Reads as close-in-c
-use Rattle.exports.proofs.port.srp_target_counters.Reads as counters-in-c
-use Rattle.exports.proofs.port.srp_target_list.Reads as list-in-c
+use Rattle.demand.specs.Posts.{Slice, LoginPost, TakePost, PlanPost, StepPost, FinishPost, AddPost, WithdrawPost, GrantPost, ClosePost, CountersPost, ListPost, LookPost, CutPost}
 
 -- of a call by value: the reply r has the number and the values of the outcome
 pub record SaysAs (r : Reply) (o : Outcome) : Type 0 where
   pub number : returned r ≡ returned (o .reply)
   pub values : valuesOf r ≡ valuesOf (o .reply)
 
--- of a call from C: n is the number, and the eight words are the values behind what stands before them, filled up with 0
+-- of a call from C: n is the number; the eight words are what `leading` says, then the values, then 0
 pub record CountsAs (n : ℕ) (w : List ℕ) (o : Outcome) : Type 0 where
   pub number : n ≡ returned (o .reply)
   pub values : w ≡ eight (leading (sizeOf (o .wrote)) (o .reply) ++ valuesOf (o .reply))
@@ -64,83 +52,61 @@ pub record CountsAs (n : ℕ) (w : List ℕ) (o : Outcome) : Type 0 where
 -- ── each call by value, whatever the store holds where it is not lent it
 
 pub record EachSays : Type 0 where
-  pub login : (p q : RefT (List ℕ)) (κs : Lfts 4) (c : Settings) (id m b d : RefT (List ℕ)) (a : Answer)
+  pub login : (p q : Slice) (κs : Lfts 4) (c : Settings) (id m b d : Slice) (a : Answer)
       → login-call.Post κs (p, (c, (id, (m, (b, tt))))) a (q, (c, (id, (m, (d, tt)))))
       → SaysAs (a .reply) (loginDef c (now id) (length (now b)) (now m))
-  pub take : (p q : RefT (List ℕ)) (κs : Lfts 4) (s s′ m out inn b d : RefT (List ℕ)) (a : Answer)
+  pub take : (p q : Slice) (κs : Lfts 4) (s s′ m out inn b d : Slice) (a : Answer)
       → take-call.Post κs (p, (s, (m, (out, (inn, (b, tt)))))) a (q, (s′, (m, (out, (inn, (d, tt))))))
       → SaysAs (a .reply) (takeDef (view (now p) (now s)) (length (now b)) (now m) (tables (now out) (now inn)))
-  pub plan : (st : List ℕ) (p q : RefT (List ℕ)) (κs : Lfts 1) (tag out inn : ℕ) (r : Reply)
+  pub plan : (st : List ℕ) (p q : Slice) (κs : Lfts 1) (tag out inn : ℕ) (r : Reply)
       → plan-call.Post κs (p, (tag, (out, (inn, tt)))) r (q, (tag, (out, (inn, tt))))
       → SaysAs r (planDef (view (now p) st) tag out inn)
-  pub step : (p q : RefT (List ℕ)) (κs : Lfts 2) (s : RefT (List ℕ)) (tag : ℕ) (d : Direction) (r : Reply)
+  pub step : (p q : Slice) (κs : Lfts 2) (s : Slice) (tag : ℕ) (d : Direction) (r : Reply)
       → step-call.Post κs (p, (s, (tag, (d, tt)))) r (q, (s, (tag, (d, tt))))
       → SaysAs r (stepDef (view (now p) (now s)) tag d)
-  pub finish : (st : List ℕ) (p q : RefT (List ℕ)) (κs : Lfts 3) (tag status : ℕ) (e b d : RefT (List ℕ)) (a : Answer)
+  pub finish : (st : List ℕ) (p q : Slice) (κs : Lfts 3) (tag status : ℕ) (e b d : Slice) (a : Answer)
       → finish-call.Post κs (p, (tag, (status, (e, (b, tt))))) a (q, (tag, (status, (e, (d, tt)))))
       → SaysAs (a .reply) (finishDef (view (now p) st) (length (now b)) tag status (now e))
-  pub add : (st : List ℕ) (p q : RefT (List ℕ)) (κs : Lfts 1) (k : ℕ) (r : Reply)
+  pub add : (st : List ℕ) (p q : Slice) (κs : Lfts 1) (k : ℕ) (r : Reply)
       → add-call.Post κs (p, (k, tt)) r (q, (k, tt))
       → SaysAs r (addDef (view (now p) st) k)
-  pub withdraw : (st : List ℕ) (p q : RefT (List ℕ)) (κs : Lfts 1) (k : ℕ) (r : Reply)
+  pub withdraw : (st : List ℕ) (p q : Slice) (κs : Lfts 1) (k : ℕ) (r : Reply)
       → withdraw-call.Post κs (p, (k, tt)) r (q, (k, tt))
       → SaysAs r (withdrawDef (view (now p) st) k)
-  pub grant : (st : List ℕ) (p q : RefT (List ℕ)) (κs : Lfts 2) (b d : RefT (List ℕ)) (a : Answer)
+  pub grant : (st : List ℕ) (p q : Slice) (κs : Lfts 2) (b d : Slice) (a : Answer)
       → grant-call.Post κs (p, (b, tt)) a (q, (d, tt))
       → SaysAs (a .reply) (grantDef (view (now p) st) (length (now b)))
-  pub close : (st : List ℕ) (p q : RefT (List ℕ)) (κs : Lfts 2) (reason : ℕ) (b d : RefT (List ℕ)) (a : Answer)
+  pub close : (st : List ℕ) (p q : Slice) (κs : Lfts 2) (reason : ℕ) (b d : Slice) (a : Answer)
       → close-call.Post κs (p, (reason, (b, tt))) a (q, (reason, (d, tt)))
       → SaysAs (a .reply) (closeDef (view (now p) st) (length (now b)) reason)
-  pub counters : (st : List ℕ) (p : RefT (List ℕ)) (κs : Lfts 1) (r : Reply)
+  pub counters : (st : List ℕ) (p : Slice) (κs : Lfts 1) (r : Reply)
       → counters-call.Post κs (p, tt) r (p, tt)
       → SaysAs r (countersDef (view (now p) st))
-  pub list : (st : List ℕ) (p : RefT (List ℕ)) (κs : Lfts 1) (g : Listing)
+  pub list : (st : List ℕ) (p : Slice) (κs : Lfts 1) (g : Listing)
       → list-call.Post κs (p, tt) g (p, tt)
       → SaysAs (g .reply) (listDef (view (now p) st) mostBuffers)
   -- `WritesListing` is what the contracts of `list_into` and `lend` cite: a proof by hand exports no `Post`
-  pub list-into : (st : List ℕ) (p : RefT (List ℕ)) (before after : List Record) (r : Reply)
+  pub list-into : (st : List ℕ) (p : Slice) (before after : List Record) (r : Reply)
       → WritesListing (now p) before after r
       → SaysAs r (listDef (view (now p) st) (length before))
 
 -- ── each C function: plan, add and withdraw have a number and no values; look's and the cut's values are their 32 bytes
 
 pub record EachCounts : Type 0 where
-  pub login : (p q w v : RefT (List ℕ)) (n : ℕ) (κs : Lfts 6) (c id m b d : RefT (List ℕ))
-      → login-in-c.Post κs (p, (c, (id, (m, (b, (w, tt)))))) n (q, (c, (id, (m, (d, (v, tt))))))
-      → CountsAs n (now v) (loginDef (settingsIn (now c)) (now id) (length (now b)) (now m))
-  pub take : (p q w v : RefT (List ℕ)) (n : ℕ) (κs : Lfts 5) (s s′ m out inn b d : RefT (List ℕ))
-      → take-in-c.Post κs (p, (s, (m, (out, (inn, (b, (w, tt))))))) n (q, (s′, (m, (out, (inn, (d, (v, tt)))))))
-      → CountsAs n (now v) (takeDef (view (now p) (now s)) (length (now b)) (now m) (tables (now out) (now inn)))
-  pub plan : (st : List ℕ) (p q : RefT (List ℕ)) (n : ℕ) (κs : Lfts 1) (tag out inn : ℕ)
-      → plan-in-c.Post κs (p, (tag, (out, (inn, tt)))) n (q, (tag, (out, (inn, tt))))
-      → n ≡ returned (planDef (view (now p) st) tag out inn .reply)
-  pub step : (p q w v : RefT (List ℕ)) (n : ℕ) (κs : Lfts 3) (s : RefT (List ℕ)) (tag k : ℕ)
-      → step-in-c.Post κs (p, (s, (tag, (k, (w, tt))))) n (q, (s, (tag, (k, (v, tt)))))
-      → CountsAs n (now v) (stepDef (view (now p) (now s)) tag (directionIn k))
-  pub finish : (st : List ℕ) (p q w v : RefT (List ℕ)) (n : ℕ) (κs : Lfts 4) (tag status : ℕ) (e b d : RefT (List ℕ))
-      → finish-in-c.Post κs (p, (tag, (status, (e, (b, (w, tt)))))) n (q, (tag, (status, (e, (d, (v, tt))))))
+  pub login : (p q c id m b d w v : Slice) (n : ℕ) → LoginPost p q c id m b d w v n → CountsAs n (now v) (loginDef (settingsIn (now c)) (now id) (length (now b)) (now m))
+  pub take : (p q st st′ m out inn b d w v : Slice) (n : ℕ) → TakePost p q st st′ m out inn b d w v n
+      → CountsAs n (now v) (takeDef (view (now p) (now st)) (length (now b)) (now m) (tables (now out) (now inn)))
+  pub plan : (st : List ℕ) (p q : Slice) (tag out inn n : ℕ) → PlanPost p q tag out inn n → n ≡ returned (planDef (view (now p) st) tag out inn .reply)
+  pub step : (p q st w v : Slice) (tag direction n : ℕ) → StepPost p q st w v tag direction n
+      → CountsAs n (now v) (stepDef (view (now p) (now st)) tag (directionIn direction))
+  pub finish : (st : List ℕ) (p q e b d w v : Slice) (tag status n : ℕ) → FinishPost p q e b d w v tag status n
       → CountsAs n (now v) (finishDef (view (now p) st) (length (now b)) tag status (now e))
-  pub add : (st : List ℕ) (p q : RefT (List ℕ)) (n : ℕ) (κs : Lfts 1) (k : ℕ)
-      → add-in-c.Post κs (p, (k, tt)) n (q, (k, tt))
-      → n ≡ returned (addDef (view (now p) st) k .reply)
-  pub withdraw : (st : List ℕ) (p q : RefT (List ℕ)) (n : ℕ) (κs : Lfts 1) (k : ℕ)
-      → withdraw-in-c.Post κs (p, (k, tt)) n (q, (k, tt))
-      → n ≡ returned (withdrawDef (view (now p) st) k .reply)
-  pub grant : (st : List ℕ) (p q w v : RefT (List ℕ)) (n : ℕ) (κs : Lfts 3) (b d : RefT (List ℕ))
-      → grant-in-c.Post κs (p, (b, (w, tt))) n (q, (d, (v, tt)))
-      → CountsAs n (now v) (grantDef (view (now p) st) (length (now b)))
-  pub close : (st : List ℕ) (p q w v : RefT (List ℕ)) (n : ℕ) (κs : Lfts 3) (reason : ℕ) (b d : RefT (List ℕ))
-      → close-in-c.Post κs (p, (reason, (b, (w, tt)))) n (q, (reason, (d, (v, tt))))
-      → CountsAs n (now v) (closeDef (view (now p) st) (length (now b)) reason)
-  pub counters : (st : List ℕ) (p w v : RefT (List ℕ)) (n : ℕ) (κs : Lfts 2)
-      → counters-in-c.Post κs (p, (w, tt)) n (p, (v, tt))
-      → CountsAs n (now v) (countersDef (view (now p) st))
-  pub list : (st : List ℕ) (p w v : RefT (List ℕ)) (n : ℕ) (κs : Lfts 3) (before after : RefT (List ℕ))
-      → list-in-c.Post κs (p, (before, (w, tt))) n (p, (after, (v, tt)))
+  pub add : (st : List ℕ) (p q : Slice) (k n : ℕ) → AddPost p q k n → n ≡ returned (addDef (view (now p) st) k .reply)
+  pub withdraw : (st : List ℕ) (p q : Slice) (k n : ℕ) → WithdrawPost p q k n → n ≡ returned (withdrawDef (view (now p) st) k .reply)
+  pub grant : (st : List ℕ) (p q b d w v : Slice) (n : ℕ) → GrantPost p q b d w v n → CountsAs n (now v) (grantDef (view (now p) st) (length (now b)))
+  pub close : (st : List ℕ) (p q b d w v : Slice) (reason n : ℕ) → ClosePost p q b d w v reason n → CountsAs n (now v) (closeDef (view (now p) st) (length (now b)) reason)
+  pub counters : (st : List ℕ) (p w v : Slice) (n : ℕ) → CountersPost p w v n → CountsAs n (now v) (countersDef (view (now p) st))
+  pub list : (st : List ℕ) (p before after w v : Slice) (n : ℕ) → ListPost p before after w v n
       → CountsAs n (now v) (listDef (view (now p) st) (length (now before) / recordSize))
-  pub look : (b d : RefT (List ℕ)) (n : ℕ) (κs : Lfts 2) (m : RefT (List ℕ)) (agreed formats : ℕ)
-      → look-in-c.Post κs (m, (agreed, (formats, (b, tt)))) n (m, (agreed, (formats, (d, tt))))
-      → Answered n (now b) (now d) (inBuffer (length (now b)) (lookAnswer (lookDef agreed formats (now m))))
-  pub cut : (b d : RefT (List ℕ)) (n : ℕ) (κs : Lfts 2) (l : RefT (List ℕ)) (M R handed : ℕ)
-      → cut-in-c.Post κs (l, (M, (R, (handed, (b, tt))))) n (l, (M, (R, (handed, (d, tt)))))
-      → Answered n (now b) (now d) (inBuffer (length (now b)) (cutAnswer (cutDef (now l) M R handed)))
+  pub look : (m b d : Slice) (agreed formats n : ℕ) → LookPost m b d agreed formats n → Answered n (now b) (now d) (inBuffer (length (now b)) (lookAnswer (lookDef agreed formats (now m))))
+  pub cut : (l b d : Slice) (M R handed n : ℕ) → CutPost l b d M R handed n → Answered n (now b) (now d) (inBuffer (length (now b)) (cutAnswer (cutDef (now l) M R handed)))

@@ -16,7 +16,7 @@ abbrev pub refusedOr : Option Refusal → Reply → Reply
 refusedOr none r = r
 refusedOr (some f) r = Refused f
 
--- the number n is the refusal's; where it is no refusal's the words w say the reply, as `said` reads them
+-- where n is a refusal's number, that refusal; else what the words w say, as `said` reads them
 abbrev pub replyBy : (said : List ℕ → Reply) (n : ℕ) (w : List ℕ) → Reply
 replyBy said n w = refusedOr (refusalNumbered n) (said w)
 

@@ -88,9 +88,9 @@ abbrev pub cutNext : Option Piece → Cut
 cutNext none = CutDone
 cutNext (some p) = CutPiece p
 
+-- "gives the next piece or done"
+abbrev pub cutOutcome : List ℕ → ℕ → ℕ → ℕ → Cut
+cutOutcome list M R handed = cutNext (next (upTo M) handed (min R (sumOf (segmentsOf list))) (segmentsOf list))
+
 abbrev pub cutDef : List ℕ → ℕ → ℕ → ℕ → Cut
-cutDef list M R handed =
-    elim (firstOf (cutChecks list M R handed)) [
-      | none ↦ cutNext (next (upTo M) handed (min R (sumOf (segmentsOf list))) (segmentsOf list))
-      | some r ↦ CutRefused r
-    ]
+cutDef list M R handed = elim (firstOf (cutChecks list M R handed)) [ none ↦ cutOutcome list M R handed | some r ↦ CutRefused r ]

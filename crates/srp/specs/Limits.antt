@@ -5,6 +5,10 @@ use Prim.Native.Nat.{ℕ}
 abbrev pub bufferSize : ℕ
 bufferSize = 132
 
+-- look's and the cut's answer in C has so many bytes
+abbrev pub answerSize : ℕ
+answerSize = 32
+
 -- N and W are 1 to this; so many records has a lent list
 abbrev pub mostBuffers : ℕ
 mostBuffers = 16

@@ -4,7 +4,7 @@ use mathlib.Core.List.{List, [], _∷_, _++_}
 use mathlib.Core.Option.{none, some}
 use Prim.Native.Nat.{ℕ, zero, suc, _+_, _/_, _%_, _^_}
 use lib.Dec.{ltb, eqb}
-use Rattle.srp.specs.Limits.{longestAgreed, bothFormats}
+use Rattle.srp.specs.Limits.{answerSize, longestAgreed, bothFormats}
 use Rattle.srp.specs.Bytes.{bytesOf, puts, zeros}
 use Rattle.srp.specs.Messages.{memoryDescriptor}
 use Rattle.srp.specs.Refusals.{numberOf, firstOf}
@@ -41,7 +41,7 @@ givingC bytes = record { returns = 0; wrote = bytes ∷ [] }
 
 -- "In C the answer takes 32 bytes (a shorter buffer draws 1 first)"
 abbrev pub inBuffer : ℕ → CReturn → CReturn
-inBuffer room a = cond (ltb room 32) (refusingC ShortBuffer) a
+inBuffer room a = cond (ltb room answerSize) (refusingC ShortBuffer) a
 
 abbrev pub descriptorBytes : ℕ → ℕ → ℕ → List ℕ
 descriptorBytes address handle len = puts memoryDescriptor (address ∷ handle ∷ len ∷ []) (zeros 16)
@@ -61,7 +61,7 @@ lookInC agreed formats s room = inBuffer room (lookAnswer (lookDef agreed format
 abbrev pub cutAnswer : Cut → CReturn
 cutAnswer (CutRefused r) = refusingC r
 cutAnswer (CutPiece p) = givingC (descriptorBytes (p .address) (p .handle) (p .len) ++ (bytesOf 4 (p .offset) ++ zeros 12))
-cutAnswer CutDone = givingC (zeros 32)
+cutAnswer CutDone = givingC (zeros answerSize)
 
 abbrev pub cutInC : List ℕ → ℕ → ℕ → ℕ → ℕ → CReturn
 cutInC list M R handed room = inBuffer room (cutAnswer (cutDef list M R handed))

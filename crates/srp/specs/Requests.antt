@@ -138,12 +138,11 @@ lookChecks agreed formats s =
     ++ ((not (eqb (typeOf s) (cmd .code)), OtherType) ∷ commandChecks formats s)
 
 -- "Look reads a command without state and names the table fetch for each direction"
+abbrev pub lookOutcome : List ℕ → Look
+lookOutcome s = Fetches (fetchOf (outDescriptor s) s) (fetchOf (inDescriptor s) s)
+
 abbrev pub lookDef : ℕ → ℕ → List ℕ → Look
-lookDef agreed formats s =
-    elim (firstOf (lookChecks agreed formats s)) [
-      | none ↦ Fetches (fetchOf (outDescriptor s) s) (fetchOf (inDescriptor s) s)
-      | some r ↦ LookRefused r
-    ]
+lookDef agreed formats s = elim (firstOf (lookChecks agreed formats s)) [ none ↦ lookOutcome s | some r ↦ LookRefused r ]
 
 -- the CDB's part of a message, empty where look refuses it
 abbrev pub cdbDef : ℕ → ℕ → List ℕ → List ℕ
