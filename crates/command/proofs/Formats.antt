@@ -15,7 +15,8 @@ use Rattle.srp.specs.Descriptors.{agrees, descriptorSize, descriptorOf, badCoun
 use Rattle.command.specs.Reading.{agreedOf, withTotal, LiesIn}
 use Rattle.command.specs.declared.descriptors.Format.{Format}
 use Rattle.command.specs.declared.descriptors.Format.the-variants.{Agreed, NotAgreed}
-use Rattle.command.proofs.Told.{was-false, neither}
+use Rattle.srp.proofs.Checks.{both-false}
+use Rattle.command.proofs.Told.{was-false}
 
 -- ── whether a format is agreed
 
@@ -82,7 +83,7 @@ unread a true c = refl
 unread a false c = refl
 
 few : (b : Bool) (c n : ℕ) → (b && (ltb 32 (cond b c 0) || ltb (cond b n 0) (16 * cond b c 0))) ≡ false → (cond b c 0 ≤ 32) × (16 * cond b c 0 ≤ cond b n 0)
-few true c n e = (ltb-false 32 c (neither (ltb 32 c) (ltb n (16 * c)) e .0), ltb-false n (16 * c) (neither (ltb 32 c) (ltb n (16 * c)) e .1))
+few true c n e = (ltb-false 32 c (both-false (ltb 32 c) (ltb n (16 * c)) e .0), ltb-false n (16 * c) (both-false (ltb 32 c) (ltb n (16 * c)) e .1))
 few false c n e = (omega arith, omega arith)
 
 -- what passed the checks, read but for its total length, lies within the message

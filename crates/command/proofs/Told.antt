@@ -10,6 +10,7 @@ use Rattle.srp.specs.Limits.{bothFormats}
 use Rattle.srp.specs.Descriptors.{badCount}
 use Rattle.srp.specs.Requests.{otherFormats, badLength}
 use Rattle.srp.specs.declared.Descriptor.{Descriptor}
+use Rattle.srp.proofs.Checks.{both-false}
 use Rattle.command.specs.Reading.{settingOf, lengthFrom, lengthIn, lengthIs, messageType, countFits}
 use Rattle.command.specs.declared.checks.Setting.{Setting}
 use Rattle.command.specs.declared.checks.Setting.the-variants.{InRange, OutOfRange}
@@ -55,18 +56,13 @@ module _ (least n : ℕ) {r : Length} (e : r ≡ lengthFrom least n) where
   pub at-least : r ≡ Allowed → least ≤ n
   at-least q = ltb-false n least (was-false two-lengths (ltb n least) e q)
 
--- of two tests, neither hit
-pub neither : (a b : Bool) → (a || b) ≡ false → (a ≡ false) × (b ≡ false)
-neither true b e = let z : _≡_ {A = ℕ} 0 1 = cc in let q : ⊥ = omega arith in absurd q
-neither false b e = (refl, e)
-
 module _ (least most n : ℕ) {r : Length} (e : r ≡ lengthIn least most n) where
   pub out-of-bounds : r ≡ NotAllowed → (ltb n least || ltb most n) ≡ true
   out-of-bounds q = was-true two-lengths (ltb n least || ltb most n) e q
 
   pub in-bounds : r ≡ Allowed → (least ≤ n) × (n ≤ most)
   in-bounds q =
-      let t = neither (ltb n least) (ltb most n) (was-false two-lengths (ltb n least || ltb most n) e q) in
+      let t = both-false (ltb n least) (ltb most n) (was-false two-lengths (ltb n least || ltb most n) e q) in
       (ltb-false n least (t .0), ltb-false most n (t .1))
 
 module _ (exact n : ℕ) {r : Length} (e : r ≡ lengthIs exact n) where

@@ -12,7 +12,7 @@ use borrow.Author.Tests.{le-ltb, ltb-false}
 use lib.Dec.{ltb}
 use lib.ListN.{length}
 use denote.Ref.{now}
-use Rattle.srp.specs.Limits.{bufferSize, shortestAgreed}
+use Rattle.srp.specs.Limits.{bufferSize, answerSize, shortestAgreed}
 use Rattle.srp.specs.Bytes.{Bytes, get, part, typeOf}
 use Rattle.srp.specs.Messages.{tag, formatBits, requestedLength, loginCrsolnt, loginLosolnt, channelAction, targetIdentifier, loginReq}
 use Rattle.srp.specs.Lists.{All}
@@ -166,7 +166,7 @@ look-by-layouts : (agreed formats : ℕ) (msg b b′ : List ℕ) (n : ℕ) → J
 look-by-layouts agreed formats msg b b′ n J c k e good room =
     let C = command-read-as agreed formats msg c k e in
     let look = none-hits (firstOf (lookChecks agreed formats msg)) (commandOf msg) (commandIn c msg) (sym (look-as-take agreed formats msg (C .0 .code) good) ∙ C .1) in
-    let hits : firstOf (shortAnswer (length b) ∷ lookChecks agreed formats msg) ≡ none = rw (le-ltb (length b) 32 room) (look .0) in (
+    let hits : firstOf (shortAnswer (length b) ∷ lookChecks agreed formats msg) ≡ none = rw (le-ltb (length b) answerSize room) (look .0) in (
       C .0,
       J .unrefused .1 hits,
       J .performs hits

@@ -7,6 +7,7 @@ use mathlib.Core.Option.{Option, none, some, Option·none-ne-some, Option·some-
 use Prim.Native.Nat.{ℕ}
 use lib.Dec.{ltb}
 use native.Mathlib.Omega.{arith}
+use Rattle.srp.specs.Limits.{answerSize}
 use Rattle.srp.specs.Refusals.{numberOf, Check, firstOf}
 use Rattle.srp.specs.Credit.{Port}
 use Rattle.srp.specs.Writing.{placed}
@@ -131,7 +132,7 @@ module _ (g : Option Refusal → CReturn) (refused : (f : Refusal) → g (some f
       first-of false x = refl
 
       first : inBuffer room (g (firstOf checks)) ≡ g (firstOf (shortAnswer room ∷ checks))
-      first = first-of (ltb room 32) (firstOf checks)
+      first = first-of (ltb room answerSize) (firstOf checks)
 
       number : (x : Option Refusal) → g x .returns ≡ numberFor x
       number none = unrefused

@@ -14,6 +14,7 @@ ghost use mathlib.Core.Path.{_≡_};
 ghost use mathlib.Core.List.{[], _∷_, _++_};
 ghost use Prim.Native.Nat.{_+_, _≤_};
 ghost use lib.ListN.{length};
+ghost use Rattle.srp.specs.Limits.{answerSize};
 ghost use Rattle.srp.specs.Bytes.{bytesOf, zeros};
 ghost use Rattle.srp.specs.Writing.{placed};
 ghost use Rattle.srp.specs.Outside.{descriptorBytes, fetchBytes, lookInC, cutInC};
@@ -46,7 +47,7 @@ fn put_fetch(buf: &mut [u8], at: usize, f: Fetch)
 
 // Look's two fetches.
 fn put_fetches(buf: &mut [u8], out: Fetch, inn: Fetch)
-    requires { ⌜ (32 ≤ length (now buf)) × Blank out × Blank inn ⌝ }
+    requires { ⌜ (answerSize ≤ length (now buf)) × Blank out × Blank inn ⌝ }
     ensures { λ _. ⌜ now (buf .exit) ≡ placed ((fetchBytes out ++ fetchBytes inn) ∷ []) (now (buf .entry)) ⌝ }
 {
     wire::clear(&mut *buf, ANSWER);
@@ -56,7 +57,7 @@ fn put_fetches(buf: &mut [u8], out: Fetch, inn: Fetch)
 
 // The cut's piece, and then its offset.
 fn put_piece(buf: &mut [u8], p: Piece)
-    requires { ⌜ 32 ≤ length (now buf) ⌝ }
+    requires { ⌜ answerSize ≤ length (now buf) ⌝ }
     ensures { λ _. ⌜ now (buf .exit) ≡ placed ((descriptorBytes (p .address) (p .handle) (p .len) ++ (bytesOf 4 (p .offset) ++ zeros 12)) ∷ []) (now (buf .entry)) ⌝ }
 {
     wire::clear(&mut *buf, ANSWER);

@@ -20,7 +20,8 @@ use Rattle.srp.specs.declared.Message.{Message}
 use Rattle.srp.specs.declared.Message.the-variants.{Bad, Cmd, TskMgmt, CredRsp, ILogout}
 use Rattle.srp.proofs.Reading.{Wrong, ByType, read-by-type}
 use Rattle.command.specs.Reading.{Fits}
-use Rattle.command.proofs.Told.{was-true, was-false, neither}
+use Rattle.srp.proofs.Checks.{both-false}
+use Rattle.command.proofs.Told.{was-true, was-false}
 use Rattle.request.specs.Reading.{knownType, FitsMessage}
 use Rattle.request.specs.declared.KnownType.{KnownType}
 use Rattle.request.specs.declared.KnownType.the-variants.{Known, Unknown}
@@ -42,8 +43,8 @@ two-types e = let z : _≡_ {A = ℕ} 0 1 = cc in omega arith
 -- of three tests, none or the last hit
 none-hit : (a b c : Bool) → (a || (b || c)) ≡ false → (a ≡ false) × (b ≡ false) × (c ≡ false)
 none-hit a b c e =
-    let p = neither a (b || c) e in
-    let q = neither b c (p .1) in
+    let p = both-false a (b || c) e in
+    let q = both-false b c (p .1) in
     (p .0, q .0, q .1)
 
 last-hit : (a b c : Bool) → (a || (b || c)) ≡ true → a ≡ false → b ≡ false → c ≡ true
