@@ -50,6 +50,8 @@ pub fn number_of(refusal: Refusal) -> u32
         Refusal::Wanted => 28,
         Refusal::Unplanned => 29,
         Refusal::Planned => 30,
+        Refusal::Offset => 31,
+        Refusal::Unfinished => 32,
     }
 }
 

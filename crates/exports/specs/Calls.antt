@@ -7,7 +7,7 @@ use lib.IntN.{pos}
 use lib.ListN.{length, drop, replicate}
 use Rattle.srp.specs.Credit.{Port}
 use Rattle.srp.specs.Take.{Outcome, Tables, takeDef}
-use Rattle.srp.specs.Calls.{planDef, stepDef, finishDef, addDef, withdrawDef, grantDef, closeDef, countersDef, listing, listDef}
+use Rattle.srp.specs.Calls.{planDef, moveDef, stepDef, finishDef, addDef, withdrawDef, grantDef, closeDef, countersDef, listing, listDef}
 use Rattle.srp.specs.Login.{loginDef}
 use Rattle.srp.specs.Answers.{returned, valuesOf, answerOf}
 use Rattle.srp.specs.declared.Reply.{Reply}
@@ -47,7 +47,7 @@ pub record StepsInC (l st l′ : List ℕ) (n : ℕ) (w : List ℕ) (o : Outcome
   pub numbers : InC n w o
   pub call : RepliesAs l st l′ st (o .reply) o
 
--- plan, add, withdraw
+-- plan, move, add, withdraw
 pub record RepliesInC (l st l′ : List ℕ) (n : ℕ) (o : Outcome) : Type 0 where
   pub number : n ≡ returned (o .reply)
   pub call : RepliesAs l st l′ st (o .reply) o
@@ -74,6 +74,10 @@ pub record TakeInC (l st b l′ st′ b′ s : List ℕ) (t : Tables) (n : ℕ) 
 
 abbrev pub PlanInC : (l l′ : List ℕ) (tag out inn n : ℕ) → Type 0
 PlanInC l l′ tag out inn n = (st : List ℕ) → RepliesInC l st l′ n (planDef (view l st) tag out inn)
+
+abbrev pub MoveInC : (l l′ : List ℕ) (tag direction offset count n : ℕ) → Type 0
+MoveInC l l′ tag direction offset count n =
+    (st : List ℕ) → RepliesInC l st l′ n (moveDef (view l st) tag (directionIn direction) offset count)
 
 pub record StepInC (l l′ st : List ℕ) (tag direction n : ℕ) (w : List ℕ) : Type 0 where
   pub steps : StepsInC l st l′ n w (stepDef (view l st) tag (directionIn direction))

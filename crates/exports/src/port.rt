@@ -17,7 +17,7 @@ ghost use Rattle.srp.specs.Writing.{placed};
 ghost use Rattle.words.specs.Sizes.{portWords};
 ghost use Rattle.report.specs.Reports.{slotRecords};
 ghost use Rattle.take.specs.Taking.{tables};
-ghost use Rattle.exports.specs.Calls.{Gives, Plain, Wordless, LoginInC, TakeInC, PlanInC, StepInC, FinishInC, AddInC, WithdrawInC, GrantInC, CloseInC, CountersInC, ListInC};
+ghost use Rattle.exports.specs.Calls.{Gives, Plain, Wordless, LoginInC, TakeInC, PlanInC, MoveInC, StepInC, FinishInC, AddInC, WithdrawInC, GrantInC, CloseInC, CountersInC, ListInC};
 ghost use Rattle.exports.specs.Arguments.{recordSize, recordWords, allWords, settingsIn, directionIn};
 
 // Words of a record.
@@ -126,6 +126,21 @@ pub extern "C" fn srp_target_plan(port: &mut [u64; PORT], tag: u64, out: u32, in
     ensures { λ n. ⌜ PlanInC (now (port .entry)) (now (port .exit)) tag out inn n ⌝ }
 {
     let r = transfer::plan(port, tag, out, inn);
+    answer::returned(r)
+}
+
+#[no_mangle]
+pub extern "C" fn srp_target_move(
+    port: &mut [u64; PORT],
+    tag: u64,
+    direction: u32,
+    offset: u32,
+    count: u32,
+) -> u32
+    ensures { λ n. ⌜ MoveInC (now (port .entry)) (now (port .exit)) tag direction offset count n ⌝ }
+{
+    let d = direction_of(direction);
+    let r = transfer::name_move(port, tag, d, offset, count);
     answer::returned(r)
 }
 

@@ -47,12 +47,12 @@ fn residual(p: Part) -> Residual
 {
     let total = p.total;
     let required = p.transfer.required;
-    let handed = p.transfer.handed;
+    let highest = p.transfer.highest;
     if total < required {
         return Residual::Over(required - total);
     }
-    if handed < total {
-        return Residual::Under(total - handed);
+    if highest < total {
+        return Residual::Under(total - highest);
     }
     Residual::Even
 }

@@ -66,8 +66,8 @@ fn record_of(c: Slot) -> Record
     Record {
         tag: request.tag,
         lun: request.lun,
-        out: out.handed,
-        inn: inn.handed,
+        out: out.highest,
+        inn: inn.highest,
     }
 }
 

@@ -26,6 +26,8 @@ pub enum Refusal {
     Wanted,
     Unplanned,
     Planned,
+    Offset,
+    Unfinished,
 }
 
 // Data-out, which RDMA Reads fetch, and data-in, which RDMA Writes bring.
@@ -74,10 +76,13 @@ pub struct Terms {
     pub losolnt: bool,
 }
 
-// What moves of a command's data in a direction: R, which is 0 until it is planned, and the bytes handed out.
+// What moves of a command's data in a direction: R, which is 0 until it is planned; h, the highest offset handed out + 1, 0 where nothing was; and
+// what is left of the current move, its bytes from `at` up to `end`, both 0 before any move.
 pub struct Transfer {
     pub required: u32,
-    pub handed: u32,
+    pub highest: u32,
+    pub at: u32,
+    pub end: u32,
 }
 
 // An SRP_CMD. Its CDB is the cdb bytes of the message from byte 32 on.
@@ -130,7 +135,7 @@ pub enum Cut {
     CutDone,
 }
 
-// How the bytes handed out in a direction differ from those required: more were required than B; fewer than B were handed out.
+// How a direction's data differ from its buffer: more were required than B; h stayed below B.
 pub enum Residual {
     Even,
     Over(u32),
@@ -145,7 +150,7 @@ pub struct Counters {
     pub owed: i64,
 }
 
-// An open command in a listing: the bytes handed out each way.
+// An open command in a listing, with h each way.
 pub struct Record {
     pub tag: u64,
     pub lun: u64,
@@ -156,7 +161,7 @@ pub struct Record {
 // What a call on the port answers.
 pub enum Reply {
     Refused(Refusal),
-    // a plan, add, withdraw, finish, grant or close
+    // a plan, move, add, withdraw, finish, grant or close
     Performed,
     // a take: a command with its CDB's length; a task request; a settled credit request; the initiator's logout
     NewCommand { tag: u64, lun: u64, cdb: usize },

@@ -73,13 +73,15 @@ fn put_bytes(to: &mut [u8], at: usize, from: &[u8])
     bytes::copy(from, &mut to[at..end]);
 }
 
-// A direction with so many segments, of which nothing was planned or handed out.
+// A direction with so many segments, of which nothing was planned, named or handed out.
 fn new_part(segments: u8, total: u32) -> Part
     ensures { λ r. ⌜ r ≡ newPart segments total ⌝ }
 {
     let none = Transfer {
         required: 0,
-        handed: 0,
+        highest: 0,
+        at: 0,
+        end: 0,
     };
     Part {
         segments: segments,

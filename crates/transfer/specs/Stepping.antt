@@ -1,8 +1,8 @@
--- What plan and step promise.
+-- What plan, move and step promise.
 use mathlib.Core.Path.{_≡_}
 use mathlib.Core.List.{List}
 use Prim.Native.Nat.{ℕ}
-use Rattle.srp.specs.Calls.{planDef, stepOutcome, stepDef}
+use Rattle.srp.specs.Calls.{planDef, moveDef, stepOutcome, stepDef}
 use Rattle.srp.specs.declared.Direction.{Direction}
 use Rattle.srp.specs.declared.Reply.{Reply}
 use Rattle.srp.specs.declared.Reply.the-variants.{Done}
@@ -13,6 +13,9 @@ use Rattle.state.specs.Promises.{RepliesAs, RepliesWith}
 
 abbrev pub Plans : (l l′ : List ℕ) (tag out inn : ℕ) → Reply → Type 0
 Plans l l′ tag out inn r = RepliesWith l l′ r (λ p. planDef p tag out inn)
+
+abbrev pub Names : (l l′ : List ℕ) (tag : ℕ) (d : Direction) (offset count : ℕ) → Reply → Type 0
+Names l l′ tag d offset count r = RepliesWith l l′ r (λ p. moveDef p tag d offset count)
 
 -- a step that says done alters no word
 pub record Steps (l l′ st : List ℕ) (tag : ℕ) (d : Direction) (r : Reply) : Type 0 where

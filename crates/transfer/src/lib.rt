@@ -1,4 +1,4 @@
-// Plan and step: what a command requires each way, and its RDMA operations one after the other.
+// Plan, move and step: what a command requires each way, the moves that its owner names, and their RDMA operations one after the other.
 use srp::Cut;
 use srp::Direction;
 use srp::Kind;
@@ -12,21 +12,20 @@ use words::PLACE;
 use words::PORT;
 use words::Part;
 use words::STORE;
-use words::Slot;
 use words::commands;
 ghost use mathlib.Core.Path.{_≡_};
 ghost use mathlib.Core.Bool.{true};
-ghost use mathlib.Core.Option.{some};
-ghost use Prim.Native.Nat.{_≤_, _<_, _+_};
-ghost use lib.ListN.{length};
-ghost use Rattle.srp.specs.Calls.{nextOf, kindOf};
+ghost use Prim.Native.Nat.{_≤_, _<_, _+_, max};
+ghost use lib.ListN.{length, getD};
+ghost use Rattle.srp.specs.Limits.{mostCopies};
+ghost use Rattle.srp.specs.Calls.{nextIn, kindOf};
 ghost use Rattle.cut.specs.Walk.{nextWrapped};
 ghost use Rattle.words.specs.Sizes.{portWords, storeSize, mostSlots, listSize};
-ghost use Rattle.words.specs.Slots.{partFor, placeFor, SlotFits, SlotIs};
+ghost use Rattle.words.specs.Slots.{slots, noSlot, placeAt};
 ghost use Rattle.words.specs.Head.{headOf};
-ghost use Rattle.words.specs.View.{openOf};
+ghost use Rattle.words.specs.View.{sideOf};
 ghost use Rattle.state.specs.Changes.{FoundAt};
-ghost use Rattle.transfer.specs.Stepping.{Plans, Steps, HandsOut};
+ghost use Rattle.transfer.specs.Stepping.{Plans, Names, Steps, HandsOut};
 
 // States what a command requires each way. Refused 21, 24, 30.
 pub fn plan(s: &mut [u64; PORT], tag: u64, out: u32, inn: u32) -> Reply
@@ -40,31 +39,59 @@ pub fn plan(s: &mut [u64; PORT], tag: u64, out: u32, inn: u32) -> Reply
     let Found::At(i) = state::find(s, tag) else {
         return Reply::Refused(Refusal::TagNotOpen);
     };
-    let c = commands::load(s, i);
-    let already = c.planned;
-    if already {
+    if commands::load_planned(s, i) {
         return Reply::Refused(Refusal::Planned);
     }
     commands::set_plan(s, i, out, inn);
     Reply::Performed
 }
 
-// One direction of a command.
-fn part_for(c: Slot, d: Direction) -> Part
-    ensures { λ r. ⌜ r ≡ partFor d c ⌝ }
+// The move of a planned command, in slot i. Refused 31, 32.
+fn begin(s: &mut [u64], tag: u64, i: usize, d: Direction, offset: u32, count: u32) -> Reply
+    requires { ⌜ length (now s) ≡ portWords ⌝ }
+    requires { ⌜ headOf (now s) .live ≡ true ⌝ }
+    requires { ⌜ FoundAt (now s) tag i ⌝ }
+    requires { ⌜ getD (slots (now s)) i noSlot .planned ≡ true ⌝ }
+    ensures { λ r. ⌜ Names (now (s .entry)) (now (s .exit)) tag d offset count r ⌝ }
 {
-    match d {
-        Direction::Out => c.out,
-        Direction::In => c.inn,
+    let p = commands::load_part(s, i, d);
+    let t = p.transfer;
+    let limit = wire::least(t.required as u64, p.total as u64);
+    if limit < offset as u64 {
+        return Reply::Refused(Refusal::Offset);
     }
+    if t.at < t.end {
+        return Reply::Refused(Refusal::Unfinished);
+    }
+    let end = wire::least((offset as u64) + (count as u64), limit) as u32;
+    commands::set_move(s, i, d, t.highest, offset, end);
+    Reply::Performed
+}
+
+// Names a move: so many bytes of a direction from an offset on, trimmed at min(R, B). Refused 21, 24, 29, 31, 32.
+pub fn name_move(s: &mut [u64; PORT], tag: u64, d: Direction, offset: u32, count: u32) -> Reply
+    ensures { λ r. ⌜ Names (now (s .entry)) (now (s .exit)) tag d offset count r ⌝ }
+{
+    let h = words::get_head(s);
+    let live = h.live;
+    if !live {
+        return Reply::Refused(Refusal::Closed);
+    }
+    let Found::At(i) = state::find(s, tag) else {
+        return Reply::Refused(Refusal::TagNotOpen);
+    };
+    if !commands::load_planned(s, i) {
+        return Reply::Refused(Refusal::Unplanned);
+    }
+    begin(s, tag, i, d, offset, count)
 }
 
 // Where the memory descriptors of a direction stand in the store.
-fn place_for(c: Slot, d: Direction) -> usize
-    requires { ⌜ c .place < mostSlots ⌝ }
-    ensures { λ r. ⌜ (r ≡ placeFor d c) × (r + listSize ≤ storeSize) ⌝ }
+fn place_for(place: u8, d: Direction) -> usize
+    requires { ⌜ place < mostSlots ⌝ }
+    ensures { λ r. ⌜ (r ≡ placeAt d place) × (r + listSize ≤ storeSize) ⌝ }
 {
-    let at = (c.place as usize) * PLACE;
+    let at = (place as usize) * PLACE;
     match d {
         Direction::Out => at,
         Direction::In => at + LIST,
@@ -80,42 +107,49 @@ fn kind_for(d: Direction) -> Kind
     }
 }
 
-// The next piece of a direction, or done.
-fn next_for(store: &[u8], c: Slot, d: Direction, terms: Terms) -> Cut
-    requires { ⌜ length (now store) ≡ storeSize ⌝ }
-    requires { ⌜ SlotFits c ⌝ }
-    ensures { λ r. ⌜ r ≡ nextWrapped (nextOf terms d (some (openOf (now (store .entry)) c))) ⌝ }
+fn larger(a: u32, b: u32) -> u32
+    ensures { λ r. ⌜ r ≡ max a b ⌝ }
 {
-    let p = part_for(c, d);
-    let at = place_for(c, d);
-    let end = at + (p.segments as usize) * SEGMENT;
-    let to = wire::least(p.transfer.required as u64, p.total as u64) as u32;
-    cut::next_piece(&store[at..end], terms.maximum, p.transfer.handed, to)
+    if a < b { b } else { a }
 }
 
-// The next piece of the command in slot i, or done.
-fn hand_out(s: &mut [u64], store: &[u8], i: usize, c: Slot, d: Direction, terms: Terms) -> Reply
+// The next piece of a direction's current move, or done.
+fn next_for(store: &[u8], place: u8, p: Part, d: Direction, terms: Terms) -> Cut
+    requires { ⌜ length (now store) ≡ storeSize ⌝ }
+    requires { ⌜ place < mostSlots ⌝ }
+    requires { ⌜ p .segments ≤ mostCopies ⌝ }
+    ensures { λ r. ⌜ r ≡ nextWrapped (nextIn terms (sideOf (now (store .entry)) (placeAt d place) p)) ⌝ }
+{
+    let at = place_for(place, d);
+    let end = at + (p.segments as usize) * SEGMENT;
+    cut::next_piece(&store[at..end], terms.maximum, p.transfer.at, p.transfer.end)
+}
+
+// The next piece of the planned command in slot i, or done.
+fn hand_out(s: &mut [u64], store: &[u8], tag: u64, i: usize, d: Direction, terms: Terms) -> Reply
     requires { ⌜ length (now s) ≡ portWords ⌝ }
     requires { ⌜ length (now store) ≡ storeSize ⌝ }
     requires { ⌜ headOf (now s) .live ≡ true ⌝ }
-    requires { ⌜ FoundAt (now s) (c .request .tag) i ⌝ }
-    requires { ⌜ SlotIs (now s) i c ⌝ }
+    requires { ⌜ FoundAt (now s) tag i ⌝ }
     requires { ⌜ terms ≡ headOf (now s) .terms ⌝ }
-    ensures { λ r. ⌜ HandsOut (now (s .entry)) (now (s .exit)) (now (store .entry)) (c .request .tag) d r ⌝ }
+    ensures { λ r. ⌜ HandsOut (now (s .entry)) (now (s .exit)) (now (store .entry)) tag d r ⌝ }
 {
-    match next_for(store, c, d, terms) {
+    let p = commands::load_part(s, i, d);
+    let place = commands::load_place(s, i);
+    match next_for(store, place, p, d, terms) {
         // next_piece refuses nothing: this arm is shown not to be reached
         Cut::CutRefused(f) => Reply::Refused(f),
         Cut::CutDone => Reply::Done,
         Cut::CutPiece(piece) => {
-            let p = part_for(c, d);
-            commands::set_handed(s, i, d, p.transfer.handed + piece.len);
+            let next = p.transfer.at + piece.len;
+            let highest = larger(p.transfer.highest, next);
+            commands::set_move(s, i, d, highest, next, p.transfer.end);
             Reply::Operation(kind_for(d), piece)
         }
     }
 }
 
-// The next piece of a direction, or done. Refused 21, 24, 29.
+// The next piece of a direction's current move, or done. Refused 21, 24, 29.
 pub fn step(s: &mut [u64; PORT], store: &[u8; STORE], tag: u64, d: Direction) -> Reply
     ensures { λ r. ⌜ Steps (now (s .entry)) (now (s .exit)) (now (store .entry)) tag d r ⌝ }
 {
@@ -127,10 +161,8 @@ pub fn step(s: &mut [u64; PORT], store: &[u8; STORE], tag: u64, d: Direction) ->
     let Found::At(i) = state::find(s, tag) else {
         return Reply::Refused(Refusal::TagNotOpen);
     };
-    let c = commands::load(s, i);
-    let ready = c.planned;
-    if !ready {
+    if !commands::load_planned(s, i) {
         return Reply::Refused(Refusal::Unplanned);
     }
-    hand_out(s, store, i, c, d, h.terms)
+    hand_out(s, store, tag, i, d, h.terms)
 }

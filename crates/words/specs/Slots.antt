@@ -35,7 +35,13 @@ partIn r k =
     record {
       segments = min (getD r k 0) mostCopies;
       total = getD r (k + 1) 0 % 2 ^ 32;
-      transfer = record { required = getD r (k + 2) 0 % 2 ^ 32; handed = getD r (k + 3) 0 % 2 ^ 32 };
+      transfer =
+          record {
+            required = getD r (k + 2) 0 % 2 ^ 32;
+            highest = getD r (k + 3) 0 % 2 ^ 32;
+            at = getD r (k + 4) 0 % 2 ^ 32;
+            end = getD r (k + 5) 0 % 2 ^ 32;
+          };
     }
 
 abbrev pub slotOf : List ℕ → Slot
@@ -49,7 +55,8 @@ slotOf r =
     }
 
 abbrev pub partWordsOf : Part → List ℕ
-partWordsOf p = p .segments ∷ p .total ∷ p .transfer .required ∷ p .transfer .handed ∷ []
+partWordsOf p =
+    p .segments ∷ p .total ∷ p .transfer .required ∷ p .transfer .highest ∷ p .transfer .at ∷ p .transfer .end ∷ []
 
 -- the words of a slot that are used
 abbrev pub wordsOf : Slot → List ℕ
@@ -82,7 +89,7 @@ abbrev pub slots : List ℕ → List Slot
 slots l = slotsFrom mostSlots 0 l
 
 abbrev pub noPart : Part
-noPart = record { segments = 0; total = 0; transfer = record { required = 0; handed = 0 } }
+noPart = record { segments = 0; total = 0; transfer = record { required = 0; highest = 0; at = 0; end = 0 } }
 
 abbrev pub noSlot : Slot
 noSlot =
@@ -107,12 +114,20 @@ partsOf c = record { out = c .out; inn = c .inn }
 abbrev pub partFor : Direction → Slot → Part
 partFor d c = of d (partsOf c)
 
--- where a direction's memory descriptors stand in the store
-abbrev pub placeFor : Direction → Slot → ℕ
-placeFor Out c = placeSize * c .place
-placeFor In c = placeSize * c .place + listSize
+-- a direction that was read
+pub record PartIs (l : List ℕ) (i : ℕ) (d : Direction) (p : Part) : Type 0 where
+  pub whole : p ≡ partFor d (getD (slots l) i noSlot)
+  pub few : p .segments ≤ mostCopies
 
--- ── a plan stated, bytes handed out
+-- where a direction's memory descriptors stand in the store, by the command's place there
+abbrev pub placeAt : Direction → ℕ → ℕ
+placeAt Out place = placeSize * place
+placeAt In place = placeSize * place + listSize
+
+abbrev pub placeFor : Direction → Slot → ℕ
+placeFor d c = placeAt d (c .place)
+
+-- ── a plan stated, a move named or handed out
 
 -- a slot with another state of its plan and its directions
 abbrev pub withParts : Slot → Bool → Both Part → Slot
@@ -122,17 +137,15 @@ abbrev pub partWith : Part → Transfer → Part
 partWith p t = record { segments = p .segments; total = p .total; transfer = t }
 
 abbrev pub requiringOf : ℕ → Part → Part
-requiringOf r p = partWith p (record { required = r; handed = p .transfer .handed })
+requiringOf r p =
+    partWith p (record { required = r; highest = p .transfer .highest; at = p .transfer .at; end = p .transfer .end })
 
 abbrev pub plannedSlot : ℕ → ℕ → Slot → Slot
 plannedSlot out inn c = withParts c true (along requiringOf (record { out = out; inn = inn }) (partsOf c))
 
--- the word of a slot that says how many bytes of a direction are handed out
-abbrev pub handedAt : Direction → ℕ
-handedAt d = partAt d + 3
+abbrev pub movingOf : ℕ → ℕ → ℕ → Part → Part
+movingOf h at end p = partWith p (record { required = p .transfer .required; highest = h; at = at; end = end })
 
-abbrev pub handingOf : ℕ → Part → Part
-handingOf n p = partWith p (record { required = p .transfer .required; handed = n })
-
-abbrev pub handedSlot : Direction → ℕ → Slot → Slot
-handedSlot d n c = withParts c (c .planned) (alter d (handingOf n) (partsOf c))
+-- a slot with another h and another current move of a direction
+abbrev pub movedSlot : Direction → ℕ → ℕ → ℕ → Slot → Slot
+movedSlot d h at end c = withParts c (c .planned) (alter d (movingOf h at end) (partsOf c))

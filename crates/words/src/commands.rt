@@ -12,7 +12,7 @@ ghost use mathlib.Core.Path.{_≡_};
 ghost use Prim.Native.Nat.{_+_, _≤_, _<_};
 ghost use lib.ListN.{length, getD};
 ghost use Rattle.words.specs.Sizes.{portWords, mostSlots, slotWords, requestWords, partWords};
-ghost use Rattle.words.specs.Slots.{slotRequest, partIn, slotOf, wordsOf, slots, noSlot, SlotIs, SlotFits, plannedSlot, handedAt, handedSlot};
+ghost use Rattle.words.specs.Slots.{slotRequest, partAt, partIn, slotOf, wordsOf, slots, noSlot, SlotIs, SlotFits, PartIs, plannedSlot, movedSlot};
 ghost use Rattle.words.specs.Head.{SlotChanged};
 
 // Words of a slot: the request's four, whether a plan was stated, the place, and those of each direction.
@@ -27,14 +27,18 @@ const IN: usize = OUT + PART;
 // so many are used
 const USED: usize = IN + PART;
 
-// Words of a direction: the number of its segments, B, R, the bytes handed out.
+// Words of a direction: the number of its segments, B, R, h, and the current move's next byte and end.
 const TOTAL: usize = 1;
 
 const REQUIRED: usize = 2;
 
-const HANDED: usize = 3;
+const HIGHEST: usize = 3;
 
-const PART: usize = 4;
+const NEXT: usize = 4;
+
+const END: usize = 5;
+
+const PART: usize = 6;
 
 // What a number may be; there are as many places as commands can be open.
 const MOST_SEGMENTS: u64 = limits::MOST_COPIES as u64;
@@ -62,7 +66,9 @@ fn part_of(r: &[u64], at: usize) -> Part
     let segments = wire::least(r[at], MOST_SEGMENTS);
     let transfer = Transfer {
         required: (r[at + REQUIRED] % NUMBERS) as u32,
-        handed: (r[at + HANDED] % NUMBERS) as u32,
+        highest: (r[at + HIGHEST] % NUMBERS) as u32,
+        at: (r[at + NEXT] % NUMBERS) as u32,
+        end: (r[at + END] % NUMBERS) as u32,
     };
     Part {
         segments: segments as u8,
@@ -88,7 +94,7 @@ fn slot_of(r: &[u64]) -> Slot
     }
 }
 
-fn words_of(c: Slot) -> [u64; 14]
+fn words_of(c: Slot) -> [u64; 18]
     ensures { λ r. ⌜ r ≡ wordsOf c ⌝ }
 {
     let request = c.request;
@@ -106,11 +112,15 @@ fn words_of(c: Slot) -> [u64; 14]
         out.segments as u64,
         out.total as u64,
         o.required as u64,
-        o.handed as u64,
+        o.highest as u64,
+        o.at as u64,
+        o.end as u64,
         inn.segments as u64,
         inn.total as u64,
         i.required as u64,
-        i.handed as u64,
+        i.highest as u64,
+        i.at as u64,
+        i.end as u64,
     ]
 }
 
@@ -132,6 +142,45 @@ pub fn load_request(s: &[u64], i: usize) -> Request
 {
     let at = SLOT * i + HEAD;
     request_of(&s[at..at + SLOT])
+}
+
+// Whether a plan was stated for the command in slot i.
+pub fn load_planned(s: &[u64], i: usize) -> bool
+    requires { ⌜ length (now s) ≡ portWords ⌝ }
+    requires { ⌜ i < mostSlots ⌝ }
+    ensures { λ b. ⌜ b ≡ getD (slots (now (s .entry))) i noSlot .planned ⌝ }
+{
+    s[SLOT * i + HEAD + PLANNED] % 2 == 1
+}
+
+// The place in the store of the command in slot i.
+pub fn load_place(s: &[u64], i: usize) -> u8
+    requires { ⌜ length (now s) ≡ portWords ⌝ }
+    requires { ⌜ i < mostSlots ⌝ }
+    ensures { λ r. ⌜ (r ≡ getD (slots (now (s .entry))) i noSlot .place) × (r < mostSlots) ⌝ }
+{
+    (s[SLOT * i + HEAD + AT] % PLACES) as u8
+}
+
+// Where the words of a direction stand in a slot.
+fn part_at(d: Direction) -> usize
+    ensures { λ r. ⌜ (r ≡ partAt d) × (r + partWords ≤ slotWords) ⌝ }
+{
+    match d {
+        Direction::Out => OUT,
+        Direction::In => IN,
+    }
+}
+
+// One direction of the command in slot i.
+pub fn load_part(s: &[u64], i: usize, d: Direction) -> Part
+    requires { ⌜ length (now s) ≡ portWords ⌝ }
+    requires { ⌜ i < mostSlots ⌝ }
+    ensures { λ p. ⌜ PartIs (now (s .entry)) i d p ⌝ }
+{
+    let at = SLOT * i + HEAD;
+    let k = part_at(d);
+    part_of(&s[at..at + SLOT], k)
 }
 
 pub fn save(s: &mut [u64], i: usize, c: Slot)
@@ -172,22 +221,15 @@ pub fn set_plan(s: &mut [u64], i: usize, out: u32, inn: u32)
     s[at + (IN + REQUIRED)] = inn as u64;
 }
 
-// The word of a slot that says how many bytes of a direction are handed out.
-fn handed_at(d: Direction) -> usize
-    ensures { λ r. ⌜ (r ≡ handedAt d) × (r < slotWords) ⌝ }
-{
-    match d {
-        Direction::Out => OUT + HANDED,
-        Direction::In => IN + HANDED,
-    }
-}
-
-// So many bytes of a direction of the command in slot i are handed out.
-pub fn set_handed(s: &mut [u64], i: usize, d: Direction, handed: u32)
+// Another h and another current move of a direction of the command in slot i.
+pub fn set_move(s: &mut [u64], i: usize, d: Direction, highest: u32, next: u32, end: u32)
     requires { ⌜ length (now s) ≡ portWords ⌝ }
     requires { ⌜ i < mostSlots ⌝ }
-    ensures { λ _. ⌜ SlotChanged (now (s .entry)) (now (s .exit)) i (handedSlot d handed) ⌝ }
+    ensures { λ _. ⌜ SlotChanged (now (s .entry)) (now (s .exit)) i (movedSlot d highest next end) ⌝ }
 {
-    let k = handed_at(d);
-    s[SLOT * i + HEAD + k] = handed as u64;
+    let at = SLOT * i + HEAD;
+    let k = part_at(d);
+    s[at + (k + HIGHEST)] = highest as u64;
+    s[at + (k + NEXT)] = next as u64;
+    s[at + (k + END)] = end as u64;
 }
