@@ -13,7 +13,7 @@ use Rattle.srp.specs.Login.{termsOf, opened, loginDef}
 use Rattle.srp.specs.declared.Settings.{Settings}
 use Rattle.srp.specs.Take.{Outcome}
 use Rattle.machine.specs.Machine.{Machine, start, Login, loginOf}
-use Rattle.machine.specs.Events.{Event, sends, delivers, takes, plans, steps, finishes, adds, withdraws, grants, actionOf, after, closes}
+use Rattle.machine.specs.Events.{Event, sends, delivers, takes, plans, names, steps, finishes, adds, withdraws, grants, actionOf, after, closes}
 use Rattle.machine.specs.Demand.{Until, Run, Fair, Demand, Meets}
 use Rattle.srp.specs.declared.Reply.{Reply}
 use Rattle.srp.specs.declared.Reply.the-variants.{Accepted}
@@ -23,7 +23,7 @@ use Rattle.srp.proofs.Ranges.{cutting, open-ranges}
 use Rattle.srp.proofs.CutLaws.{Lawful}
 use Rattle.machine.proofs.Invariant.{Ok, now, Obeys}
 use Rattle.machine.proofs.Taking.{take-obeys}
-use Rattle.machine.proofs.Steps.{send-obeys, deliver-obeys, add-obeys, withdraw-obeys, grant-obeys, finish-obeys, plan-obeys, step-obeys}
+use Rattle.machine.proofs.Steps.{send-obeys, deliver-obeys, add-obeys, withdraw-obeys, grant-obeys, finish-obeys, plan-obeys, move-obeys, step-obeys}
 
 -- every event does what demand 3 says of it, and obeying the invariant until the channel closes
 module _ (L : Login) (cut : Lawful (ruleOf (L .terms))) (m : Machine) (p : Port) (h : Ok L m p) where
@@ -32,6 +32,7 @@ module _ (L : Login) (cut : Lawful (ruleOf (L .terms))) (m : Machine) (p : Port)
   obeys delivers a = deliver-obeys h
   obeys (takes room t) a = take-obeys h room t
   obeys (plans tag out inn) a = plan-obeys h tag out inn
+  obeys (names tag d offset count) a = move-obeys h cut tag d offset count
   obeys (steps tag d) a = step-obeys h cut tag d
   obeys (finishes room tag status sense) a = finish-obeys h room tag status sense
   obeys (adds k) a = add-obeys h k

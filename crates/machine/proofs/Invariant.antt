@@ -14,22 +14,35 @@ use borrow.Author.Tests.{le-ltb, ltb-true, ltb-false}
 use Rattle.srp.specs.Bytes.{typeOf}
 use Rattle.srp.specs.Refusals.{firstOf}
 use Rattle.srp.specs.Lists.{find, All, isSome}
-use Rattle.srp.specs.Descriptors.{sumOf, reachable}
-use Rattle.srp.specs.Cutting.{bytesIn}
 use Rattle.srp.specs.Both.{Each, each}
+<<<<<<< /work/main/crates/machine/proofs/Invariant.antt
 use Rattle.srp.specs.Credit.{Side, withSides, Open, Port, owed, due, withCredit, withHeld, withWanted, withUnanswered}
 use Rattle.srp.specs.declared.Terms.{Terms}
+||||||| /tmp/mf/base
+use Rattle.srp.specs.Credit.{Side, withSides, Open, Port, Terms, owed, due, withCredit, withHeld, withWanted, withUnanswered}
+=======
+use Rattle.srp.specs.Credit.{withSides, Open, Port, Terms, owed, due, withCredit, withHeld, withWanted, withUnanswered}
+>>>>>>> /tmp/mf/theirs
 use Rattle.srp.specs.Writing.{answer}
 use Rattle.srp.specs.Take.{Outcome, silent, answering, hasTag, isOpen}
+<<<<<<< /work/main/crates/machine/proofs/Invariant.antt
 use Rattle.srp.specs.Calls.{recordOf, handing}
 use Rattle.machine.specs.Machine.{deltaOf, deltas, requests, Progress, Track, withOperation, shownAs, Wire, Work, Machine, four, lack, unused, wantedBy, tracked, requestsHeld, withWire, withWork, withBuffers, withQueue, joined, join, saysLogout, Login}
 use Rattle.machine.specs.Actions.{Action}
+||||||| /tmp/mf/base
+use Rattle.srp.specs.Calls.{recordOf, handing}
+use Rattle.machine.specs.Machine.{deltaOf, deltas, isCreditRequest, requests, Progress, Track, withOperation, shownAs, Wire, Work, Machine, four, lack, unused, wantedBy, tracked, requestsHeld, withWire, withWork, withBuffers, withQueue, joined, join, saysLogout, Login}
+use Rattle.machine.specs.Events.{Action}
+=======
+use Rattle.srp.specs.Calls.{recordOf}
+use Rattle.machine.specs.Machine.{deltaOf, deltas, isCreditRequest, requests, Track, shownAs, Wire, Work, Machine, four, lack, unused, wantedBy, tracked, requestsHeld, withWire, withWork, withBuffers, withQueue, joined, join, saysLogout, Login}
+use Rattle.machine.specs.Events.{Action}
+>>>>>>> /tmp/mf/theirs
 use Rattle.machine.specs.Demand.{Until, Distinct, InOrder, Sum, ByLack, Lift, Now, Then}
-use Rattle.srp.specs.declared.Piece.{Piece}
 use Rattle.srp.specs.declared.Refusal.{Refusal}
 use Rattle.srp.specs.declared.Reply.{Reply}
 use Rattle.srp.specs.declared.Reply.the-variants.{Refused}
-use Rattle.srp.proofs.CutLaws.{bytesIn-append}
+use Rattle.machine.proofs.Moves.{sideIn, Steady}
 use Rattle.srp.proofs.ListLaws.{find-map, all-weaken}
 use Rattle.machine.proofs.Deltas.{Carries, answer-carries}
 
@@ -47,13 +60,26 @@ sub-back a b = rw (le-ltb (a + b) b (omega arith)) (ap pos (omega arith))
 
 -- ── the port's command as the machine follows it
 
+<<<<<<< /work/main/crates/machine/proofs/Invariant.antt
 abbrev pub sideIn : Progress → Side
 sideIn g =
     record {
       extent = record { segs = g .segs; total = sumOf (g .segs) };
       transfer = record { required = g .required; handed = bytesIn (g .operations) };
     }
+||||||| /tmp/mf/base
+abbrev pub sideIn : Progress → Side
+sideIn g =
+    record {
+      extent = record { segs = g .segs; total = sumOf (g .segs) };
+      course = record { required = g .required; handed = bytesIn (g .operations) };
+    }
+=======
+abbrev pub openIn : Terms → Track → Open
+openIn T t = withSides t (t .planned) (each (sideIn T) (t .sides))
+>>>>>>> /tmp/mf/theirs
 
+<<<<<<< /work/main/crates/machine/proofs/Invariant.antt
 abbrev pub openIn : Track → Open
 openIn t = withSides t (t .planned) (each sideIn (t .sides))
 
@@ -66,17 +92,32 @@ abbrev pub Reach : Progress → Type 0
 Reach g = reachable (g .segs) ≡ true
 
 -- nothing is handed out before the plan, what was is the first of the cuts, and no segment passes 2^64
+||||||| /tmp/mf/base
+abbrev pub openIn : Track → Open
+openIn t = withSides t (t .planned) (each sideIn (t .sides))
+
+pub side-more : (g : Progress) (o : Piece) → handing (o .len) (sideIn g) ≡ sideIn (withOperation o g)
+side-more g o =
+    let e : bytesIn (g .operations) + o .len ≡ bytesIn (g .operations ++ (o ∷ [])) = omega (arith, bytesIn-append (g .operations) (o ∷ [])) in
+    λ i. record { extent = sideIn g .extent; course = record { required = g .required; handed = e i } }
+
+abbrev pub Reach : Progress → Type 0
+Reach g = reachable (g .segs) ≡ true
+
+-- nothing is handed out before the plan, what was is the first of the cuts, and no segment passes 2^64
+=======
+-- no move is named before the plan, and each direction is followed
+>>>>>>> /tmp/mf/theirs
 pub record Sound (T : Terms) (t : Track) : Type 0 where
-  pub unplanned : t .planned ≡ false → Each (λ g. g .operations ≡ []) (t .sides)
-  pub order : InOrder T t
-  pub reach : Each Reach (t .sides)
+  pub unplanned : t .planned ≡ false → Each (λ g. g .moves ≡ []) (t .sides)
+  pub steady : Each (Steady T) (t .sides)
 
 -- ── the invariant
 
 -- the port's commands cs are those that the machine follows
 pub record Follows (T : Terms) (w : Work) (cs : List Open) : Type 0 where
   pub counts : w .taken ≡ w .ended + length (w .tracks)
-  pub commands : cs ≡ map openIn (w .tracks)
+  pub commands : cs ≡ map (openIn T) (w .tracks)
   pub sound : All (Sound T) (w .tracks)
   pub distinct : Distinct (w .tracks)
 
@@ -93,24 +134,24 @@ some-map : {A B : Type 0} (f : A → B) (o : Option A) → isSome (Option·map f
 some-map f none = refl
 some-map f (some x) = refl
 
-shown-map : (ts : List Track) → map recordOf (map openIn ts) ≡ map shownAs ts
-shown-map [] = refl
-shown-map (t ∷ ts) = rw (shown-map ts)
+shown-map : (T : Terms) (ts : List Track) → map recordOf (map (openIn T) ts) ≡ map shownAs ts
+shown-map T [] = refl
+shown-map T (t ∷ ts) = rw (shown-map T ts)
 
 module _ {L : Login} {m : Machine} {p : Port} (h : Ok L m p) where
   pub held : length (p .held) ≡ length (m .work .tracks)
-  held = ap length (h .work .commands) ∙ length-map (m .work .tracks) openIn
+  held = ap length (h .work .commands) ∙ length-map (m .work .tracks) (openIn (L .terms))
 
   sum : Sum L m (owed p)
   sum =
       let f : four m ≡ p .announced + length (p .held) = omega (arith, held, h .credit, h .work .counts) in
       rw (f, sub-add, ← h .wanted, sub-back)
 
-  pub find-same : (tag : ℕ) → find (hasTag tag) (p .held) ≡ Option·map openIn (find (hasTag tag) (m .work .tracks))
-  find-same tag = ap (find (hasTag tag)) (h .work .commands) ∙ find-map openIn (hasTag tag) (m .work .tracks)
+  pub find-same : (tag : ℕ) → find (hasTag tag) (p .held) ≡ Option·map (openIn (L .terms)) (find (hasTag tag) (m .work .tracks))
+  find-same tag = ap (find (hasTag tag)) (h .work .commands) ∙ find-map (openIn (L .terms)) (hasTag tag) (m .work .tracks)
 
   pub open-same : (tag : ℕ) → isOpen p tag ≡ isSome (tracked m tag)
-  open-same tag = ap isSome (find-same tag) ∙ some-map openIn (find (hasTag tag) (m .work .tracks))
+  open-same tag = ap isSome (find-same tag) ∙ some-map (openIn (L .terms)) (find (hasTag tag) (m .work .tracks))
 
   pub lacks : due p ≡ lack (L .buffers) m
   lacks = omega (arith, held, h .credit, h .wanted, h .work .counts)
@@ -129,9 +170,9 @@ module _ {L : Login} {m : Machine} {p : Port} (h : Ok L m p) where
         reports = rw (h .live, wanted-same, h .credit, open-held);
         commands = h .work .counts;
         lists = rw (h .live, open-held);
-        listed = ap (map recordOf) (h .work .commands) ∙ shown-map (m .work .tracks);
+        listed = ap (map recordOf) (h .work .commands) ∙ shown-map (L .terms) (m .work .tracks);
         distinct = h .work .distinct;
-        in-order = all-weaken (Sound (L .terms)) (InOrder (L .terms)) (λ t s. s .order) (m .work .tracks) (h .work .sound);
+        in-order = all-weaken (Sound (L .terms)) (InOrder (L .terms)) (λ t s. (s .steady .0 .order, s .steady .1 .order)) (m .work .tracks) (h .work .sound);
       }
 
 -- ── what a call writes

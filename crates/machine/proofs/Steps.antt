@@ -3,29 +3,58 @@
 use mathlib.Core.Path.{_≡_, refl, ap, sym, _∙_, subst}
 use mathlib.Core.Bool.{Bool, true, false, cond, true≢false, or-true}
 use mathlib.Core.List.{List, [], _∷_, _++_, map}
+<<<<<<< /work/main/crates/machine/proofs/Steps.antt
 use mathlib.Core.Option.{Option, none, some, Option·map, Option·none-ne-some}
 use Prim.Native.Nat.{ℕ, suc, _+_, _-_, _≤_, min}
+||||||| /tmp/mf/base
+use mathlib.Core.Option.{Option, none, some, Option·map, Option·none-ne-some, Option·some-injective}
+use Prim.Native.Nat.{ℕ, suc, _+_, _-_, _≤_, min}
+=======
+use mathlib.Core.Option.{Option, none, some, Option·map, Option·none-ne-some, Option·some-injective}
+use Prim.Native.Nat.{ℕ, _+_, _-_, _≤_}
+>>>>>>> /tmp/mf/theirs
 use native.Mathlib.Omega.{arith}
-use lib.ListN.{length, take, getElem?, length-append}
+use lib.Dec.{ltb}
+use lib.ListN.{length}
 use lib.Seq.{take-all}
 use borrow.Author.Tests.{ltb-false, leb-false, not-false}
 use Rattle.srp.specs.Bytes.{typeOf}
 use Rattle.srp.specs.Lists.{find, change, without, All, isSome}
 use Rattle.srp.specs.Refusals.{firstOf}
+<<<<<<< /work/main/crates/machine/proofs/Steps.antt
 use Rattle.srp.specs.Descriptors.{sumOf}
+||||||| /tmp/mf/base
+use Rattle.srp.specs.Descriptors.{sumOf, reachable}
+=======
+>>>>>>> /tmp/mf/theirs
 use Rattle.srp.specs.Requests.{isRequest}
-use Rattle.srp.specs.Cutting.{bytesIn, next}
 use Rattle.srp.specs.Both.{of}
+<<<<<<< /work/main/crates/machine/proofs/Steps.antt
 use Rattle.srp.specs.Credit.{withSides, Open, ruleOf, Port, due, withHeld}
 use Rattle.srp.specs.declared.Terms.{Terms}
+||||||| /tmp/mf/base
+use Rattle.srp.specs.Credit.{withSides, Open, Terms, ruleOf, Port, due, withHeld}
+=======
+use Rattle.srp.specs.Credit.{Side, movable, withSides, onSide, Open, Terms, ruleOf, Port, due, withHeld}
+>>>>>>> /tmp/mf/theirs
 use Rattle.srp.specs.Writing.{creditRequest}
 use Rattle.srp.specs.Take.{Outcome, silent, answering, hasTag, isOpen}
-use Rattle.srp.specs.Calls.{unless, isPlanned, planned, planChecks, planDef, kindOf, handing, advanced, nextIn, nextOf, wrapped, handOut, stepChecks, stepDef, finalOf, finalResponse, finishChecks, finishDef, addChecks, addDef, withdrawChecks, withdrawDef, grantChecks, grantDef}
+use Rattle.srp.specs.Calls.{unless, isPlanned, planned, planChecks, planDef, moving, beyond, hasPieces, unfinished, moveChecks, moveDef, kindOf, handing, nextIn, nextOf, wrapped, handOut, stepChecks, stepDef, finalOf, finalResponse, finishChecks, finishDef, addChecks, addDef, withdrawChecks, withdrawDef, grantChecks, grantDef}
 use Rattle.srp.specs.Answers.{refusalIn}
+<<<<<<< /work/main/crates/machine/proofs/Steps.antt
 use Rattle.machine.specs.Machine.{deltas, requests, Progress, Track, plannedFor, withOperation, given, Work, Machine, tracked, withWork, withTracks, Login}
 use Rattle.machine.specs.Actions.{Owners, byOwner, atFront, between}
 use Rattle.machine.specs.Events.{sending, delivered, delivering, planning, wholeOf, saidOf, Right, stepping, finishing, adding, withdrawing, granting}
 use Rattle.machine.specs.Demand.{Prefix}
+||||||| /tmp/mf/base
+use Rattle.machine.specs.Machine.{deltas, requests, Progress, Track, plannedFor, withOperation, given, Work, Machine, tracked, withWork, withTracks, Login}
+use Rattle.machine.specs.Events.{Action, Owners, byOwner, atFront, between, sending, delivered, delivering, planning, wholeOf, saidOf, Right, stepping, finishing, adding, withdrawing, granting}
+use Rattle.machine.specs.Demand.{Distinct, Prefix}
+=======
+use Rattle.machine.specs.Machine.{deltas, requests, Progress, mostOf, Track, plannedFor, oneMove, withOperation, Work, Machine, tracked, withWork, withTracks, Login}
+use Rattle.machine.specs.Events.{Action, Owners, byOwner, atFront, between, sending, delivered, delivering, planning, wholeOf, isBeyond, hasPieces, naming, saidOf, Right, stepping, finishing, adding, withdrawing, granting}
+use Rattle.machine.specs.Demand.{Distinct}
+>>>>>>> /tmp/mf/theirs
 use Rattle.srp.specs.declared.Refusal.{Refusal}
 use Rattle.srp.specs.declared.Direction.{Direction}
 use Rattle.srp.specs.declared.Piece.{Piece}
@@ -33,65 +62,49 @@ use Rattle.srp.specs.declared.Reply.the-variants.{Refused, Performed, Operation
 use Rattle.srp.proofs.Checks.{passes}
 use Rattle.srp.proofs.ListLaws.{length-change, without-map, change-map, all-without, all-find, all-change}
 use Rattle.srp.proofs.BothLaws.{of-each, alter-each, each-of, each-altered}
+<<<<<<< /work/main/crates/machine/proofs/Steps.antt
 use Rattle.machine.proofs.Tags.{distinct-without, distinct-change, one-goes}
 use Rattle.srp.proofs.CutLaws.{Lawful, next-at, take-more, some-below, none-above}
+||||||| /tmp/mf/base
+use Rattle.srp.proofs.Tags.{distinct-without, distinct-change, one-goes}
+use Rattle.srp.proofs.CutLaws.{Lawful, next-at, take-more, some-below, none-above}
+=======
+use Rattle.srp.proofs.Tags.{distinct-without, distinct-change, one-goes}
+use Rattle.srp.proofs.CutLaws.{Lawful, some-below, none-above}
+>>>>>>> /tmp/mf/theirs
 use Rattle.srp.proofs.Pieces.{wrapped-same}
 use Rattle.machine.proofs.Deltas.{response-carries, request-carries}
 use Rattle.srp.proofs.Refusing.{unrefused, unless-iff}
-use Rattle.machine.proofs.Invariant.{sideIn, openIn, side-more, Reach, Sound, Follows, Ok, find-same, open-same, lacks, wanted-same, with-work, with-wire, with-wanted, Fine, Obeys, obeying, quiet, few, pays, responds}
+use Rattle.machine.proofs.Moves.{sideIn, atOf, endOf, Steady, plan-steady, coming, turn, same-left, step-steady, step-side, move-steady, move-side}
+use Rattle.machine.proofs.Invariant.{openIn, Sound, Follows, Ok, find-same, open-same, lacks, wanted-same, with-work, with-wire, with-wanted, Fine, Obeys, obeying, quiet, few, pays, responds}
 
 -- ── a command's own cuts
 
-module _ (T : Terms) (g : Progress) (c : Lawful (ruleOf T)) (q : Prefix T g) where
-  abbrev coming : Option Piece
-  coming = nextIn T (sideIn g)
-
-  -- what the port hands out next is the next of the command's own list
-  turn : getElem? (wholeOf T g) (length (g .operations)) ≡ coming
-  turn =
-      next-at (ruleOf T) 0 (min (g .required) (sumOf (g .segs))) (g .segs) (length (g .operations)) c
-      ∙ ap (λ (l : List Piece). next (ruleOf T) (bytesIn l) (min (g .required) (sumOf (g .segs))) (g .segs)) (sym q)
-
-  module _ (o : Piece) (e : coming ≡ some o) where
-    next-take : take (suc (length (g .operations))) (wholeOf T g) ≡ g .operations ++ (o ∷ [])
-    next-take = take-more (wholeOf T g) (length (g .operations)) o (turn ∙ e) ∙ ap (λ (l : List Piece). l ++ (o ∷ [])) (sym q)
-
-    next-prefix : Prefix T (withOperation o g)
-    next-prefix =
-        let n : length (g .operations ++ (o ∷ [])) ≡ suc (length (g .operations)) = omega (arith, length-append (g .operations) (o ∷ [])) in
-        rw n (sym next-take)
-
-    next-right : (d : Direction) → Right T d g (Operation (kindOf d) o)
-    next-right d =
-        record {
-          in-turn = sym (ap (saidOf d) (turn ∙ e));
-          done-iff = ((λ f. let z : _≡_ {A = ℕ} 0 1 = cc in absurd (omega arith)), λ f. absurd (omega (arith, ap length f, some-below (wholeOf T g) (length (g .operations)) o (turn ∙ e))));
-        }
-
-  last-right : (d : Direction) → coming ≡ none → Right T d g Done
-  last-right d e =
+module _ (T : Terms) (cut : Lawful (ruleOf T)) (g : Progress) (s : Steady T g) where
+  next-right : (o : Piece) → coming T cut g s ≡ some o → (d : Direction) → Right T d g (Operation (kindOf d) o)
+  next-right o e d =
+      let t = turn T cut g s ∙ e in
       record {
-        in-turn = sym (ap (saidOf d) (turn ∙ e));
-        done-iff = (λ f. q ∙ take-all (length (g .operations)) (wholeOf T g) (none-above (wholeOf T g) (length (g .operations)) (turn ∙ e)), λ f. refl);
+        in-turn = sym (ap (saidOf d) t);
+        done-iff = ((λ f. let z : _≡_ {A = ℕ} 0 1 = cc in absurd (omega arith)), λ f. absurd (omega (arith, ap length f, some-below (wholeOf T g) (length (g .operations)) o t)));
       }
 
--- the port's command moves on as the machine's does
-moves : (d : Direction) (o : Piece) (t : Track) → advanced d (o .len) (openIn t) ≡ openIn (given d o t)
-moves d o t = ap (withSides t (t .planned)) (alter-each d sideIn (t .sides) (handing (o .len)) (withOperation o) (side-more (of d (t .sides)) o))
+  last-right : coming T cut g s ≡ none → (d : Direction) → Right T d g Done
+  last-right e d =
+      let t = turn T cut g s ∙ e in
+      record {
+        in-turn = sym (ap (saidOf d) t);
+        done-iff = (λ f. s .order ∙ take-all (length (g .operations)) (wholeOf T g) (none-above (wholeOf T g) (length (g .operations)) t), λ f. refl);
+      }
 
-sound-given : (T : Terms) (d : Direction) (o : Piece) (t : Track) → Sound T t → t .planned ≡ true → Prefix T (withOperation o (of d (t .sides))) → Sound T (given d o t)
-sound-given T d o t s e q =
-    record {
-      unplanned = λ f. absurd (true≢false (sym e ∙ f));
-      order = each-altered (Prefix T) d (t .sides) (withOperation o) (s .order) q;
-      reach = each-altered Reach d (t .sides) (withOperation o) (s .reach) (each-of Reach d (t .sides) (s .reach));
-    }
-
--- before the plan nothing was handed out, so that the plan may state any lengths
+-- before the plan no move was named, so that the plan may state any lengths
 sound-plan : (T : Terms) (a b : ℕ) (t : Track) → Sound T t → t .planned ≡ false → Sound T (plannedFor a b t)
 sound-plan T a b t s e =
     let u = s .unplanned e in
-    record { unplanned = λ q. absurd (true≢false q); order = (rw (u .0), rw (u .1)); reach = s .reach }
+    record {
+      unplanned = λ q. absurd (true≢false q);
+      steady = (plan-steady T a (t .sides .out) (s .steady .0) (u .0), plan-steady T b (t .sides .inn) (s .steady .1) (u .1));
+    }
 
 -- ── sending and delivery
 
@@ -146,14 +159,14 @@ module _ {L : Login} {m : Machine} {p : Port} (h : Ok L m p) where
 
   -- the first command with the tag changes as g in the port and as g′ in the machine
   changes : (tag : ℕ) (g : Open → Open) (g′ : Track → Track) → ((t : Track) → g′ t .request ≡ t .request)
-      → ((t : Track) → find (hasTag tag) (m .work .tracks) ≡ some t → g (openIn t) ≡ openIn (g′ t))
+      → ((t : Track) → find (hasTag tag) (m .work .tracks) ≡ some t → g (openIn (L .terms) t) ≡ openIn (L .terms) (g′ t))
       → ((t : Track) → find (hasTag tag) (m .work .tracks) ≡ some t → Sound (L .terms) t → Sound (L .terms) (g′ t))
       → Ok L (withTracks m (change (hasTag tag) g′ (m .work .tracks))) (withHeld p (p .announced) (change (hasTag tag) g (p .held)))
   changes tag g g′ same agree keep =
       recast (change (hasTag tag) g (p .held)) (withTracks m (change (hasTag tag) g′ (m .work .tracks)) .work)
       (record {
         counts = omega (arith, h .work .counts, length-change (hasTag tag) g′ (m .work .tracks));
-        commands = rw (h .work .commands) (change-map openIn (hasTag tag) g g′ (m .work .tracks) agree);
+        commands = rw (h .work .commands) (change-map (openIn (L .terms)) (hasTag tag) g g′ (m .work .tracks) agree);
         sound = all-change (Sound (L .terms)) (hasTag tag) g′ (m .work .tracks) (h .work .sound) keep;
         distinct = distinct-change (hasTag tag) g′ same (m .work .tracks) (h .work .distinct);
       })
@@ -192,7 +205,7 @@ module _ {L : Login} {m : Machine} {p : Port} (h : Ok L m p) where
       let o = recast (p′ .held) w
       (record {
         counts = omega (arith, h .work .counts, one-goes tag (m .work .tracks) (h .work .distinct) (sym (open-same h tag) ∙ is-open));
-        commands = rw (h .work .commands) (without-map openIn (hasTag tag) (m .work .tracks));
+        commands = rw (h .work .commands) (without-map (openIn (L .terms)) (hasTag tag) (m .work .tracks));
         sound = all-without (Sound (L .terms)) (hasTag tag) (m .work .tracks) (h .work .sound);
         distinct = distinct-without (hasTag tag) (m .work .tracks) (h .work .distinct);
       }) in
@@ -209,13 +222,13 @@ module _ {L : Login} {m : Machine} {p : Port} (h : Ok L m p) where
       ends (some c) e o = record { fine = responds o Performed (finalResponse (some c) st se) (response-carries (finalOf c st se (due p′)) (few o)); wrote = refl; answer = tt }
 
   -- the port's command is the machine's
-  found : (tag : ℕ) (t : Track) → tracked m tag ≡ some t → find (hasTag tag) (p .held) ≡ some (openIn t)
-  found tag t f = find-same h tag ∙ ap (Option·map openIn) f
+  found : (tag : ℕ) (t : Track) → tracked m tag ≡ some t → find (hasTag tag) (p .held) ≡ some (openIn (L .terms) t)
+  found tag t f = find-same h tag ∙ ap (Option·map (openIn (L .terms))) f
 
   plan-same : (tag : ℕ) → isPlanned (find (hasTag tag) (p .held)) ≡ isPlanned (tracked m tag)
   plan-same tag = ap isPlanned (find-same h tag) ∙ by-case (tracked m tag)
     where
-      by-case : (o : Option Track) → isPlanned (Option·map openIn o) ≡ isPlanned o
+      by-case : (o : Option Track) → isPlanned (Option·map (openIn (L .terms)) o) ≡ isPlanned o
       by-case none = refl
       by-case (some t) = refl
 
@@ -232,41 +245,110 @@ module _ {L : Login} {m : Machine} {p : Port} (h : Ok L m p) where
         answer = tt;
       }
 
+  -- ── one direction of an open command
+
   module _ (cut : Lawful (ruleOf (L .terms))) (tag : ℕ) (d : Direction) where
-    abbrev offered : Option Piece
-    offered = nextOf (p .terms) d (find (hasTag tag) (p .held))
+    abbrev T : Terms
+    T = L .terms
 
     module _ (t : Track) (f : tracked m tag ≡ some t) where
       abbrev here : Progress
       here = of d (t .sides)
 
+      steady-of : Steady T here
+      steady-of = each-of (Steady T) d (t .sides) (all-find (Sound T) (hasTag tag) (m .work .tracks) t (h .work .sound) f .steady)
+
+      -- it stands in the port as in the machine
+      side-of : of d (openIn T t .sides) ≡ sideIn T here
+      side-of = of-each d (sideIn T) (t .sides)
+
+    -- it changes, in the port by f and in the machine by g
+    alters : (f : Side → Side) (g : Progress → Progress) → isPlanned (find (hasTag tag) (p .held)) ≡ true
+        → ((t : Track) → tracked m tag ≡ some t → f (sideIn T (of d (t .sides))) ≡ sideIn T (g (of d (t .sides))))
+        → ((t : Track) → tracked m tag ≡ some t → Steady T (g (of d (t .sides))))
+        → Ok L (withTracks m (change (hasTag tag) (onSide d g) (m .work .tracks))) (withHeld p (p .announced) (change (hasTag tag) (onSide d f) (p .held)))
+    alters f g z same steady =
+        changes tag (onSide d f) (onSide d g) (λ t. refl)
+        (λ t e. ap (withSides t (t .planned)) (alter-each d (sideIn T) (t .sides) f g (same t e)))
+        (λ t e s. record {
+          unplanned = λ u. absurd (true≢false (sym z ∙ ap isPlanned (found tag t e) ∙ u));
+          steady = each-altered (Steady T) d (t .sides) g (s .steady) (steady t e);
+        })
+
+    -- ── a move
+
+    beyond-same : (offset : ℕ) → beyond d offset (find (hasTag tag) (p .held)) ≡ isBeyond d offset (tracked m tag)
+    beyond-same offset = by-case (tracked m tag) refl
+      where
+        by-case : (o : Option Track) → tracked m tag ≡ o → beyond d offset (find (hasTag tag) (p .held)) ≡ isBeyond d offset o
+        by-case none e = ap (beyond d offset) (find-same h tag ∙ ap (Option·map (openIn T)) e)
+        by-case (some t) e = ap (beyond d offset) (found tag t e) ∙ ap (λ (s : Side). ltb (movable s) offset) (side-of t e)
+
+    unfinished-same : unfinished d (find (hasTag tag) (p .held)) ≡ hasPieces T d (tracked m tag)
+    unfinished-same = by-case (tracked m tag) refl
+      where
+        by-case : (o : Option Track) → tracked m tag ≡ o → unfinished d (find (hasTag tag) (p .held)) ≡ hasPieces T d o
+        by-case none e = ap (unfinished d) (find-same h tag ∙ ap (Option·map (openIn T)) e)
+        by-case (some t) e = ap (unfinished d) (found tag t e) ∙ ap hasPieces (side-of t e) ∙ same-left T cut (here t e) (steady-of t e)
+
+    module _ (t : Track) (f : tracked m tag ≡ some t) where
+      within : (offset : ℕ) → beyond d offset (find (hasTag tag) (p .held)) ≡ false → offset ≤ mostOf (here t f)
+      within offset e = ltb-false (mostOf (here t f)) offset (sym (ap (isBeyond d offset) f) ∙ sym (beyond-same offset) ∙ e)
+
+      through : unfinished d (find (hasTag tag) (p .held)) ≡ false → length (wholeOf T (here t f)) ≤ length (here t f .operations)
+      through e = ltb-false (length (here t f .operations)) (length (wholeOf T (here t f))) (sym (ap (hasPieces T d) f) ∙ sym unfinished-same ∙ e)
+
+    pub move-obeys : (offset count : ℕ) → Obeys L m (byOwner (naming L tag d offset count)) (moveDef p tag d offset count)
+    move-obeys offset count =
+        owned (naming L tag d offset count) (firstOf (moveChecks p tag d offset)) _
+        (rw (h .live, open-same h tag, plan-same tag, beyond-same offset, unfinished-same)) refl λ z.
+        let c = passes (moveChecks p tag d offset) z in
+        let low = c .1 .1 .1 .0 in
+        let done = c .1 .1 .1 .1 .0 in
+        record {
+          fine =
+              quiet
+              (alters (moving offset count) (oneMove offset count) (not-false _ (c .1 .1 .0))
+              (λ t f. move-side T cut (here t f) (steady-of t f) offset count (within t f offset low) (through t f done))
+              (λ t f. move-steady T cut (here t f) (steady-of t f) offset count (within t f offset low) (through t f done)))
+              Performed;
+          wrote = refl;
+          answer = tt;
+        }
+
+    -- ── a step
+
+    abbrev offered : Option Piece
+    offered = nextOf (p .terms) d (find (hasTag tag) (p .held))
+
+    module _ (t : Track) (f : tracked m tag ≡ some t) where
       -- a command's next piece, in the port and in the machine
-      next-of : (v : Option Piece) → offered ≡ v → nextIn (L .terms) (sideIn here) ≡ v
-      next-of v e =
-          sym (ap (nextIn (L .terms)) (of-each d sideIn (t .sides))) ∙ sym (ap (nextOf (L .terms) d) (found tag t f)) ∙ rw (h .terms) at e
-
-      sound-of : Sound (L .terms) t
-      sound-of = all-find (Sound (L .terms)) (hasTag tag) (m .work .tracks) t (h .work .sound) f
-
-      in-order : Prefix (L .terms) here
-      in-order = each-of (Prefix (L .terms)) d (t .sides) (sound-of .order)
+      next-of : (v : Option Piece) → offered ≡ v → coming T cut (here t f) (steady-of t f) ≡ v
+      next-of v e = sym (ap (nextIn T) (side-of t f)) ∙ sym (ap (nextOf T d) (found tag t f)) ∙ rw (h .terms) at e
 
       -- its address is the segment's, and wraps nowhere
       unwrapped : (o : Piece) → offered ≡ some o → wrapped o ≡ o
       unwrapped o e =
-          wrapped-same (ruleOf (L .terms)) (bytesIn (here .operations)) (min (here .required) (sumOf (here .segs))) (here .segs) o
-          (each-of Reach d (t .sides) (sound-of .reach)) cut (next-of (some o) e)
-
-      one-more : (o : Piece) → offered ≡ some o → Prefix (L .terms) (withOperation (wrapped o) here)
-      one-more o e =
-          subst (λ (x : Piece). Prefix (L .terms) (withOperation x here)) (sym (unwrapped o e)) (next-prefix (L .terms) here cut in-order o (next-of (some o) e))
+          wrapped-same (ruleOf T) (atOf T (here t f)) (endOf (here t f .moves)) (here t f .segs) o (steady-of t f .reach) cut (next-of (some o) e)
 
       -- a step hands out the next of the command's own cuts, or says done when there is none
-      right : (v : Option Piece) → offered ≡ v → Right (L .terms) d here (handOut p tag d v .reply)
-      right none e = last-right (L .terms) here cut in-order d (next-of none e)
+      right : (v : Option Piece) → offered ≡ v → Right T d (here t f) (handOut p tag d v .reply)
+      right none e = last-right T cut (here t f) (steady-of t f) (next-of none e) d
       right (some o) e =
-          subst (λ (x : Piece). Right (L .terms) d here (Operation (kindOf d) x)) (sym (unwrapped o e))
-          (next-right (L .terms) here cut in-order o (next-of (some o) e) d)
+          subst (λ (x : Piece). Right T d (here t f) (Operation (kindOf d) x)) (sym (unwrapped o e))
+          (next-right T cut (here t f) (steady-of t f) o (next-of (some o) e) d)
+
+    -- the piece goes to the command's operations, in the port and in the machine
+    hands-on : (o : Piece) → offered ≡ some o → isPlanned (find (hasTag tag) (p .held)) ≡ true
+        → Ok L (withTracks m (change (hasTag tag) (onSide d (withOperation (wrapped o))) (m .work .tracks))) (withHeld p (p .announced) (change (hasTag tag) (onSide d (handing (o .len))) (p .held)))
+    hands-on o e z =
+        alters (handing (o .len)) (withOperation (wrapped o)) z
+        (λ t f.
+        subst (λ (x : Piece). handing (o .len) (sideIn T (here t f)) ≡ sideIn T (withOperation x (here t f))) (sym (unwrapped t f o e))
+        (step-side T cut (here t f) (steady-of t f) o (next-of t f (some o) e)))
+        (λ t f.
+        subst (λ (x : Piece). Steady T (withOperation x (here t f))) (sym (unwrapped t f o e))
+        (step-steady T cut (here t f) (steady-of t f) o (next-of t f (some o) e)))
 
     hand-unrefused : (v : Option Piece) → refusalIn (handOut p tag d v .reply) ≡ none
     hand-unrefused none = refl
@@ -281,11 +363,7 @@ module _ {L : Login} {m : Machine} {p : Port} (h : Ok L m p) where
         hands c none e = record { fine = quiet h Done; wrote = refl; answer = λ t f. right t f none e }
         hands c (some o) e =
             record {
-              fine =
-                  quiet
-                  (changes tag (advanced d (o .len)) (given d (wrapped o)) (λ t. refl) (λ t f. moves d (wrapped o) t) (λ t f s.
-                  sound-given (L .terms) d (wrapped o) t s (sym (ap isPlanned (found tag t f)) ∙ not-false _ (c .1 .1 .0)) (one-more t f o e)))
-                  (Operation (kindOf d) (wrapped o));
+              fine = quiet (hands-on o e (not-false _ (c .1 .1 .0))) (Operation (kindOf d) (wrapped o));
               wrote = refl;
               answer = λ t f. right t f (some o) e;
             }

@@ -37,6 +37,7 @@ use Rattle.machine.proofs.Tags.{distinct-snoc, distinct-without}
 use Rattle.srp.proofs.FieldLaws.{both}
 use Rattle.srp.proofs.Refusing.{unrefused, refused-as, read-iff, Suits, drawn, passed}
 use Rattle.srp.proofs.Reading.{ByType, read-by-type}
+use Rattle.machine.proofs.Moves.{new-steady}
 use Rattle.machine.proofs.Invariant.{openIn, Sound, Follows, Ok, open-same, with-work, with-wire, Fine, Obeys, obeying, nothing-lifts, lifts, quiet, codes}
 
 module _ {L : Login} {m : Machine} {p : Port} (h : Ok L m p) (s : List ℕ) (ss : List (List ℕ)) (e : m .wire .toPort ≡ s ∷ ss) where
@@ -65,7 +66,10 @@ module _ {L : Login} {m : Machine} {p : Port} (h : Ok L m p) (s : List ℕ) (ss 
     new-sound : (c : Command) → fieldsFit c s t ≡ true → Sound (L .terms) (newTrack c s t)
     new-sound c f =
         let a = both (goodFields (c .out) s (t .out)) (goodFields (c .inn) s (t .inn)) f in
-        record { unplanned = λ _. (refl, refl); order = (refl, refl); reach = (reach-of (c .out) (t .out) (a .0), reach-of (c .inn) (t .inn) (a .1)) }
+        record {
+          unplanned = λ _. (refl, refl);
+          steady = (new-steady (L .terms) _ (reach-of (c .out) (t .out) (a .0)), new-steady (L .terms) _ (reach-of (c .inn) (t .inn) (a .1)));
+        }
       where
         reach-of : (d : Descriptor) (table : List ℕ) → goodFields d s table ≡ true → reachable (segments d s table) ≡ true
         reach-of d table g = both (goodFormat d s table) (reachable (segments d s table)) g .1
@@ -78,7 +82,7 @@ module _ {L : Login} {m : Machine} {p : Port} (h : Ok L m p) (s : List ℕ) (ss 
         let o = spent k (p .held ++ (newOpen c s t ∷ [])) (tookRequest (m .work) (m .work .tracks ++ (newTrack c s t ∷ [])) 0)
         (record {
           counts = omega (arith, h .work .counts, length-append (m .work .tracks) (newTrack c s t ∷ []));
-          commands = rw (h .work .commands) (sym (map-snoc openIn (m .work .tracks) (newTrack c s t)));
+          commands = rw (h .work .commands) (sym (map-snoc (openIn (L .terms)) (m .work .tracks) (newTrack c s t)));
           sound = all-snoc (Sound (L .terms)) (m .work .tracks) (newTrack c s t) (h .work .sound) (new-sound c (q .fields));
           distinct = distinct-snoc (m .work .tracks) (newTrack c s t) (h .work .distinct) (sym (open-same h (c .request .tag)) ∙ q .fresh);
         }) in
@@ -87,10 +91,22 @@ module _ {L : Login} {m : Machine} {p : Port} (h : Ok L m p) (s : List ℕ) (ss 
         let left : List Track = without (aborted c) (m .work .tracks) in
         let o = spent k (without (aborted c) (p .held)) (tookRequest (m .work) left (1 + (length (m .work .tracks) - length left)))
         (record {
+<<<<<<< /work/main/crates/machine/proofs/Taking.antt
           counts = omega (arith, h .work .counts, length-without (aborted c) (m .work .tracks));
           commands = rw (h .work .commands) (without-map openIn (aborted c) (m .work .tracks));
           sound = all-without (Sound (L .terms)) (aborted c) (m .work .tracks) (h .work .sound);
           distinct = distinct-without (aborted c) (m .work .tracks) (h .work .distinct);
+||||||| /tmp/mf/base
+          counts = omega (arith, h .work .counts, length-without (aborts c) (m .work .tracks));
+          commands = rw (h .work .commands) (without-map openIn (aborts c) (m .work .tracks));
+          sound = all-without (Sound (L .terms)) (aborts c) (m .work .tracks) (h .work .sound);
+          distinct = distinct-without (aborts c) (m .work .tracks) (h .work .distinct);
+=======
+          counts = omega (arith, h .work .counts, length-without (aborts c) (m .work .tracks));
+          commands = rw (h .work .commands) (without-map (openIn (L .terms)) (aborts c) (m .work .tracks));
+          sound = all-without (Sound (L .terms)) (aborts c) (m .work .tracks) (h .work .sound);
+          distinct = distinct-without (aborts c) (m .work .tracks) (h .work .distinct);
+>>>>>>> /tmp/mf/theirs
         }) in
         codes o (TaskAnswered (c .request .tag) (c .request .lun)) (solicited (c .request) (taskCode (c .function))) (c .request .tag) (taskCode (c .function))
     accept (CredRsp g) k z = quiet (with-wire h (reading s t (CredRsp g) .effect (withQueue m ss) .wire) (p .announced) false (same-credit k) refl) CreditSettled

@@ -12,17 +12,38 @@ use Rattle.srp.specs.Messages.{rsp, credReq, tLogout}
 use Rattle.srp.specs.Refusals.{Conduct, hangsUp, answered, stays, altersNothing, conductOf, Check, short}
 use Rattle.srp.specs.Lists.{change, without, isSome}
 use Rattle.srp.specs.Both.{of}
+<<<<<<< /work/main/crates/machine/specs/Events.antt
 use Rattle.srp.specs.Requests.{isRequest}
 use Rattle.srp.specs.Cutting.{cuts}
 use Rattle.srp.specs.Credit.{ruleOf}
 use Rattle.srp.specs.declared.Terms.{Terms}
 use Rattle.srp.specs.Take.{silent, hasTag, Tables, tablesFit, fieldsFit, aborted, takeDef}
 use Rattle.srp.specs.Calls.{isPlanned, kindOf, badSense, planDef, stepDef, finishDef, addDef, withdrawDef, grantDef}
+||||||| /tmp/mf/base
+use Rattle.srp.specs.Requests.{isRequest, readMessage}
+use Rattle.srp.specs.Cutting.{cuts}
+use Rattle.srp.specs.Credit.{Terms, ruleOf, Port}
+use Rattle.srp.specs.Take.{Outcome, silent, hasTag, Tables, tablesFit, fieldsFit, aborts, takeDef}
+use Rattle.srp.specs.Calls.{isPlanned, kindOf, badSense, planDef, stepDef, finishDef, addDef, withdrawDef, grantDef}
+=======
+use Rattle.srp.specs.Requests.{isRequest, readMessage}
+use Rattle.srp.specs.Cutting.{Rule, cutsOf}
+use Rattle.srp.specs.Descriptors.{Segment}
+use Rattle.srp.specs.Credit.{onSide, Terms, ruleOf, Port}
+use Rattle.srp.specs.Take.{Outcome, silent, hasTag, Tables, tablesFit, fieldsFit, aborts, takeDef}
+use Rattle.srp.specs.Calls.{isPlanned, kindOf, badSense, planDef, moveDef, stepDef, finishDef, addDef, withdrawDef, grantDef}
+>>>>>>> /tmp/mf/theirs
 use Rattle.srp.specs.Answers.{refusalIn, operationIn}
+<<<<<<< /work/main/crates/machine/specs/Events.antt
 use Rattle.machine.specs.Actions.{Action, always, anything, atFront, between, Owners, byOwner}
 use Rattle.machine.specs.Machine.{deltaOf, Progress, Track, newTrack, plannedFor, given, Machine, lack, unused, wantedBy, tracked, withWire, withWork, withBuffers, withQueue, withTracks, tookRequest, saysLogout, join, Login, read}
+||||||| /tmp/mf/base
+use Rattle.machine.specs.Machine.{deltaOf, Progress, Track, newTrack, plannedFor, given, Wire, Work, Machine, lack, unused, wantedBy, tracked, withWire, withWork, withBuffers, withQueue, withTracks, tookRequest, saysLogout, join, Login, read}
+=======
+use Rattle.machine.specs.Machine.{deltaOf, Move, Progress, mostOf, Track, newTrack, plannedFor, oneMove, withOperation, Wire, Work, Machine, lack, unused, wantedBy, tracked, withWire, withWork, withBuffers, withQueue, withTracks, tookRequest, saysLogout, join, Login, read}
+>>>>>>> /tmp/mf/theirs
 use Rattle.srp.specs.declared.Refusal.{Refusal}
-use Rattle.srp.specs.declared.Refusal.the-variants.{TableLength, Fields, Argument, NoCredit, TagOpen, TagNotOpen, CreditResponse, Unanswered, NotOwed, Wanted, Unplanned, Planned}
+use Rattle.srp.specs.declared.Refusal.the-variants.{TableLength, Fields, Argument, NoCredit, TagOpen, TagNotOpen, CreditResponse, Unanswered, NotOwed, Wanted, Unplanned, Planned, Offset, Unfinished}
 use Rattle.srp.specs.declared.Direction.{Direction}
 use Rattle.srp.specs.declared.Piece.{Piece}
 use Rattle.srp.specs.declared.Message.{Message}
@@ -151,9 +172,41 @@ planning tag out inn =
       answer = anything;
     }
 
--- "those that document 01 cuts from its own segments"
+-- "those that document 01 cuts from its own segments": "A command's operations are now the cuts of its moves in the order named"
+abbrev pub cutsOfAll : Rule → List Segment → List Move → List Piece
+cutsOfAll rule ss [] = []
+cutsOfAll rule ss (m ∷ ms) = cutsOf rule (m .from) (m .to) ss ++ cutsOfAll rule ss ms
+
 abbrev pub wholeOf : Terms → Progress → List Piece
-wholeOf T g = cuts (ruleOf T) (g .required) (g .segs)
+wholeOf T g = cutsOfAll (ruleOf T) (g .segs) (g .moves)
+
+-- by what was named and handed out: "offset above min(R, B)"; not all cuts of the moves named are among the operations
+abbrev pub isBeyond : Direction → ℕ → Option Track → Bool
+isBeyond d offset none = false
+isBeyond d offset (some t) = ltb (mostOf (of d (t .sides))) offset
+
+abbrev pub piecesLeft : Terms → Progress → Bool
+piecesLeft T g = ltb (length (g .operations)) (length (wholeOf T g))
+
+abbrev pub hasPieces : Terms → Direction → Option Track → Bool
+hasPieces T d none = false
+hasPieces T d (some t) = piecesLeft T (of d (t .sides))
+
+-- "with the naming of a move as one more event"
+abbrev pub naming : Login → ℕ → Direction → ℕ → ℕ → Owners
+naming L tag d offset count =
+    record {
+      call = λ p. moveDef p tag d offset count;
+      checks = λ m.
+          (not (isSome (tracked m tag)), TagNotOpen)
+          ∷ (not (isPlanned (tracked m tag)), Unplanned)
+          ∷ (isBeyond d offset (tracked m tag), Offset)
+          ∷ (hasPieces (L .terms) d (tracked m tag), Unfinished)
+          ∷ [];
+      effect = λ m r. withTracks m (change (hasTag tag) (onSide d (oneMove offset count)) (m .work .tracks));
+      writes = [];
+      answer = anything;
+    }
 
 -- what a step says of the piece whose turn it is
 abbrev pub saidOf : Direction → Option Piece → Reply
@@ -171,7 +224,7 @@ stepping L tag d =
     record {
       call = λ p. stepDef p tag d;
       checks = λ m. (not (isSome (tracked m tag)), TagNotOpen) ∷ (not (isPlanned (tracked m tag)), Unplanned) ∷ [];
-      effect = λ m r. elim (operationIn r) [ none ↦ m | some o ↦ withTracks m (change (hasTag tag) (given d o) (m .work .tracks)) ];
+      effect = λ m r. elim (operationIn r) [ none ↦ m | some o ↦ withTracks m (change (hasTag tag) (onSide d (withOperation o)) (m .work .tracks)) ];
       writes = [];
       answer = λ m r. (t : Track) → tracked m tag ≡ some t → Right (L .terms) d (of d (t .sides)) r;
     }
@@ -227,6 +280,7 @@ pub data Event : Type 0 where
   delivers : Event
   takes : (room : ℕ) → Tables → Event
   plans : (tag out inn : ℕ) → Event
+  names : (tag : ℕ) → Direction → (offset count : ℕ) → Event
   steps : (tag : ℕ) → Direction → Event
   finishes : (room tag status : ℕ) (sense : List ℕ) → Event
   adds : ℕ → Event
@@ -238,6 +292,7 @@ actionOf L (sends s) = sending s
 actionOf L delivers = delivering
 actionOf L (takes room t) = taking L room t
 actionOf L (plans tag out inn) = byOwner (planning tag out inn)
+actionOf L (names tag d offset count) = byOwner (naming L tag d offset count)
 actionOf L (steps tag d) = byOwner (stepping L tag d)
 actionOf L (finishes room tag status sense) = byOwner (finishing room tag status sense)
 actionOf L (adds k) = byOwner (adding L k)

@@ -1,24 +1,39 @@
--- Document 01, "Credit", from "The two-ended machine" on: the initiator, two queues and the port, fed the events' arguments, the calls' replies
--- and the messages written, as bytes. Of the port's state the machine is given nothing here, and D alone where specs/Demand.antt states the sum.
+-- Document 01, "Credit", from "The two-ended machine" on, with the moves of document 02, job 1: the initiator, two queues and the port, fed the events'
+-- arguments, the calls' replies and the messages written, as bytes. Of the port's state the machine is given nothing here, and D alone where specs/Demand.antt states the sum.
 -- What each event does to it is specs/Events.antt.
 use mathlib.Core.Bool.{Bool, true, false, cond, _||_}
 use mathlib.Core.List.{List, [], _∷_, _++_}
 use mathlib.Core.Option.{Option}
-use Prim.Native.Nat.{ℕ, _+_, _-_}
+use Prim.Native.Nat.{ℕ, _+_, _-_, min}
 use lib.Dec.{eqb}
 use Rattle.srp.specs.Bytes.{get, typeOf}
 use Rattle.srp.specs.Messages.{delta, rsp, credReq, tLogout}
 use Rattle.srp.specs.Lists.{find}
-use Rattle.srp.specs.Both.{alter, along}
-use Rattle.srp.specs.Descriptors.{Segment}
+use Rattle.srp.specs.Both.{along}
+use Rattle.srp.specs.Descriptors.{Segment, sumOf}
 use Rattle.srp.specs.Requests.{isRequest, readMessage}
+<<<<<<< /work/main/crates/machine/specs/Machine.antt
 use Rattle.srp.specs.Cutting.{bytesIn}
 use Rattle.srp.specs.Credit.{Held, withSides}
 use Rattle.srp.specs.declared.Terms.{Terms}
+||||||| /tmp/mf/base
+use Rattle.srp.specs.Cutting.{bytesIn}
+use Rattle.srp.specs.Credit.{Held, withSides, Terms}
+=======
+use Rattle.srp.specs.Cutting.{highest}
+use Rattle.srp.specs.Credit.{Held, withSides, Terms}
+>>>>>>> /tmp/mf/theirs
 use Rattle.srp.specs.Take.{hasTag, Tables, newlyHeld}
+<<<<<<< /work/main/crates/machine/specs/Machine.antt
 use Rattle.srp.specs.Login.{termsOf}
 use Rattle.srp.specs.declared.Settings.{Settings}
 use Rattle.srp.specs.declared.Direction.{Direction}
+||||||| /tmp/mf/base
+use Rattle.srp.specs.Login.{Settings, termsOf}
+use Rattle.srp.specs.declared.Direction.{Direction}
+=======
+use Rattle.srp.specs.Login.{Settings, termsOf}
+>>>>>>> /tmp/mf/theirs
 use Rattle.srp.specs.declared.Piece.{Piece}
 use Rattle.srp.specs.declared.Command.{Command}
 use Rattle.srp.specs.declared.Message.{Message}
@@ -51,39 +66,56 @@ requests (s ∷ ss) = cond (isRequest s) 1 0 + requests ss
 
 -- ── a command that was taken and has not ended
 
--- one direction: its segments, R, and the operations handed out so far
+-- a move as it is trimmed: the bytes from `from` up to `to`
+pub record Move : Type 0 where
+  pub from : ℕ
+  pub to : ℕ
+
+-- one direction: its segments, R, the moves in the order named, and the operations handed out so far
 pub record Progress : Type 0 where
   pub segs : List Segment
   pub required : ℕ
+  pub moves : List Move
   pub operations : List Piece
+
+-- min(R, B)
+abbrev pub mostOf : Progress → ℕ
+mostOf g = min (g .required) (sumOf (g .segs))
 
 -- the request is followed whole so that the port's command can be told from this record alone
 abbrev pub Track : Type 0
 Track = Held Progress
 
 abbrev pub fresh : List Segment → Progress
-fresh ss = record { segs = ss; required = 0; operations = [] }
+fresh ss = record { segs = ss; required = 0; moves = []; operations = [] }
 
 -- "its segments those of its message or the tables lent for it"
 abbrev pub newTrack : Command → List ℕ → Tables → Track
 newTrack c s t = newlyHeld fresh c s t
 
 abbrev pub needing : ℕ → Progress → Progress
-needing r g = record { segs = g .segs; required = r; operations = g .operations }
+needing r g = record { segs = g .segs; required = r; moves = g .moves; operations = g .operations }
 
 abbrev pub plannedFor : ℕ → ℕ → Track → Track
 plannedFor out inn t = withSides t true (along needing (record { out = out; inn = inn }) (t .sides))
 
+-- "A move is trimmed at min(R, B)"
+abbrev pub oneMove : ℕ → ℕ → Progress → Progress
+oneMove offset count g =
+    record {
+      segs = g .segs;
+      required = g .required;
+      moves = g .moves ++ (record { from = offset; to = min (offset + count) (mostOf g) } ∷ []);
+      operations = g .operations;
+    }
+
 abbrev pub withOperation : Piece → Progress → Progress
-withOperation o g = record { segs = g .segs; required = g .required; operations = g .operations ++ (o ∷ []) }
+withOperation o g = record { segs = g .segs; required = g .required; moves = g .moves; operations = g .operations ++ (o ∷ []) }
 
-abbrev pub given : Direction → Piece → Track → Track
-given d o t = withSides t (t .planned) (alter d (withOperation o) (t .sides))
-
--- the listing's record of it
+-- the listing's record of it, with h
 abbrev pub shownAs : Track → Record
 shownAs t =
-    record { tag = t .request .tag; lun = t .request .lun; out = bytesIn (t .sides .out .operations); inn = bytesIn (t .sides .inn .operations) }
+    record { tag = t .request .tag; lun = t .request .lun; out = highest (t .sides .out .operations); inn = highest (t .sides .inn .operations) }
 
 -- ── the machine
 

@@ -1,21 +1,21 @@
--- The pieces: each lies inside one segment, where its offset says, is as long as the rule says, and together they cover the first min(R, B) bytes of the segments,
--- in order, once.
+-- The pieces of a move: each lies inside one segment, where its offset says, is as long as the rule says, and together they cover the move's bytes
+-- of the segments, in order, once. So do document 01's, which are the move of the first min(R, B) bytes.
 -- Assumes nothing.
 use mathlib.Core.Path.{_≡_, refl, ap, sym, _∙_, subst}
 use mathlib.Core.Logic.{_⊎_, inl, inr, ⊎-elim}
 use mathlib.Core.Bool.{Bool, true, false, cond}
 use mathlib.Core.List.{List, [], _∷_, _++_, append-assoc, append-nil}
 use mathlib.Core.Option.{some, Option·none-ne-some, Option·some-injective}
-use Prim.Native.Nat.{ℕ, zero, suc, _+_, _-_, _^_, _≤_, _<_, min}
-use native.Mathlib.Nat.{suc-add, zero-add, add-zero, add-assoc, not-suc-le-zero, mod-eq-of-lt}
+use Prim.Native.Nat.{ℕ, zero, suc, _+_, _-_, _^_, _≤_, _<_, min, max}
+use native.Mathlib.Nat.{suc-add, zero-add, add-zero, sub-zero, zero-sub, add-assoc, not-suc-le-zero, mod-eq-of-lt}
 use native.Mathlib.Omega.{arith}
 use lib.Dec.{ltb, leb}
-use lib.ListN.{length, take, getElem?}
-use lib.Seq.{take-append-add, take-at, take-nil}
+use lib.ListN.{length, take, drop, getElem?}
+use lib.Seq.{take-append-add, take-at, take-nil, drop-append-add, drop-append-le, drop-nil}
 use borrow.Author.Tests.{ltb-true, ltb-false, leb-true}
 use Rattle.srp.specs.Lists.{All}
 use Rattle.srp.specs.Descriptors.{Segment, sumOf, reachable}
-use Rattle.srp.specs.Cutting.{Rule, upTo, piece, bytesIn, cutSegment, cutsFrom, cuts, nextFrom, next}
+use Rattle.srp.specs.Cutting.{Rule, upTo, piece, bytesIn, highest, cutSegment, cutsFrom, cutsOf, cuts, nextFrom, next}
 use Rattle.srp.specs.Calls.{wrapped}
 use Rattle.srp.specs.declared.Piece.{Piece}
 use Rattle.srp.proofs.FieldLaws.{both}
@@ -39,22 +39,22 @@ InSegments o p [] = ⊥
 InSegments o p (s ∷ ss) = Inside o p s ⊎ InSegments (o + s .len) p ss
 
 -- a piece by the rule at `from`, of 1 byte at least, up to `to` at most, inside one of the segments
-pub record Fits (q : Rule) (o from to : ℕ) (ss : List Segment) (p : Piece) : Type 0 where
+pub record Fits (rule : Rule) (o from to : ℕ) (ss : List Segment) (p : Piece) : Type 0 where
   pub some : 1 ≤ p .len
-  pub ruled : (n : ℕ) × (p .len ≡ q (p .address) n)
+  pub ruled : (n : ℕ) × (p .len ≡ rule (p .address) n)
   pub upto : from + p .len ≤ to
   pub offset : p .offset ≡ o + from
   pub within : InSegments o p ss
 
 -- every piece fits
-pub piece-fits : (q : Rule) (o from to : ℕ) (ss : List Segment) (p : Piece) → Lawful q → nextFrom q o from to ss ≡ some p → Fits q o from to ss p
-piece-fits q o from to [] p m e = absurd (Option·none-ne-some p e)
-piece-fits q o from to (s ∷ ss) p m e = go (ltb from n) refl e (λ f. piece-fits q (o + n) (from - n) (to - n) ss p m f)
+pub piece-fits : (rule : Rule) (o from to : ℕ) (ss : List Segment) (p : Piece) → Lawful rule → nextFrom rule o from to ss ≡ some p → Fits rule o from to ss p
+piece-fits rule o from to [] p m e = absurd (Option·none-ne-some p e)
+piece-fits rule o from to (s ∷ ss) p m e = go (ltb from n) refl e (λ f. piece-fits rule (o + n) (from - n) (to - n) ss p m f)
   where
     n : ℕ
     n = min (s .len) to
 
-    first : from < n → Fits q o from to (s ∷ ss) (piece (s .address + from) (s .handle) (q (s .address + from) (n - from)) (o + from))
+    first : from < n → Fits rule o from to (s ∷ ss) (piece (s .address + from) (s .handle) (rule (s .address + from) (n - from)) (o + from))
     first h =
         let c = m (s .address + from) (n - from) (omega arith) in
         record {
@@ -65,7 +65,7 @@ piece-fits q o from to (s ∷ ss) p m e = go (ltb from n) refl e (λ f. piece-fi
           within = inl (record { after = omega arith; place = omega arith; ends = omega (arith, c); handle = refl });
         }
 
-    later : n ≤ from → Fits q (o + n) (from - n) (to - n) ss p → Fits q o from to (s ∷ ss) p
+    later : n ≤ from → Fits rule (o + n) (from - n) (to - n) ss p → Fits rule o from to (s ∷ ss) p
     later h ih =
         let whole : o + n ≡ o + s .len = omega (arith, ih .some, ih .upto) in
         record {
@@ -77,11 +77,11 @@ piece-fits q o from to (s ∷ ss) p m e = go (ltb from n) refl e (λ f. piece-fi
         }
 
     go : (b : Bool) → ltb from n ≡ b
-        → cond b (some (piece (s .address + from) (s .handle) (q (s .address + from) (n - from)) (o + from))) (nextFrom q (o + n) (from - n) (to - n) ss) ≡ some p
-        → (nextFrom q (o + n) (from - n) (to - n) ss ≡ some p → Fits q (o + n) (from - n) (to - n) ss p)
-        → Fits q o from to (s ∷ ss) p
-    go true w f ih = subst (Fits q o from to (s ∷ ss)) (Option·some-injective _ p f) (first (ltb-true from n w))
-    go false w f ih = later (ltb-false from n w) (ih f)
+        → cond b (some (piece (s .address + from) (s .handle) (rule (s .address + from) (n - from)) (o + from))) (nextFrom rule (o + n) (from - n) (to - n) ss) ≡ some p
+        → (nextFrom rule (o + n) (from - n) (to - n) ss ≡ some p → Fits rule (o + n) (from - n) (to - n) ss p)
+        → Fits rule o from to (s ∷ ss) p
+    go true q f ih = subst (Fits rule o from to (s ∷ ss)) (Option·some-injective _ p f) (first (ltb-true from n q))
+    go false q f ih = later (ltb-false from n q) (ih f)
 
 -- ── where the segments end by 2^64
 
@@ -95,15 +95,15 @@ within-reach o p (s ∷ ss) e w =
     w
 
 -- a piece of segments that end by 2^64 ends by 2^64
-pub reach : (q : Rule) (o from to : ℕ) (ss : List Segment) (p : Piece) → reachable ss ≡ true → Lawful q → nextFrom q o from to ss ≡ some p
+pub reach : (rule : Rule) (o from to : ℕ) (ss : List Segment) (p : Piece) → reachable ss ≡ true → Lawful rule → nextFrom rule o from to ss ≡ some p
     → p .address + p .len ≤ 2 ^ 64
-reach q o from to ss p r m e = within-reach o p ss r (piece-fits q o from to ss p m e .within)
+reach rule o from to ss p r m e = within-reach o p ss r (piece-fits rule o from to ss p m e .within)
 
 -- so its address is the same in 64 bits
-pub wrapped-same : (q : Rule) (from to : ℕ) (ss : List Segment) (p : Piece) → reachable ss ≡ true → Lawful q → next q from to ss ≡ some p → wrapped p ≡ p
-wrapped-same q from to ss p r m e =
+pub wrapped-same : (rule : Rule) (from to : ℕ) (ss : List Segment) (p : Piece) → reachable ss ≡ true → Lawful rule → next rule from to ss ≡ some p → wrapped p ≡ p
+wrapped-same rule from to ss p r m e =
     ap (λ (a : ℕ). piece a (p .handle) (p .len) (p .offset))
-    (mod-eq-of-lt (omega (arith, reach q 0 from to ss p r m e, piece-fits q 0 from to ss p m e .some)))
+    (mod-eq-of-lt (omega (arith, reach rule 0 from to ss p r m e, piece-fits rule 0 from to ss p m e .some)))
 
 -- ── all the pieces
 
@@ -111,17 +111,21 @@ all-at : {A : Type 0} (P : A → Type 0) (l : List A) → ((k : ℕ) (x : A) →
 all-at P [] f = tt
 all-at P (x ∷ l) f = (f 0 x refl, all-at P l (λ k y e. f (suc k) y e))
 
--- every piece has a byte, a length that the rule gives at its address, and lies inside one segment, where its offset says
-pub cuts-fit : (q : Rule) (R : ℕ) (ss : List Segment) → Lawful q → All (λ p. (1 ≤ p .len) × ((n : ℕ) × (p .len ≡ q (p .address) n)) × InSegments 0 p ss) (cuts q R ss)
-cuts-fit q R ss m =
-    all-at _ (cuts q R ss) λ k p e.
-    let to = min R (sumOf ss) in
-    let f = piece-fits q 0 (bytesIn (take k (cuts q R ss))) to ss p m (sym (next-at q 0 to ss k m) ∙ e) in
+-- every piece of a move has a byte, is as long as the rule says and lies inside one segment, where its offset says
+pub move-fits : (rule : Rule) (from to : ℕ) (ss : List Segment) → Lawful rule → All (λ p. (1 ≤ p .len) × ((n : ℕ) × (p .len ≡ rule (p .address) n)) × InSegments 0 p ss) (cutsOf rule from to ss)
+move-fits rule from to ss m =
+    all-at _ (cutsOf rule from to ss) λ k p e.
+    let f = piece-fits rule 0 (from + bytesIn (take k (cutsOf rule from to ss))) to ss p m (sym (next-at rule 0 from to ss k m) ∙ e) in
     (f .some, f .ruled, f .within)
 
--- so, with document 01's rule, at most M long
-pub cuts-short : (M R : ℕ) (ss : List Segment) → 1 ≤ M → All (λ p. p .len ≤ M) (cuts (upTo M) R ss)
-cuts-short M R ss m = all-weaken _ (λ p. p .len ≤ M) (λ p h. omega (arith, h .1 .1)) (cuts (upTo M) R ss) (cuts-fit (upTo M) R ss (up-to M m))
+-- and so is every piece of the first min(R, B) bytes
+pub cuts-fit : (rule : Rule) (R : ℕ) (ss : List Segment) → Lawful rule → All (λ p. (1 ≤ p .len) × ((n : ℕ) × (p .len ≡ rule (p .address) n)) × InSegments 0 p ss) (cuts rule R ss)
+cuts-fit rule R ss m = move-fits rule 0 (min R (sumOf ss)) ss m
+
+-- with document 01's rule, at most M long
+pub move-short : (M from to : ℕ) (ss : List Segment) → 1 ≤ M → All (λ p. p .len ≤ M) (cutsOf (upTo M) from to ss)
+move-short M from to ss m =
+    all-weaken _ (λ p. p .len ≤ M) (λ p h. omega (arith, h .1 .1)) (cutsOf (upTo M) from to ss) (move-fits (upTo M) from to ss (up-to M m))
 
 -- each piece starts where the one before it ends
 abbrev pub Consecutive : ℕ → List Piece → Type 0
@@ -132,26 +136,42 @@ consecutive-append : (o : ℕ) (p q : List Piece) → Consecutive o p → Consec
 consecutive-append o [] q a b = rw add-zero at b
 consecutive-append o (x ∷ p) q a b = (a .0, consecutive-append (o + x .len) p q (a .1) (rw add-assoc b))
 
-segment-consecutive : (f : ℕ) (q : Rule) (a h o n : ℕ) → Consecutive o (cutSegment f q a h o n)
-segment-consecutive zero q a h o n = tt
-segment-consecutive (suc f) q a h o zero = tt
-segment-consecutive (suc f) q a h o (suc n) = (refl, segment-consecutive f q (a + q a (suc n)) h (o + q a (suc n)) (suc n - q a (suc n)))
+segment-consecutive : (f : ℕ) (rule : Rule) (a h o n : ℕ) → Consecutive o (cutSegment f rule a h o n)
+segment-consecutive zero rule a h o n = tt
+segment-consecutive (suc f) rule a h o zero = tt
+segment-consecutive (suc f) rule a h o (suc n) = (refl, segment-consecutive f rule (a + rule a (suc n)) h (o + rule a (suc n)) (suc n - rule a (suc n)))
 
-cutsFrom-consecutive : (q : Rule) (o left : ℕ) (ss : List Segment) → Lawful q → Consecutive o (cutsFrom q o left ss)
-cutsFrom-consecutive q o left [] m = tt
-cutsFrom-consecutive q o left (s ∷ ss) m =
-    let n = min (s .len) left in
-    consecutive-append o (cutSegment n q (s .address) (s .handle) o n) (cutsFrom q (o + n) (left - n) ss)
-    (segment-consecutive n q (s .address) (s .handle) o n)
-    (rw (cutSegment-bytes n q (s .address) (s .handle) o n m (omega arith)) (cutsFrom-consecutive q (o + n) (left - n) ss m))
+cutsFrom-consecutive : (rule : Rule) (o from to : ℕ) (ss : List Segment) → Lawful rule → Consecutive (o + from) (cutsFrom rule o from to ss)
+cutsFrom-consecutive rule o from to [] m = tt
+cutsFrom-consecutive rule o from to (s ∷ ss) m =
+    let n = min (s .len) to in
+    let e : o + from + (n - from) ≡ o + n + (from - n) = omega arith in
+    consecutive-append (o + from) (cutSegment (n - from) rule (s .address + from) (s .handle) (o + from) (n - from)) (cutsFrom rule (o + n) (from - n) (to - n) ss)
+    (segment-consecutive (n - from) rule (s .address + from) (s .handle) (o + from) (n - from))
+    (rw (cutSegment-bytes (n - from) rule (s .address + from) (s .handle) (o + from) (n - from) m (omega arith), e) (cutsFrom-consecutive rule (o + n) (from - n) (to - n) ss m))
 
--- the pieces follow each other from offset 0 on
-pub cuts-consecutive : (q : Rule) (R : ℕ) (ss : List Segment) → Lawful q → Consecutive 0 (cuts q R ss)
-cuts-consecutive q R ss m = cutsFrom-consecutive q 0 (min R (sumOf ss)) ss m
+-- a move's pieces follow each other from its offset on
+pub move-consecutive : (rule : Rule) (from to : ℕ) (ss : List Segment) → Lawful rule → Consecutive from (cutsOf rule from to ss)
+move-consecutive rule from to ss m = rw zero-add at (cutsFrom-consecutive rule 0 from to ss m)
 
--- and have min(R, B) bytes
-pub cuts-bytes : (q : Rule) (R : ℕ) (ss : List Segment) → Lawful q → bytesIn (cuts q R ss) ≡ min R (sumOf ss)
-cuts-bytes q R ss m = cutsFrom-bytes q 0 (min R (sumOf ss)) ss m (omega arith)
+pub cuts-consecutive : (rule : Rule) (R : ℕ) (ss : List Segment) → Lawful rule → Consecutive 0 (cuts rule R ss)
+cuts-consecutive rule R ss m = move-consecutive rule 0 (min R (sumOf ss)) ss m
+
+-- of pieces that follow each other from offset 0 on h is their bytes: with one move from 0 the residual and the listing are document 01's
+pub high-consecutive : (o : ℕ) (ps : List Piece) → Consecutive o ps → max o (highest ps) ≡ o + bytesIn ps
+high-consecutive o [] c = omega arith
+high-consecutive o (p ∷ ps) c = omega (arith, c .0, high-consecutive (o + p .len) ps (c .1))
+
+pub high-bytes : (ps : List Piece) → Consecutive 0 ps → highest ps ≡ bytesIn ps
+high-bytes ps c = omega (arith, high-consecutive 0 ps c)
+
+-- and have as many bytes as the move, where that ends by B
+pub move-bytes : (rule : Rule) (from to : ℕ) (ss : List Segment) → Lawful rule → to ≤ sumOf ss → bytesIn (cutsOf rule from to ss) ≡ to - from
+move-bytes rule from to ss m h = cutsFrom-bytes rule 0 from to ss m h
+
+-- those of the first min(R, B) bytes have as many
+pub cuts-bytes : (rule : Rule) (R : ℕ) (ss : List Segment) → Lawful rule → bytesIn (cuts rule R ss) ≡ min R (sumOf ss)
+cuts-bytes rule R ss m = move-bytes rule 0 (min R (sumOf ss)) ss m (omega arith) ∙ omega arith
 
 -- ── byte by byte
 
@@ -182,45 +202,77 @@ pieces-append : (p q : List Piece) → bytesOfPieces (p ++ q) ≡ bytesOfPieces 
 pieces-append [] q = refl
 pieces-append (x ∷ p) q = rw (pieces-append p q, append-assoc)
 
-segment-covered : (f : ℕ) (q : Rule) (a h o n : ℕ) → Lawful q → n ≤ f → bytesOfPieces (cutSegment f q a h o n) ≡ run h a n
-segment-covered zero q a h o zero m le = refl
-segment-covered zero q a h o (suc n) m le = absurd (not-suc-le-zero le)
-segment-covered (suc f) q a h o zero m le = refl
-segment-covered (suc f) q a h o (suc n) m le =
-    let k = q a (suc n) in
+segment-covered : (f : ℕ) (rule : Rule) (a h o n : ℕ) → Lawful rule → n ≤ f → bytesOfPieces (cutSegment f rule a h o n) ≡ run h a n
+segment-covered zero rule a h o zero m le = refl
+segment-covered zero rule a h o (suc n) m le = absurd (not-suc-le-zero le)
+segment-covered (suc f) rule a h o zero m le = refl
+segment-covered (suc f) rule a h o (suc n) m le =
+    let k = rule a (suc n) in
     let c = m a (suc n) (omega arith) in
     let e : k + (suc n - k) ≡ suc n = omega (arith, c) in
-    rw (segment-covered f q (a + k) h (o + k) (suc n - k) m (omega (arith, c))) (sym (run-add h a k (suc n - k)) ∙ ap (run h a) e)
+    rw (segment-covered f rule (a + k) h (o + k) (suc n - k) m (omega (arith, c))) (sym (run-add h a k (suc n - k)) ∙ ap (run h a) e)
 
-covered-from : (q : Rule) (o left : ℕ) (ss : List Segment) → Lawful q → bytesOfPieces (cutsFrom q o left ss) ≡ take left (bytesOfSegments ss)
-covered-from q o left [] m = sym (take-nil left)
-covered-from q o left (s ∷ ss) m =
-    rw (pieces-append (cutSegment n q (s .address) (s .handle) o n) (cutsFrom q (o + n) (left - n) ss), segment-covered n q (s .address) (s .handle) o n m (omega arith), covered-from q (o + n) (left - n) ss m)
-    (go (ltb left (s .len)) refl)
+-- n bytes of memory without the first k
+drop-run : (h a n k : ℕ) → drop k (run h a n) ≡ run h (a + k) (n - k)
+drop-run h a n zero = rw (add-zero a, sub-zero n)
+drop-run h a zero (suc k) = rw (zero-sub (suc k))
+drop-run h a (suc n) (suc k) =
+    let e : a + 1 + k ≡ a + suc k = omega arith in
+    let d : suc n - suc k ≡ n - k = omega arith in
+    rw (drop-run h (a + 1) n k, e, d)
+
+module _ (s : Segment) (ss : List Segment) (to : ℕ) where
+  abbrev shared : ℕ
+  shared = min (s .len) to
+
+  abbrev r : ℕ → List (ℕ × ℕ)
+  r k = run (s .handle) (s .address) k
+
+  abbrev rest : List (ℕ × ℕ)
+  rest = bytesOfSegments ss
+
+  -- the first bytes, segment by segment
+  take-segments : r shared ++ take (to - shared) rest ≡ take to (r (s .len) ++ rest)
+  take-segments = go (ltb to (s .len)) refl
+    where
+      go : (b : Bool) → ltb to (s .len) ≡ b → r shared ++ take (to - shared) rest ≡ take to (r (s .len) ++ rest)
+      go true e =
+          let lt = ltb-true to (s .len) e in
+          let d = s .len - to in
+          let short : shared ≡ to = omega arith in
+          let zero : to - to ≡ 0 = omega arith in
+          let split : s .len ≡ to + d = omega arith in
+          rw (short, zero, split, run-add (s .handle) (s .address) to d, append-assoc, take-at (r to) (run (s .handle) (s .address + to) d ++ rest) to (length-run (s .handle) (s .address) to))
+          (append-nil (r to))
+      go false e =
+          let all : shared ≡ s .len = omega (arith, ltb-false to (s .len) e) in
+          let split : to ≡ length (r (s .len)) + (to - s .len) = omega (arith, ltb-false to (s .len) e, length-run (s .handle) (s .address) (s .len)) in
+          rw all (sym (ap (λ (k : ℕ). take k (r (s .len) ++ rest)) split ∙ take-append-add (r (s .len)) rest (to - s .len)))
+
+-- n bytes and more, without the first k
+drop-across : (h a n k : ℕ) (l : List (ℕ × ℕ)) → run h (a + k) (n - k) ++ drop (k - n) l ≡ drop k (run h a n ++ l)
+drop-across h a n k l = go (ltb n k) refl
   where
-    n : ℕ
-    n = min (s .len) left
-
-    r : ℕ → List (ℕ × ℕ)
-    r k = run (s .handle) (s .address) k
-
-    rest : List (ℕ × ℕ)
-    rest = bytesOfSegments ss
-
-    go : (b : Bool) → ltb left (s .len) ≡ b → r n ++ take (left - n) rest ≡ take left (r (s .len) ++ rest)
+    go : (b : Bool) → ltb n k ≡ b → run h (a + k) (n - k) ++ drop (k - n) l ≡ drop k (run h a n ++ l)
     go true e =
-        let lt = ltb-true left (s .len) e in
-        let d = s .len - left in
-        let short : n ≡ left = omega arith in
-        let zero : left - left ≡ 0 = omega arith in
-        let split : s .len ≡ left + d = omega arith in
-        rw (short, zero, split, run-add (s .handle) (s .address) left d, append-assoc, take-at (r left) (run (s .handle) (s .address + left) d ++ rest) left (length-run (s .handle) (s .address) left))
-        (append-nil (r left))
+        let none : n - k ≡ 0 = omega (arith, ltb-true n k e) in
+        let split : k ≡ length (run h a n) + (k - n) = omega (arith, ltb-true n k e, length-run h a n) in
+        rw none (sym (ap (λ (j : ℕ). drop j (run h a n ++ l)) split ∙ drop-append-add (run h a n) l (k - n)))
     go false e =
-        let all : n ≡ s .len = omega (arith, ltb-false left (s .len) e) in
-        let split : left ≡ length (r (s .len)) + (left - s .len) = omega (arith, ltb-false left (s .len) e, length-run (s .handle) (s .address) (s .len)) in
-        rw all (sym (ap (λ (k : ℕ). take k (r (s .len) ++ rest)) split ∙ take-append-add (r (s .len)) rest (left - s .len)))
+        let none : k - n ≡ 0 = omega (arith, ltb-false n k e) in
+        rw (none, drop-append-le k (run h a n) l (omega (arith, ltb-false n k e, length-run h a n)), drop-run h a n k)
 
--- the bytes of the pieces are the first min(R, B) bytes of the segments, in order, once
-pub bytes-covered : (q : Rule) (R : ℕ) (ss : List Segment) → Lawful q → bytesOfPieces (cuts q R ss) ≡ take (min R (sumOf ss)) (bytesOfSegments ss)
-bytes-covered q R ss m = covered-from q 0 (min R (sumOf ss)) ss m
+covered-from : (rule : Rule) (o from to : ℕ) (ss : List Segment) → Lawful rule → bytesOfPieces (cutsFrom rule o from to ss) ≡ drop from (take to (bytesOfSegments ss))
+covered-from rule o from to [] m = sym (ap (drop from) (take-nil to) ∙ drop-nil from)
+covered-from rule o from to (s ∷ ss) m =
+    let n = min (s .len) to in
+    rw (pieces-append (cutSegment (n - from) rule (s .address + from) (s .handle) (o + from) (n - from)) (cutsFrom rule (o + n) (from - n) (to - n) ss), segment-covered (n - from) rule (s .address + from) (s .handle) (o + from) (n - from) m (omega arith), covered-from rule (o + n) (from - n) (to - n) ss m)
+    (drop-across (s .handle) (s .address) n from (take (to - n) (bytesOfSegments ss)) ∙ ap (drop from) (take-segments s ss to))
+
+-- the bytes of a move's pieces are the bytes of the segments from its offset up to its end, in order, once
+pub move-covered : (rule : Rule) (from to : ℕ) (ss : List Segment) → Lawful rule → bytesOfPieces (cutsOf rule from to ss) ≡ drop from (take to (bytesOfSegments ss))
+move-covered rule from to ss m = covered-from rule 0 from to ss m
+
+-- those of the first min(R, B) bytes are these
+pub bytes-covered : (rule : Rule) (R : ℕ) (ss : List Segment) → Lawful rule → bytesOfPieces (cuts rule R ss) ≡ take (min R (sumOf ss)) (bytesOfSegments ss)
+bytes-covered rule R ss m = move-covered rule 0 (min R (sumOf ss)) ss m

@@ -1,5 +1,5 @@
 -- What every port that a login made and calls changed has: 1 ≤ W ≤ 16, A + H ≤ 16, 1 ≤ M ≤ 2^20; of an open command a tag below
--- 2^64 and in each direction every segment inside 2^64, B the sum of the lengths and below 2^32, at most min(R, B) bytes handed out. And a
+-- 2^64 and in each direction every segment inside 2^64, B the sum of the lengths and below 2^32, h and the current move within min(R, B). And a
 -- closed port is one value.
 -- Assumes nothing.
 use mathlib.Core.Path.{_≡_, refl, ap, sym, _∙_}
@@ -7,7 +7,7 @@ use mathlib.Core.Logic.{inl, inr, ⊎-elim}
 use mathlib.Core.Bool.{Bool, true, false, cond, not, _&&_, _||_, true≢false}
 use mathlib.Core.List.{List, [], _∷_, _++_}
 use mathlib.Core.Option.{Option, none, some, Option·none-ne-some}
-use Prim.Native.Nat.{ℕ, zero, suc, _+_, _-_, _/_, _^_, _≤_, _<_, min}
+use Prim.Native.Nat.{ℕ, zero, suc, _+_, _-_, _/_, _^_, _≤_, _<_}
 use native.Mathlib.Omega.{arith}
 use lib.Dec.{ltb, eqb}
 use lib.ListN.{length, take, drop, length-append, length-take}
@@ -19,10 +19,10 @@ use Rattle.srp.specs.Limits.{bufferSize}
 use Rattle.srp.specs.Refusals.{Conduct, hangsUp, answered, stays, altersNothing, conductOf, firstOf}
 use Rattle.srp.specs.Descriptors.{segmentsIn, segmentsOf, segments, sumOf, reachable, descriptorOf, goodTable, copiesAgree, goodFields}
 use Rattle.srp.specs.Requests.{outAt, inAt, outDescriptor, inDescriptor, commandOf, readMessage}
-use Rattle.srp.specs.Both.{Both, of, alter, Each}
-use Rattle.srp.specs.Credit.{Side, Open, ruleOf, Port, closedPort, due, withHeld, withWanted, withUnanswered}
+use Rattle.srp.specs.Both.{of, Each}
+use Rattle.srp.specs.Credit.{Side, movable, onSide, Open, ruleOf, Port, closedPort, due, withHeld, withWanted, withUnanswered}
 use Rattle.srp.specs.Take.{Outcome, closed, conducted, Tables, fieldsFit, newSide, newOpen, aborted, takeChecks, accepted, takeBy, takeDef, hasTag}
-use Rattle.srp.specs.Calls.{unless, planned as withPlan, planChecks, planDef, requiring, handing, advanced, nextIn, nextOf, wrapped, handOut, stepChecks, stepDef, finishChecks, finishDef, addChecks, addDef, withdrawChecks, withdrawDef, grantChecks, grantDef, closeDef, closeChecks}
+use Rattle.srp.specs.Calls.{unless, planned as withPlan, planChecks, planDef, moving, moveChecks, moveDef, requiring, handing, nextIn, nextOf, wrapped, handOut, stepChecks, stepDef, finishChecks, finishDef, addChecks, addDef, withdrawChecks, withdrawDef, grantChecks, grantDef, closeDef, closeChecks}
 use Rattle.srp.specs.declared.Refusal.{Refusal}
 use Rattle.srp.specs.declared.Refusal.the-variants.{ShortBuffer, Closed}
 use Rattle.srp.specs.declared.Descriptor.{Descriptor}
@@ -31,7 +31,7 @@ use Rattle.srp.specs.declared.Message.the-variants.{Bad, Cmd, TskMgmt, C
 use Rattle.srp.specs.declared.Direction.{Direction}
 use Rattle.srp.specs.declared.Piece.{Piece}
 use Rattle.srp.specs.Bytes.{Bytes}
-use Rattle.srp.specs.Ranges.{SideRanges, OpenRanges, Ranges, Reached, logged-in, took, planned, stepped, finished, added, withdrew, granted, hung-up, Ranged}
+use Rattle.srp.specs.Ranges.{SideRanges, OpenRanges, Ranges, Reached, logged-in, took, planned, moved, stepped, finished, added, withdrew, granted, hung-up, Ranged}
 use Rattle.srp.proofs.FieldLaws.{both, get-below}
 use Rattle.srp.proofs.ListLaws.{all-take, all-drop, all-snoc, all-without, all-find, all-change, length-change, length-without}
 use Rattle.srp.proofs.BothLaws.{each-of, each-altered}
@@ -86,7 +86,7 @@ module _ (f count at : ℕ) (s table : List ℕ) (b : Bytes s) where
   new-ranges : goodFields desc s table ≡ true → SideRanges (newSide (segments desc s table))
   new-ranges good =
       let g = both (tests (eqb f 2)) (reachable (segments desc s table)) good in
-      record { extent = record { reach = g .1; sum = refl; small = small (g .0) }; handed = omega arith; required = omega arith }
+      record { extent = record { reach = g .1; sum = refl; small = small (g .0) }; highest = omega arith; at = omega arith; end = omega arith; required = omega arith }
 
 -- a command that a message of bytes is read as has such segments, where its fields are good
 abbrev Sane : List ℕ → Tables → Message → Type 0
@@ -187,31 +187,42 @@ module _ {p : Port} (v : Ranges p) where
       }
     where
       requires : (s : Side) (n : ℕ) → SideRanges s → s .transfer .required ≡ 0 → n < 2 ^ 32 → SideRanges (requiring n s)
-      requires s n r z h = record { extent = r .extent; handed = omega (arith, r .handed); required = h }
+      requires s n r z h = record { extent = r .extent; highest = omega (arith, r .highest); at = r .at; end = omega (arith, r .end); required = h }
+
+  -- nothing is required
+  abbrev Nothing : Side → Type 0
+  Nothing s = s .transfer .required ≡ 0
+
+  -- one direction of an open command changes, and its R does not
+  side-kept : (d : Direction) (f : Side → Side) (c : Open) → OpenRanges c → (SideRanges (of d (c .sides)) → SideRanges (f (of d (c .sides))))
+      → (f (of d (c .sides)) .transfer .required ≡ of d (c .sides) .transfer .required) → OpenRanges (onSide d f c)
+  side-kept d f c r h e =
+      record {
+        tag = r .tag;
+        sides = each-altered SideRanges d (c .sides) f (r .sides) (h (each-of SideRanges d (c .sides) (r .sides)));
+        unplanned = λ u. each-altered Nothing d (c .sides) f (r .unplanned u) (e ∙ each-of Nothing d (c .sides) (r .unplanned u));
+      }
+
+  move-kept : (tag : ℕ) (d : Direction) (offset count : ℕ) → Ranged (moveDef p tag d offset count .port)
+  move-kept tag d offset count =
+      unless-kept v (firstOf (moveChecks p tag d offset)) _ λ e.
+      changed v (hasTag tag) (onSide d (moving offset count)) λ c f r.
+      let low = ltb-false (movable (of d (c .sides))) offset (rw f at (passes (moveChecks p tag d offset) e .1 .1 .1 .0)) in
+      side-kept d (moving offset count) c r
+      (λ x. record { extent = x .extent; highest = x .highest; at = omega arith; end = omega arith; required = x .required })
+      refl
 
   step-kept : (tag : ℕ) (d : Direction) → Ranged (stepDef p tag d .port)
   step-kept tag d = unless-kept v (firstOf (stepChecks p tag)) _ λ _. go (nextOf (p .terms) d (find (hasTag tag) (p .held))) refl
     where
       hands : (s : Side) (o : Piece) → SideRanges s → nextIn (p .terms) s ≡ some o → SideRanges (handing (o .len) s)
       hands s o r e =
-          let f = piece-fits (ruleOf (p .terms)) 0 (s .transfer .handed) (min (s .transfer .required) (s .extent .total)) (s .extent .segs) o (cutting v) e in
-          record { extent = r .extent; handed = f .upto; required = r .required }
-
-      -- what is required does not move
-      same-plan : (d : Direction) (n : ℕ) (b : Both Side) → Each (λ s. s .transfer .required ≡ 0) b → Each (λ s. s .transfer .required ≡ 0) (alter d (handing n) b)
-      same-plan d n b z = each-altered (λ s. s .transfer .required ≡ 0) d b (handing n) z (each-of (λ s. s .transfer .required ≡ 0) d b z)
-
-      more : (d : Direction) (c : Open) (o : Piece) → nextOf (p .terms) d (some c) ≡ some o → OpenRanges c → OpenRanges (advanced d (o .len) c)
-      more d c o e r =
-          record {
-            tag = r .tag;
-            sides = each-altered SideRanges d (c .sides) (handing (o .len)) (r .sides) (hands (of d (c .sides)) o (each-of SideRanges d (c .sides) (r .sides)) e);
-            unplanned = λ u. same-plan d (o .len) (c .sides) (r .unplanned u);
-          }
+          let f = piece-fits (ruleOf (p .terms)) 0 (s .transfer .at) (s .transfer .end) (s .extent .segs) o (cutting v) e in
+          record { extent = r .extent; highest = omega (arith, f .upto, r .highest, r .end); at = f .upto; end = r .end; required = r .required }
 
       go : (o : Option Piece) → nextOf (p .terms) d (find (hasTag tag) (p .held)) ≡ o → Ranged (handOut p tag d o .port)
       go none e = inr v
-      go (some o) e = changed v (hasTag tag) (advanced d (o .len)) λ c f r. more d c o (rw f at e) r
+      go (some o) e = changed v (hasTag tag) (onSide d (handing (o .len))) λ c f r. side-kept d (handing (o .len)) c r (λ x. hands (of d (c .sides)) o x (rw f at e)) refl
 
   add-kept : (k : ℕ) → Ranged (addDef p k .port)
   add-kept k =
@@ -253,6 +264,7 @@ pub reached : {p : Port} → Reached p → Ranged p
 reached (logged-in c own room s) = login-kept c own room s
 reached (took r room s t b) = carry (λ p. takeDef p room s t .port) (take-shut (ltb room bufferSize) s t _) (λ v. take-kept v room s t b) (reached r)
 reached (planned r tag out inn ho hi) = carry (λ p. planDef p tag out inn .port) refl (λ v. plan-kept v tag out inn ho hi) (reached r)
+reached (moved r tag d offset count) = carry (λ p. moveDef p tag d offset count .port) refl (λ v. move-kept v tag d offset count) (reached r)
 reached (stepped r tag d) = carry (λ p. stepDef p tag d .port) refl (λ v. step-kept v tag d) (reached r)
 reached (finished r room tag status sense) =
     carry (λ p. finishDef p room tag status sense .port) (unless-shut (ltb room bufferSize) _) (λ v. finish-kept v room tag status sense) (reached r)
@@ -280,4 +292,4 @@ step-same {p} v tag d o = go (find (hasTag tag) (p .held)) refl
     go (some c) f e =
         let s = of d (c .sides) in
         let r = each-of SideRanges d (c .sides) (all-find OpenRanges (hasTag tag) (p .held) c (v .commands) f .sides) in
-        wrapped-same (ruleOf (p .terms)) (s .transfer .handed) (min (s .transfer .required) (s .extent .total)) (s .extent .segs) o (r .extent .reach) (cutting v) e
+        wrapped-same (ruleOf (p .terms)) (s .transfer .at) (s .transfer .end) (s .extent .segs) o (r .extent .reach) (cutting v) e

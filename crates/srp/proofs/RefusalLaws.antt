@@ -6,7 +6,7 @@ use Prim.Native.Nat.{ℕ, _<_}
 use native.Mathlib.Omega.{arith}
 use Rattle.srp.specs.Refusals.{numberOf, refusalNumbered}
 use Rattle.srp.specs.declared.Refusal.{Refusal}
-use Rattle.srp.specs.declared.Refusal.the-variants.{ShortBuffer, Setting, Length, OtherType, OutFormat, InFormat, OutCount, InCount, TableLength, Fields, Argument, Closed, NoCredit, TagOpen, TagNotOpen, CreditResponse, Unanswered, NotOwed, Wanted, Unplanned, Planned}
+use Rattle.srp.specs.declared.Refusal.the-variants.{ShortBuffer, Setting, Length, OtherType, OutFormat, InFormat, OutCount, InCount, TableLength, Fields, Argument, Closed, NoCredit, TagOpen, TagNotOpen, CreditResponse, Unanswered, NotOwed, Wanted, Unplanned, Planned, Offset, Unfinished}
 
 -- each has at most three digits and is not 0, which says that nothing is refused
 pub number-range : (r : Refusal) → (0 < numberOf r) × (numberOf r < 1000)
@@ -31,6 +31,8 @@ number-range NotOwed = omega arith
 number-range Wanted = omega arith
 number-range Unplanned = omega arith
 number-range Planned = omega arith
+number-range Offset = omega arith
+number-range Unfinished = omega arith
 
 -- each is found by its number, so no two have the same
 pub numbered : (r : Refusal) → refusalNumbered (numberOf r) ≡ some r
@@ -55,6 +57,8 @@ numbered NotOwed = refl
 numbered Wanted = refl
 numbered Unplanned = refl
 numbered Planned = refl
+numbered Offset = refl
+numbered Unfinished = refl
 
 pub number-injective : (r s : Refusal) → numberOf r ≡ numberOf s → r ≡ s
 number-injective r s e = Option·some-injective r s (sym (numbered r) ∙ ap refusalNumbered e ∙ numbered s)

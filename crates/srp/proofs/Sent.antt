@@ -146,12 +146,12 @@ logout-sent : (b : Bool) (reason : ℕ) → reason < 2 ^ 32 → Sent (targetLogo
 logout-sent b reason h = target-logout (bit b ∷ reason ∷ 0 ∷ []) (omega (arith, one-bit b))
 
 residual-small : (s : Side) → SideRanges s → amount (residualOf s) < 2 ^ 32
-residual-small s r = go (ltb B (s .transfer .required)) (ltb (s .transfer .handed) B)
+residual-small s r = go (ltb B (s .transfer .required)) (ltb (s .transfer .highest) B)
   where
     B : ℕ
     B = s .extent .total
 
-    go : (a b : Bool) → amount (cond a (Over (s .transfer .required - B)) (cond b (Under (B - s .transfer .handed)) Even)) < 2 ^ 32
+    go : (a b : Bool) → amount (cond a (Over (s .transfer .required - B)) (cond b (Under (B - s .transfer .highest)) Even)) < 2 ^ 32
     go true b = omega (arith, r .required)
     go false true = omega (arith, r .extent .small)
     go false false = omega arith

@@ -1,22 +1,23 @@
--- Document 01: the other calls on a port. "Other calls: 1, 21, 11, 24, 30, 29, 26, 27, 28, those that apply"; a refusal alters nothing.
+-- Document 01, and document 02, job 1: the other calls on a port. "Other calls: 1, 21, 11, 24, 30, 29, 26, 27, 28, those that apply"; a refusal alters
+-- nothing.
 use mathlib.Core.Path.{_≡_}
 use mathlib.Core.Bool.{Bool, true, false, not, _&&_, _||_}
 use mathlib.Core.List.{List, [], _∷_, map}
 use mathlib.Core.Option.{Option, none, some}
-use Prim.Native.Nat.{ℕ, _+_, _-_, _%_, _^_, min}
+use Prim.Native.Nat.{ℕ, _+_, _-_, _%_, _^_, max}
 use lib.Dec.{ltb, leb, eqb}
 use lib.ListN.{length, take, drop}
 use Rattle.srp.specs.Limits.{mostBuffers, longestSense}
 use Rattle.srp.specs.Lists.{find, change, without, Rearranged}
 use Rattle.srp.specs.Refusals.{Check, firstOf, short}
-use Rattle.srp.specs.Cutting.{piece, next}
-use Rattle.srp.specs.Both.{of, alter, along}
-use Rattle.srp.specs.Credit.{Side, withTransfer, Held, Open, ruleOf, Port, closedPort, owed, due, withHeld, withWanted, withUnanswered, withSides}
+use Rattle.srp.specs.Cutting.{piece, next, trimmed}
+use Rattle.srp.specs.Both.{of, along}
+use Rattle.srp.specs.Credit.{Side, withTransfer, movable, Held, onSide, Open, ruleOf, Port, closedPort, owed, due, withHeld, withWanted, withUnanswered, withSides}
 use Rattle.srp.specs.declared.Terms.{Terms}
 use Rattle.srp.specs.Writing.{residualOf, Response, response, creditRequest, targetLogout, solicited}
 use Rattle.srp.specs.Take.{Outcome, silent, answering, closed, hasTag, isOpen}
 use Rattle.srp.specs.declared.Refusal.{Refusal}
-use Rattle.srp.specs.declared.Refusal.the-variants.{Argument, TagNotOpen, Unanswered, NotOwed, Wanted, Unplanned, Planned}
+use Rattle.srp.specs.declared.Refusal.the-variants.{Argument, TagNotOpen, Unanswered, NotOwed, Wanted, Unplanned, Planned, Offset, Unfinished}
 use Rattle.srp.specs.declared.Direction.{Direction}
 use Rattle.srp.specs.declared.Direction.the-variants.{Out, In}
 use Rattle.srp.specs.declared.Kind.{Kind}
@@ -38,7 +39,8 @@ isPlanned none = false
 isPlanned (some c) = c .planned
 
 abbrev pub requiring : ℕ → Side → Side
-requiring r s = withTransfer s (record { required = r; handed = s .transfer .handed })
+requiring r s =
+    withTransfer s (record { required = r; highest = s .transfer .highest; at = s .transfer .at; end = s .transfer .end })
 
 abbrev pub planned : ℕ → ℕ → Open → Open
 planned out inn c = withSides c true (along requiring (record { out = out; inn = inn }) (c .sides))
@@ -53,6 +55,47 @@ planOutcome p tag out inn = silent (withHeld p (p .announced) (change (hasTag ta
 abbrev pub planDef : Port → ℕ → ℕ → ℕ → Outcome
 planDef p tag out inn = unless (firstOf (planChecks p tag)) p (planOutcome p tag out inn)
 
+-- ── move
+
+-- the direction with another h, and what is left of its current move
+abbrev pub going : Side → (h at end : ℕ) → Side
+going s h at end = withTransfer s (record { required = s .transfer .required; highest = h; at = at; end = end })
+
+-- the move named is the current one
+abbrev pub moving : ℕ → ℕ → Side → Side
+moving offset count s = going s (s .transfer .highest) offset (trimmed offset count (movable s))
+
+-- "31 offset above min(R, B)"
+abbrev pub beyond : Direction → ℕ → Option Open → Bool
+beyond d offset none = false
+beyond d offset (some c) = ltb (movable (of d (c .sides))) offset
+
+-- "32 the direction's earlier move still has pieces"
+abbrev pub hasPieces : Side → Bool
+hasPieces s = ltb (s .transfer .at) (s .transfer .end)
+
+abbrev pub unfinished : Direction → Option Open → Bool
+unfinished d none = false
+unfinished d (some c) = hasPieces (of d (c .sides))
+
+-- "both after 29, which moves draw too"
+abbrev pub moveChecks : Port → ℕ → Direction → ℕ → List Check
+moveChecks p tag d offset =
+    closed p
+    ∷ (not (isOpen p tag), TagNotOpen)
+    ∷ (not (isPlanned (find (hasTag tag) (p .held))), Unplanned)
+    ∷ (beyond d offset (find (hasTag tag) (p .held)), Offset)
+    ∷ (unfinished d (find (hasTag tag) (p .held)), Unfinished)
+    ∷ []
+
+-- "After plan, the owner names a move: direction, offset, count"
+abbrev pub moveOutcome : Port → ℕ → Direction → ℕ → ℕ → Outcome
+moveOutcome p tag d offset count =
+    silent (withHeld p (p .announced) (change (hasTag tag) (onSide d (moving offset count)) (p .held))) Performed
+
+abbrev pub moveDef : Port → ℕ → Direction → ℕ → ℕ → Outcome
+moveDef p tag d offset count = unless (firstOf (moveChecks p tag d offset)) p (moveOutcome p tag d offset count)
+
 -- ── step
 
 -- "Data-out gives RDMA Reads, data-in RDMA Writes"
@@ -60,16 +103,13 @@ abbrev pub kindOf : Direction → Kind
 kindOf Out = Read
 kindOf In = Write
 
+-- n bytes more of the current move are handed out
 abbrev pub handing : ℕ → Side → Side
-handing n s = withTransfer s (record { required = s .transfer .required; handed = s .transfer .handed + n })
+handing n s = going s (max (s .transfer .highest) (s .transfer .at + n)) (s .transfer .at + n) (s .transfer .end)
 
--- the command with n bytes more handed out
-abbrev pub advanced : Direction → ℕ → Open → Open
-advanced d n c = withSides c (c .planned) (alter d (handing n) (c .sides))
-
--- the next piece of a side's first min(R, B) bytes
+-- the next piece of a direction's current move
 abbrev pub nextIn : Terms → Side → Option Piece
-nextIn T s = next (ruleOf T) (s .transfer .handed) (min (s .transfer .required) (s .extent .total)) (s .extent .segs)
+nextIn T s = next (ruleOf T) (s .transfer .at) (s .transfer .end) (s .extent .segs)
 
 abbrev pub nextOf : Terms → Direction → Option Open → Option Piece
 nextOf T d none = none
@@ -82,12 +122,12 @@ wrapped o = piece (o .address % 2 ^ 64) (o .handle) (o .len) (o .offset)
 abbrev pub handOut : Port → ℕ → Direction → Option Piece → Outcome
 handOut p tag d none = silent p Done
 handOut p tag d (some o) =
-    silent (withHeld p (p .announced) (change (hasTag tag) (advanced d (o .len)) (p .held))) (Operation (kindOf d) (wrapped o))
+    silent (withHeld p (p .announced) (change (hasTag tag) (onSide d (handing (o .len))) (p .held))) (Operation (kindOf d) (wrapped o))
 
 abbrev pub stepChecks : Port → ℕ → List Check
 stepChecks p tag = closed p ∷ (not (isOpen p tag), TagNotOpen) ∷ (not (isPlanned (find (hasTag tag) (p .held))), Unplanned) ∷ []
 
--- "Step names a tag and a direction and hands out the next piece there, or says done"
+-- "Step names a tag and a direction and hands out the next piece there, or says done"; "step serves the pieces of that direction's current move"
 abbrev pub stepOutcome : Port → ℕ → Direction → Outcome
 stepOutcome p tag d = handOut p tag d (nextOf (p .terms) d (find (hasTag tag) (p .held)))
 
@@ -186,10 +226,10 @@ countersOutcome p = silent p (Counts (countersOf p))
 abbrev pub countersDef : Port → Outcome
 countersDef p = unless (firstOf (countersChecks p)) p (countersOutcome p)
 
--- "tag, LUN, bytes handed out each way"
+-- "tag, LUN, bytes handed out each way", for which the listing takes h
 abbrev pub recordOf : Open → Record
 recordOf c =
-    record { tag = c .request .tag; lun = c .request .lun; out = c .sides .out .transfer .handed; inn = c .sides .inn .transfer .handed }
+    record { tag = c .request .tag; lun = c .request .lun; out = c .sides .out .transfer .highest; inn = c .sides .inn .transfer .highest }
 
 abbrev pub listing : Port → List Record
 listing p = map recordOf (p .held)

@@ -1,14 +1,15 @@
--- Document 01, "Credit": the state of one channel, W, A, H and D.
+-- Document 01, "Credit", and document 02, job 1: the state of one channel, W, A, H and D, and what moves of its commands' data.
 use mathlib.Core.Bool.{Bool, false}
 use mathlib.Core.List.{List, []}
-use Prim.Native.Nat.{ℕ, _+_, _-_}
+use Prim.Native.Nat.{ℕ, _+_, _-_, min}
 use lib.IntN.{ℤ, subℕ}
 use lib.ListN.{length}
-use Rattle.srp.specs.Both.{Both}
+use Rattle.srp.specs.Both.{Both, alter}
 use Rattle.srp.specs.Descriptors.{Segment}
 use Rattle.srp.specs.Cutting.{Rule, upTo}
 use Rattle.srp.specs.declared.Request.{Request}
 use Rattle.srp.specs.declared.Terms.{Terms}
+use Rattle.srp.specs.declared.Direction.{Direction}
 use Rattle.srp.specs.declared.Transfer.{Transfer}
 
 -- one direction of a command's data: what is fixed, its segments and B
@@ -16,13 +17,22 @@ pub record Extent : Type 0 where
   pub segs : List Segment
   pub total : ℕ
 
--- and what moves, R (0 until planned) and the bytes handed out
+-- and what moves: R (0 until planned), h ("the highest offset handed out + 1, 0 where nothing was"), and what is left of the current move, the bytes
+-- from `at` up to `end`
 pub record Side : Type 0 where
   pub extent : Extent
   pub transfer : Transfer
 
 abbrev pub withTransfer : Side → Transfer → Side
 withTransfer s g = record { extent = s .extent; transfer = g }
+
+-- before a plan
+abbrev pub unmoved : Transfer
+unmoved = record { required = 0; highest = 0; at = 0; end = 0 }
+
+-- min(R, B)
+abbrev pub movable : Side → ℕ
+movable s = min (s .transfer .required) (s .extent .total)
 
 -- a command that was taken and has not ended, with S for each direction
 pub record Held (S : Type 0) : Type 0 where
@@ -33,6 +43,10 @@ pub record Held (S : Type 0) : Type 0 where
 -- with another state of its plan and its directions
 abbrev pub withSides : {S U : Type 0} → Held S → Bool → Both U → Held U
 withSides c planned sides = record { request = c .request; planned = planned; sides = sides }
+
+-- with one direction changed
+abbrev pub onSide : {S : Type 0} → Direction → (S → S) → Held S → Held S
+onSide d f c = withSides c (c .planned) (alter d f (c .sides))
 
 -- as the port has it
 abbrev pub Open : Type 0

@@ -1,8 +1,8 @@
--- Document 01, "Cutting": the pieces of one direction, and the next of them.
+-- Document 01, "Cutting", and document 02, job 1: the pieces of a move in one direction, and the next of them.
 use mathlib.Core.Bool.{Bool, cond, not, _||_}
 use mathlib.Core.List.{List, [], _∷_, _++_}
 use mathlib.Core.Option.{Option, none, some}
-use Prim.Native.Nat.{ℕ, zero, suc, _+_, _-_, _%_, _^_, min}
+use Prim.Native.Nat.{ℕ, zero, suc, _+_, _-_, _%_, _^_, min, max}
 use lib.Dec.{ltb, leb, eqb}
 use lib.ListN.{length}
 use Rattle.srp.specs.Limits.{largestPiece, longestTable}
@@ -19,6 +19,11 @@ piece address handle len offset = record { address = address; handle = handle; l
 abbrev pub bytesIn : List Piece → ℕ
 bytesIn [] = 0
 bytesIn (p ∷ ps) = p .len + bytesIn ps
+
+-- h, "the highest offset handed out + 1, 0 where nothing was"
+abbrev pub highest : List Piece → ℕ
+highest [] = 0
+highest (p ∷ ps) = max (p .offset + p .len) (highest ps)
 
 -- ── how long a piece is
 
@@ -40,16 +45,25 @@ cutSegment (suc f) rule address handle offset (suc n) =
     let long : ℕ = rule address (suc n) in
     piece address handle long offset ∷ cutSegment f rule (address + long) handle (offset + long) (suc n - long)
 
--- the first `left` bytes, "cut segment by segment, zero-length segments skipped"; `offset` bytes came before
-abbrev pub cutsFrom : Rule → ℕ → ℕ → List Segment → List Piece
-cutsFrom rule offset left [] = []
-cutsFrom rule offset left (s ∷ ss) =
-    let n : ℕ = min (s .len) left in
-    cutSegment n rule (s .address) (s .handle) offset n ++ cutsFrom rule (offset + n) (left - n) ss
+-- the bytes from `from` up to `to`, "cut segment by segment, zero-length segments skipped"; `offset` bytes came before
+abbrev pub cutsFrom : Rule → ℕ → ℕ → ℕ → List Segment → List Piece
+cutsFrom rule offset from to [] = []
+cutsFrom rule offset from to (s ∷ ss) =
+    let n : ℕ = min (s .len) to in
+    cutSegment (n - from) rule (s .address + from) (s .handle) (offset + from) (n - from)
+    ++ cutsFrom rule (offset + n) (from - n) (to - n) ss
 
--- "The first min(R, B) bytes"
+-- the cuts of a move, the bytes from `from` up to `to`: the first piece starts at `from`
+abbrev pub cutsOf : Rule → ℕ → ℕ → List Segment → List Piece
+cutsOf rule from to ss = cutsFrom rule 0 from to ss
+
+-- "The first min(R, B) bytes": the move of them all
 abbrev pub cuts : Rule → ℕ → List Segment → List Piece
-cuts rule R ss = cutsFrom rule 0 (min R (sumOf ss)) ss
+cuts rule R ss = cutsOf rule 0 (min R (sumOf ss)) ss
+
+-- "A move is trimmed at min(R, B)", here `most`
+abbrev pub trimmed : (offset count most : ℕ) → ℕ
+trimmed offset count most = min (offset + count) most
 
 -- the piece at `from` of the bytes up to `to`: what is left there ends at the nearer of the segment's end and `to`
 abbrev pub nextFrom : Rule → ℕ → ℕ → ℕ → List Segment → Option Piece

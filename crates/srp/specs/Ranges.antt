@@ -3,16 +3,16 @@ use mathlib.Core.Path.{_≡_}
 use mathlib.Core.Logic.{_⊎_}
 use mathlib.Core.Bool.{true, false}
 use mathlib.Core.List.{List}
-use Prim.Native.Nat.{ℕ, _+_, _^_, _≤_, _<_, min}
+use Prim.Native.Nat.{ℕ, _+_, _^_, _≤_, _<_}
 use lib.ListN.{length}
 use Rattle.srp.specs.Limits.{mostBuffers, largestPiece}
 use Rattle.srp.specs.Messages.{tag}
 use Rattle.srp.specs.Lists.{All}
 use Rattle.srp.specs.Descriptors.{sumOf, reachable}
 use Rattle.srp.specs.Both.{Each}
-use Rattle.srp.specs.Credit.{Extent, Side, Open, Port, closedPort}
+use Rattle.srp.specs.Credit.{Extent, Side, movable, Open, Port, closedPort}
 use Rattle.srp.specs.Take.{Tables, takeDef}
-use Rattle.srp.specs.Calls.{planDef, stepDef, finishDef, addDef, withdrawDef, grantDef, closeDef}
+use Rattle.srp.specs.Calls.{planDef, moveDef, stepDef, finishDef, addDef, withdrawDef, grantDef, closeDef}
 use Rattle.srp.specs.Login.{loginDef}
 use Rattle.srp.specs.declared.Settings.{Settings}
 use Rattle.srp.specs.declared.Direction.{Direction}
@@ -24,9 +24,12 @@ pub record ExtentRanges (e : Extent) : Type 0 where
   pub sum : e .total ≡ sumOf (e .segs)
   pub small : e .total < 2 ^ 32
 
+-- its current move and h stay within min(R, B)
 pub record SideRanges (s : Side) : Type 0 where
   pub extent : ExtentRanges (s .extent)
-  pub handed : s .transfer .handed ≤ min (s .transfer .required) (s .extent .total)
+  pub highest : s .transfer .highest ≤ movable s
+  pub at : s .transfer .at ≤ s .transfer .end
+  pub end : s .transfer .end ≤ movable s
   pub required : s .transfer .required < 2 ^ 32
 
 -- an open command: its tag has 8 bytes, and R is 0 until it is planned
@@ -50,6 +53,7 @@ pub data Reached : Port → Type 0 where
   logged-in : (c : Settings) (own : List ℕ) (room : ℕ) (s : List ℕ) → Reached (loginDef c own room s .port)
   took : {p : Port} → Reached p → (room : ℕ) (s : List ℕ) (t : Tables) → Bytes s → Reached (takeDef p room s t .port)
   planned : {p : Port} → Reached p → (tag out inn : ℕ) → out < 2 ^ 32 → inn < 2 ^ 32 → Reached (planDef p tag out inn .port)
+  moved : {p : Port} → Reached p → (tag : ℕ) (d : Direction) (offset count : ℕ) → Reached (moveDef p tag d offset count .port)
   stepped : {p : Port} → Reached p → (tag : ℕ) (d : Direction) → Reached (stepDef p tag d .port)
   finished : {p : Port} → Reached p → (room tag status : ℕ) (sense : List ℕ) → Reached (finishDef p room tag status sense .port)
   added : {p : Port} → Reached p → (k : ℕ) → Reached (addDef p k .port)

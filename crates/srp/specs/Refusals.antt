@@ -8,7 +8,7 @@ use lib.Dec.{ltb, eqb}
 use Rattle.srp.specs.Lists.{find}
 use Rattle.srp.specs.Limits.{bufferSize}
 use Rattle.srp.specs.declared.Refusal.{Refusal}
-use Rattle.srp.specs.declared.Refusal.the-variants.{ShortBuffer, Setting, Length, OtherType, OutFormat, InFormat, OutCount, InCount, TableLength, Fields, Argument, Closed, NoCredit, TagOpen, TagNotOpen, CreditResponse, Unanswered, NotOwed, Wanted, Unplanned, Planned}
+use Rattle.srp.specs.declared.Refusal.the-variants.{ShortBuffer, Setting, Length, OtherType, OutFormat, InFormat, OutCount, InCount, TableLength, Fields, Argument, Closed, NoCredit, TagOpen, TagNotOpen, CreditResponse, Unanswered, NotOwed, Wanted, Unplanned, Planned, Offset, Unfinished}
 
 -- what a take that draws a refusal does
 pub data Conduct : Type 0 where
@@ -47,6 +47,8 @@ entry NotOwed = (27, altersNothing)
 entry Wanted = (28, altersNothing)
 entry Unplanned = (29, altersNothing)
 entry Planned = (30, altersNothing)
+entry Offset = (31, altersNothing)
+entry Unfinished = (32, altersNothing)
 
 abbrev pub numberOf : Refusal → ℕ
 numberOf r = entry r .0
@@ -58,7 +60,8 @@ conductOf r = entry r .1
 abbrev pub refusals : List Refusal
 refusals =
     ShortBuffer ∷ Setting ∷ Length ∷ OtherType ∷ OutFormat ∷ InFormat ∷ OutCount ∷ InCount ∷ TableLength ∷ Fields ∷ Argument
-    ∷ Closed ∷ NoCredit ∷ TagOpen ∷ TagNotOpen ∷ CreditResponse ∷ Unanswered ∷ NotOwed ∷ Wanted ∷ Unplanned ∷ Planned ∷ []
+    ∷ Closed ∷ NoCredit ∷ TagOpen ∷ TagNotOpen ∷ CreditResponse ∷ Unanswered ∷ NotOwed ∷ Wanted ∷ Unplanned ∷ Planned
+    ∷ Offset ∷ Unfinished ∷ []
 
 abbrev pub refusalNumbered : ℕ → Option Refusal
 refusalNumbered n = find (λ (r : Refusal). eqb n (numberOf r)) refusals

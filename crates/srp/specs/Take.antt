@@ -11,7 +11,7 @@ use Rattle.srp.specs.Both.{Both, along}
 use Rattle.srp.specs.Refusals.{Conduct, hangsUp, answered, stays, altersNothing, conductOf, Check, firstOf, short}
 use Rattle.srp.specs.Descriptors.{Segment, segments, sumOf, fetched, goodFields}
 use Rattle.srp.specs.Requests.{readMessage}
-use Rattle.srp.specs.Credit.{Side, Held, Open, Port, closedPort, due, withHeld, withUnanswered}
+use Rattle.srp.specs.Credit.{Side, unmoved, Held, Open, Port, closedPort, due, withHeld, withUnanswered}
 use Rattle.srp.specs.Writing.{answer, targetLogout, solicited}
 use Rattle.srp.specs.declared.Refusal.{Refusal}
 use Rattle.srp.specs.declared.Refusal.the-variants.{TableLength, Fields, Closed, NoCredit, TagOpen, CreditResponse}
@@ -74,7 +74,7 @@ newlyHeld new c s t =
     record { request = c .request; planned = false; sides = along (λ d table. new (segments d s table)) (descriptorsOf c) t }
 
 abbrev pub newSide : List Segment → Side
-newSide ss = record { extent = record { segs = ss; total = sumOf ss }; transfer = record { required = 0; handed = 0 } }
+newSide ss = record { extent = record { segs = ss; total = sumOf ss }; transfer = unmoved }
 
 abbrev pub newOpen : Command → List ℕ → Tables → Open
 newOpen c s t = newlyHeld newSide c s t

@@ -15,12 +15,12 @@ use Rattle.srp.specs.declared.Residual.{Residual}
 use Rattle.srp.specs.declared.Residual.the-variants.{Even, Over, Under}
 
 -- "Residual per direction: R > B: over, R - B. Else moved < B: under, B - moved, moved being the bytes handed out (unplanned: R = 0). Else no flag,
--- count 0"
+-- count 0", and h for the bytes handed out
 abbrev pub residualOf : Side → Residual
 residualOf s =
     let B : ℕ = s .extent .total in
     cond (ltb B (s .transfer .required)) (Over (s .transfer .required - B))
-    (cond (ltb (s .transfer .handed) B) (Under (B - s .transfer .handed)) Even)
+    (cond (ltb (s .transfer .highest) B) (Under (B - s .transfer .highest)) Even)
 
 abbrev pub isOver : Residual → Bool
 isOver Even = false

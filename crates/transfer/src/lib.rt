@@ -56,14 +56,14 @@ fn begin(s: &mut [u64], tag: u64, i: usize, d: Direction, offset: u32, count: u3
 {
     let p = commands::load_part(s, i, d);
     let t = p.transfer;
-    let limit = wire::least(t.required as u64, p.total as u64);
-    if limit < offset as u64 {
+    let movable = wire::least(t.required as u64, p.total as u64);
+    if movable < offset as u64 {
         return Reply::Refused(Refusal::Offset);
     }
     if t.at < t.end {
         return Reply::Refused(Refusal::Unfinished);
     }
-    let end = wire::least((offset as u64) + (count as u64), limit) as u32;
+    let end = wire::least((offset as u64) + (count as u64), movable) as u32;
     commands::set_move(s, i, d, t.highest, offset, end);
     Reply::Performed
 }
@@ -122,7 +122,12 @@ fn next_for(store: &[u8], place: u8, p: Part, d: Direction, terms: Terms) -> Cut
 {
     let at = place_for(place, d);
     let end = at + (p.segments as usize) * SEGMENT;
-    cut::next_piece(&store[at..end], terms.maximum, p.transfer.at, p.transfer.end)
+    cut::next_piece(
+        &store[at..end],
+        terms.maximum,
+        p.transfer.at,
+        p.transfer.end,
+    )
 }
 
 // The next piece of the planned command in slot i, or done.
