@@ -15,29 +15,13 @@ use Rattle.srp.specs.Bytes.{typeOf}
 use Rattle.srp.specs.Refusals.{firstOf}
 use Rattle.srp.specs.Lists.{find, All, isSome}
 use Rattle.srp.specs.Both.{Each, each}
-<<<<<<< /work/main/crates/machine/proofs/Invariant.antt
-use Rattle.srp.specs.Credit.{Side, withSides, Open, Port, owed, due, withCredit, withHeld, withWanted, withUnanswered}
+use Rattle.srp.specs.Credit.{withSides, Open, Port, owed, due, withCredit, withHeld, withWanted, withUnanswered}
 use Rattle.srp.specs.declared.Terms.{Terms}
-||||||| /tmp/mf/base
-use Rattle.srp.specs.Credit.{Side, withSides, Open, Port, Terms, owed, due, withCredit, withHeld, withWanted, withUnanswered}
-=======
-use Rattle.srp.specs.Credit.{withSides, Open, Port, Terms, owed, due, withCredit, withHeld, withWanted, withUnanswered}
->>>>>>> /tmp/mf/theirs
 use Rattle.srp.specs.Writing.{answer}
 use Rattle.srp.specs.Take.{Outcome, silent, answering, hasTag, isOpen}
-<<<<<<< /work/main/crates/machine/proofs/Invariant.antt
-use Rattle.srp.specs.Calls.{recordOf, handing}
-use Rattle.machine.specs.Machine.{deltaOf, deltas, requests, Progress, Track, withOperation, shownAs, Wire, Work, Machine, four, lack, unused, wantedBy, tracked, requestsHeld, withWire, withWork, withBuffers, withQueue, joined, join, saysLogout, Login}
-use Rattle.machine.specs.Actions.{Action}
-||||||| /tmp/mf/base
-use Rattle.srp.specs.Calls.{recordOf, handing}
-use Rattle.machine.specs.Machine.{deltaOf, deltas, isCreditRequest, requests, Progress, Track, withOperation, shownAs, Wire, Work, Machine, four, lack, unused, wantedBy, tracked, requestsHeld, withWire, withWork, withBuffers, withQueue, joined, join, saysLogout, Login}
-use Rattle.machine.specs.Events.{Action}
-=======
 use Rattle.srp.specs.Calls.{recordOf}
-use Rattle.machine.specs.Machine.{deltaOf, deltas, isCreditRequest, requests, Track, shownAs, Wire, Work, Machine, four, lack, unused, wantedBy, tracked, requestsHeld, withWire, withWork, withBuffers, withQueue, joined, join, saysLogout, Login}
-use Rattle.machine.specs.Events.{Action}
->>>>>>> /tmp/mf/theirs
+use Rattle.machine.specs.Machine.{deltaOf, deltas, requests, Track, shownAs, Wire, Work, Machine, four, lack, unused, wantedBy, tracked, requestsHeld, withWire, withWork, withBuffers, withQueue, joined, join, saysLogout, Login}
+use Rattle.machine.specs.Actions.{Action}
 use Rattle.machine.specs.Demand.{Until, Distinct, InOrder, Sum, ByLack, Lift, Now, Then}
 use Rattle.srp.specs.declared.Refusal.{Refusal}
 use Rattle.srp.specs.declared.Reply.{Reply}
@@ -60,54 +44,10 @@ sub-back a b = rw (le-ltb (a + b) b (omega arith)) (ap pos (omega arith))
 
 -- ── the port's command as the machine follows it
 
-<<<<<<< /work/main/crates/machine/proofs/Invariant.antt
-abbrev pub sideIn : Progress → Side
-sideIn g =
-    record {
-      extent = record { segs = g .segs; total = sumOf (g .segs) };
-      transfer = record { required = g .required; handed = bytesIn (g .operations) };
-    }
-||||||| /tmp/mf/base
-abbrev pub sideIn : Progress → Side
-sideIn g =
-    record {
-      extent = record { segs = g .segs; total = sumOf (g .segs) };
-      course = record { required = g .required; handed = bytesIn (g .operations) };
-    }
-=======
 abbrev pub openIn : Terms → Track → Open
 openIn T t = withSides t (t .planned) (each (sideIn T) (t .sides))
->>>>>>> /tmp/mf/theirs
 
-<<<<<<< /work/main/crates/machine/proofs/Invariant.antt
-abbrev pub openIn : Track → Open
-openIn t = withSides t (t .planned) (each sideIn (t .sides))
-
-pub side-more : (g : Progress) (o : Piece) → handing (o .len) (sideIn g) ≡ sideIn (withOperation o g)
-side-more g o =
-    let e : bytesIn (g .operations) + o .len ≡ bytesIn (g .operations ++ (o ∷ [])) = omega (arith, bytesIn-append (g .operations) (o ∷ [])) in
-    λ i. record { extent = sideIn g .extent; transfer = record { required = g .required; handed = e i } }
-
-abbrev pub Reach : Progress → Type 0
-Reach g = reachable (g .segs) ≡ true
-
--- nothing is handed out before the plan, what was is the first of the cuts, and no segment passes 2^64
-||||||| /tmp/mf/base
-abbrev pub openIn : Track → Open
-openIn t = withSides t (t .planned) (each sideIn (t .sides))
-
-pub side-more : (g : Progress) (o : Piece) → handing (o .len) (sideIn g) ≡ sideIn (withOperation o g)
-side-more g o =
-    let e : bytesIn (g .operations) + o .len ≡ bytesIn (g .operations ++ (o ∷ [])) = omega (arith, bytesIn-append (g .operations) (o ∷ [])) in
-    λ i. record { extent = sideIn g .extent; course = record { required = g .required; handed = e i } }
-
-abbrev pub Reach : Progress → Type 0
-Reach g = reachable (g .segs) ≡ true
-
--- nothing is handed out before the plan, what was is the first of the cuts, and no segment passes 2^64
-=======
 -- no move is named before the plan, and each direction is followed
->>>>>>> /tmp/mf/theirs
 pub record Sound (T : Terms) (t : Track) : Type 0 where
   pub unplanned : t .planned ≡ false → Each (λ g. g .moves ≡ []) (t .sides)
   pub steady : Each (Steady T) (t .sides)

@@ -1,5 +1,6 @@
 pub mod Tags
 pub mod Deltas
+pub mod Moves
 pub mod Invariant
 pub mod Taking
 pub mod Steps

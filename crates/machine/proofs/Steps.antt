@@ -3,16 +3,8 @@
 use mathlib.Core.Path.{_≡_, refl, ap, sym, _∙_, subst}
 use mathlib.Core.Bool.{Bool, true, false, cond, true≢false, or-true}
 use mathlib.Core.List.{List, [], _∷_, _++_, map}
-<<<<<<< /work/main/crates/machine/proofs/Steps.antt
 use mathlib.Core.Option.{Option, none, some, Option·map, Option·none-ne-some}
-use Prim.Native.Nat.{ℕ, suc, _+_, _-_, _≤_, min}
-||||||| /tmp/mf/base
-use mathlib.Core.Option.{Option, none, some, Option·map, Option·none-ne-some, Option·some-injective}
-use Prim.Native.Nat.{ℕ, suc, _+_, _-_, _≤_, min}
-=======
-use mathlib.Core.Option.{Option, none, some, Option·map, Option·none-ne-some, Option·some-injective}
 use Prim.Native.Nat.{ℕ, _+_, _-_, _≤_}
->>>>>>> /tmp/mf/theirs
 use native.Mathlib.Omega.{arith}
 use lib.Dec.{ltb}
 use lib.ListN.{length}
@@ -21,40 +13,17 @@ use borrow.Author.Tests.{ltb-false, leb-false, not-false}
 use Rattle.srp.specs.Bytes.{typeOf}
 use Rattle.srp.specs.Lists.{find, change, without, All, isSome}
 use Rattle.srp.specs.Refusals.{firstOf}
-<<<<<<< /work/main/crates/machine/proofs/Steps.antt
-use Rattle.srp.specs.Descriptors.{sumOf}
-||||||| /tmp/mf/base
-use Rattle.srp.specs.Descriptors.{sumOf, reachable}
-=======
->>>>>>> /tmp/mf/theirs
 use Rattle.srp.specs.Requests.{isRequest}
 use Rattle.srp.specs.Both.{of}
-<<<<<<< /work/main/crates/machine/proofs/Steps.antt
-use Rattle.srp.specs.Credit.{withSides, Open, ruleOf, Port, due, withHeld}
+use Rattle.srp.specs.Credit.{Side, movable, withSides, onSide, Open, ruleOf, Port, due, withHeld}
 use Rattle.srp.specs.declared.Terms.{Terms}
-||||||| /tmp/mf/base
-use Rattle.srp.specs.Credit.{withSides, Open, Terms, ruleOf, Port, due, withHeld}
-=======
-use Rattle.srp.specs.Credit.{Side, movable, withSides, onSide, Open, Terms, ruleOf, Port, due, withHeld}
->>>>>>> /tmp/mf/theirs
 use Rattle.srp.specs.Writing.{creditRequest}
 use Rattle.srp.specs.Take.{Outcome, silent, answering, hasTag, isOpen}
 use Rattle.srp.specs.Calls.{unless, isPlanned, planned, planChecks, planDef, moving, beyond, hasPieces, unfinished, moveChecks, moveDef, kindOf, handing, nextIn, nextOf, wrapped, handOut, stepChecks, stepDef, finalOf, finalResponse, finishChecks, finishDef, addChecks, addDef, withdrawChecks, withdrawDef, grantChecks, grantDef}
 use Rattle.srp.specs.Answers.{refusalIn}
-<<<<<<< /work/main/crates/machine/proofs/Steps.antt
-use Rattle.machine.specs.Machine.{deltas, requests, Progress, Track, plannedFor, withOperation, given, Work, Machine, tracked, withWork, withTracks, Login}
+use Rattle.machine.specs.Machine.{deltas, requests, Progress, movableIn, Track, plannedFor, withMove, withOperation, Work, Machine, tracked, withWork, withTracks, Login}
 use Rattle.machine.specs.Actions.{Owners, byOwner, atFront, between}
-use Rattle.machine.specs.Events.{sending, delivered, delivering, planning, wholeOf, saidOf, Right, stepping, finishing, adding, withdrawing, granting}
-use Rattle.machine.specs.Demand.{Prefix}
-||||||| /tmp/mf/base
-use Rattle.machine.specs.Machine.{deltas, requests, Progress, Track, plannedFor, withOperation, given, Work, Machine, tracked, withWork, withTracks, Login}
-use Rattle.machine.specs.Events.{Action, Owners, byOwner, atFront, between, sending, delivered, delivering, planning, wholeOf, saidOf, Right, stepping, finishing, adding, withdrawing, granting}
-use Rattle.machine.specs.Demand.{Distinct, Prefix}
-=======
-use Rattle.machine.specs.Machine.{deltas, requests, Progress, mostOf, Track, plannedFor, oneMove, withOperation, Work, Machine, tracked, withWork, withTracks, Login}
-use Rattle.machine.specs.Events.{Action, Owners, byOwner, atFront, between, sending, delivered, delivering, planning, wholeOf, isBeyond, hasPieces, naming, saidOf, Right, stepping, finishing, adding, withdrawing, granting}
-use Rattle.machine.specs.Demand.{Distinct}
->>>>>>> /tmp/mf/theirs
+use Rattle.machine.specs.Events.{sending, delivered, delivering, planning, wholeOf, isBeyond, isUnfinished, naming, saidOf, Right, stepping, finishing, adding, withdrawing, granting}
 use Rattle.srp.specs.declared.Refusal.{Refusal}
 use Rattle.srp.specs.declared.Direction.{Direction}
 use Rattle.srp.specs.declared.Piece.{Piece}
@@ -62,16 +31,8 @@ use Rattle.srp.specs.declared.Reply.the-variants.{Refused, Performed, Operation
 use Rattle.srp.proofs.Checks.{passes}
 use Rattle.srp.proofs.ListLaws.{length-change, without-map, change-map, all-without, all-find, all-change}
 use Rattle.srp.proofs.BothLaws.{of-each, alter-each, each-of, each-altered}
-<<<<<<< /work/main/crates/machine/proofs/Steps.antt
 use Rattle.machine.proofs.Tags.{distinct-without, distinct-change, one-goes}
-use Rattle.srp.proofs.CutLaws.{Lawful, next-at, take-more, some-below, none-above}
-||||||| /tmp/mf/base
-use Rattle.srp.proofs.Tags.{distinct-without, distinct-change, one-goes}
-use Rattle.srp.proofs.CutLaws.{Lawful, next-at, take-more, some-below, none-above}
-=======
-use Rattle.srp.proofs.Tags.{distinct-without, distinct-change, one-goes}
 use Rattle.srp.proofs.CutLaws.{Lawful, some-below, none-above}
->>>>>>> /tmp/mf/theirs
 use Rattle.srp.proofs.Pieces.{wrapped-same}
 use Rattle.machine.proofs.Deltas.{response-carries, request-carries}
 use Rattle.srp.proofs.Refusing.{unrefused, unless-iff}
@@ -284,19 +245,19 @@ module _ {L : Login} {m : Machine} {p : Port} (h : Ok L m p) where
         by-case none e = ap (beyond d offset) (find-same h tag ∙ ap (Option·map (openIn T)) e)
         by-case (some t) e = ap (beyond d offset) (found tag t e) ∙ ap (λ (s : Side). ltb (movable s) offset) (side-of t e)
 
-    unfinished-same : unfinished d (find (hasTag tag) (p .held)) ≡ hasPieces T d (tracked m tag)
+    unfinished-same : unfinished d (find (hasTag tag) (p .held)) ≡ isUnfinished T d (tracked m tag)
     unfinished-same = by-case (tracked m tag) refl
       where
-        by-case : (o : Option Track) → tracked m tag ≡ o → unfinished d (find (hasTag tag) (p .held)) ≡ hasPieces T d o
+        by-case : (o : Option Track) → tracked m tag ≡ o → unfinished d (find (hasTag tag) (p .held)) ≡ isUnfinished T d o
         by-case none e = ap (unfinished d) (find-same h tag ∙ ap (Option·map (openIn T)) e)
         by-case (some t) e = ap (unfinished d) (found tag t e) ∙ ap hasPieces (side-of t e) ∙ same-left T cut (here t e) (steady-of t e)
 
     module _ (t : Track) (f : tracked m tag ≡ some t) where
-      within : (offset : ℕ) → beyond d offset (find (hasTag tag) (p .held)) ≡ false → offset ≤ mostOf (here t f)
-      within offset e = ltb-false (mostOf (here t f)) offset (sym (ap (isBeyond d offset) f) ∙ sym (beyond-same offset) ∙ e)
+      within : (offset : ℕ) → beyond d offset (find (hasTag tag) (p .held)) ≡ false → offset ≤ movableIn (here t f)
+      within offset e = ltb-false (movableIn (here t f)) offset (sym (ap (isBeyond d offset) f) ∙ sym (beyond-same offset) ∙ e)
 
       through : unfinished d (find (hasTag tag) (p .held)) ≡ false → length (wholeOf T (here t f)) ≤ length (here t f .operations)
-      through e = ltb-false (length (here t f .operations)) (length (wholeOf T (here t f))) (sym (ap (hasPieces T d) f) ∙ sym unfinished-same ∙ e)
+      through e = ltb-false (length (here t f .operations)) (length (wholeOf T (here t f))) (sym (ap (isUnfinished T d) f) ∙ sym unfinished-same ∙ e)
 
     pub move-obeys : (offset count : ℕ) → Obeys L m (byOwner (naming L tag d offset count)) (moveDef p tag d offset count)
     move-obeys offset count =
@@ -308,7 +269,7 @@ module _ {L : Login} {m : Machine} {p : Port} (h : Ok L m p) where
         record {
           fine =
               quiet
-              (alters (moving offset count) (oneMove offset count) (not-false _ (c .1 .1 .0))
+              (alters (moving offset count) (withMove offset count) (not-false _ (c .1 .1 .0))
               (λ t f. move-side T cut (here t f) (steady-of t f) offset count (within t f offset low) (through t f done))
               (λ t f. move-steady T cut (here t f) (steady-of t f) offset count (within t f offset low) (through t f done)))
               Performed;

@@ -91,22 +91,10 @@ module _ {L : Login} {m : Machine} {p : Port} (h : Ok L m p) (s : List ℕ) (ss 
         let left : List Track = without (aborted c) (m .work .tracks) in
         let o = spent k (without (aborted c) (p .held)) (tookRequest (m .work) left (1 + (length (m .work .tracks) - length left)))
         (record {
-<<<<<<< /work/main/crates/machine/proofs/Taking.antt
           counts = omega (arith, h .work .counts, length-without (aborted c) (m .work .tracks));
-          commands = rw (h .work .commands) (without-map openIn (aborted c) (m .work .tracks));
+          commands = rw (h .work .commands) (without-map (openIn (L .terms)) (aborted c) (m .work .tracks));
           sound = all-without (Sound (L .terms)) (aborted c) (m .work .tracks) (h .work .sound);
           distinct = distinct-without (aborted c) (m .work .tracks) (h .work .distinct);
-||||||| /tmp/mf/base
-          counts = omega (arith, h .work .counts, length-without (aborts c) (m .work .tracks));
-          commands = rw (h .work .commands) (without-map openIn (aborts c) (m .work .tracks));
-          sound = all-without (Sound (L .terms)) (aborts c) (m .work .tracks) (h .work .sound);
-          distinct = distinct-without (aborts c) (m .work .tracks) (h .work .distinct);
-=======
-          counts = omega (arith, h .work .counts, length-without (aborts c) (m .work .tracks));
-          commands = rw (h .work .commands) (without-map (openIn (L .terms)) (aborts c) (m .work .tracks));
-          sound = all-without (Sound (L .terms)) (aborts c) (m .work .tracks) (h .work .sound);
-          distinct = distinct-without (aborts c) (m .work .tracks) (h .work .distinct);
->>>>>>> /tmp/mf/theirs
         }) in
         codes o (TaskAnswered (c .request .tag) (c .request .lun)) (solicited (c .request) (taskCode (c .function))) (c .request .tag) (taskCode (c .function))
     accept (CredRsp g) k z = quiet (with-wire h (reading s t (CredRsp g) .effect (withQueue m ss) .wire) (p .announced) false (same-credit k) refl) CreditSettled

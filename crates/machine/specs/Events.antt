@@ -12,36 +12,16 @@ use Rattle.srp.specs.Messages.{rsp, credReq, tLogout}
 use Rattle.srp.specs.Refusals.{Conduct, hangsUp, answered, stays, altersNothing, conductOf, Check, short}
 use Rattle.srp.specs.Lists.{change, without, isSome}
 use Rattle.srp.specs.Both.{of}
-<<<<<<< /work/main/crates/machine/specs/Events.antt
 use Rattle.srp.specs.Requests.{isRequest}
-use Rattle.srp.specs.Cutting.{cuts}
-use Rattle.srp.specs.Credit.{ruleOf}
-use Rattle.srp.specs.declared.Terms.{Terms}
-use Rattle.srp.specs.Take.{silent, hasTag, Tables, tablesFit, fieldsFit, aborted, takeDef}
-use Rattle.srp.specs.Calls.{isPlanned, kindOf, badSense, planDef, stepDef, finishDef, addDef, withdrawDef, grantDef}
-||||||| /tmp/mf/base
-use Rattle.srp.specs.Requests.{isRequest, readMessage}
-use Rattle.srp.specs.Cutting.{cuts}
-use Rattle.srp.specs.Credit.{Terms, ruleOf, Port}
-use Rattle.srp.specs.Take.{Outcome, silent, hasTag, Tables, tablesFit, fieldsFit, aborts, takeDef}
-use Rattle.srp.specs.Calls.{isPlanned, kindOf, badSense, planDef, stepDef, finishDef, addDef, withdrawDef, grantDef}
-=======
-use Rattle.srp.specs.Requests.{isRequest, readMessage}
 use Rattle.srp.specs.Cutting.{Rule, cutsOf}
 use Rattle.srp.specs.Descriptors.{Segment}
-use Rattle.srp.specs.Credit.{onSide, Terms, ruleOf, Port}
-use Rattle.srp.specs.Take.{Outcome, silent, hasTag, Tables, tablesFit, fieldsFit, aborts, takeDef}
+use Rattle.srp.specs.Credit.{onSide, ruleOf}
+use Rattle.srp.specs.declared.Terms.{Terms}
+use Rattle.srp.specs.Take.{silent, hasTag, Tables, tablesFit, fieldsFit, aborted, takeDef}
 use Rattle.srp.specs.Calls.{isPlanned, kindOf, badSense, planDef, moveDef, stepDef, finishDef, addDef, withdrawDef, grantDef}
->>>>>>> /tmp/mf/theirs
 use Rattle.srp.specs.Answers.{refusalIn, operationIn}
-<<<<<<< /work/main/crates/machine/specs/Events.antt
 use Rattle.machine.specs.Actions.{Action, always, anything, atFront, between, Owners, byOwner}
-use Rattle.machine.specs.Machine.{deltaOf, Progress, Track, newTrack, plannedFor, given, Machine, lack, unused, wantedBy, tracked, withWire, withWork, withBuffers, withQueue, withTracks, tookRequest, saysLogout, join, Login, read}
-||||||| /tmp/mf/base
-use Rattle.machine.specs.Machine.{deltaOf, Progress, Track, newTrack, plannedFor, given, Wire, Work, Machine, lack, unused, wantedBy, tracked, withWire, withWork, withBuffers, withQueue, withTracks, tookRequest, saysLogout, join, Login, read}
-=======
-use Rattle.machine.specs.Machine.{deltaOf, Move, Progress, mostOf, Track, newTrack, plannedFor, oneMove, withOperation, Wire, Work, Machine, lack, unused, wantedBy, tracked, withWire, withWork, withBuffers, withQueue, withTracks, tookRequest, saysLogout, join, Login, read}
->>>>>>> /tmp/mf/theirs
+use Rattle.machine.specs.Machine.{deltaOf, Move, Progress, movableIn, Track, newTrack, plannedFor, withMove, withOperation, Machine, lack, unused, wantedBy, tracked, withWire, withWork, withBuffers, withQueue, withTracks, tookRequest, saysLogout, join, Login, read}
 use Rattle.srp.specs.declared.Refusal.{Refusal}
 use Rattle.srp.specs.declared.Refusal.the-variants.{TableLength, Fields, Argument, NoCredit, TagOpen, TagNotOpen, CreditResponse, Unanswered, NotOwed, Wanted, Unplanned, Planned, Offset, Unfinished}
 use Rattle.srp.specs.declared.Direction.{Direction}
@@ -183,14 +163,14 @@ wholeOf T g = cutsOfAll (ruleOf T) (g .segs) (g .moves)
 -- by what was named and handed out: "offset above min(R, B)"; not all cuts of the moves named are among the operations
 abbrev pub isBeyond : Direction → ℕ → Option Track → Bool
 isBeyond d offset none = false
-isBeyond d offset (some t) = ltb (mostOf (of d (t .sides))) offset
+isBeyond d offset (some t) = ltb (movableIn (of d (t .sides))) offset
 
 abbrev pub piecesLeft : Terms → Progress → Bool
 piecesLeft T g = ltb (length (g .operations)) (length (wholeOf T g))
 
-abbrev pub hasPieces : Terms → Direction → Option Track → Bool
-hasPieces T d none = false
-hasPieces T d (some t) = piecesLeft T (of d (t .sides))
+abbrev pub isUnfinished : Terms → Direction → Option Track → Bool
+isUnfinished T d none = false
+isUnfinished T d (some t) = piecesLeft T (of d (t .sides))
 
 -- "with the naming of a move as one more event"
 abbrev pub naming : Login → ℕ → Direction → ℕ → ℕ → Owners
@@ -201,9 +181,9 @@ naming L tag d offset count =
           (not (isSome (tracked m tag)), TagNotOpen)
           ∷ (not (isPlanned (tracked m tag)), Unplanned)
           ∷ (isBeyond d offset (tracked m tag), Offset)
-          ∷ (hasPieces (L .terms) d (tracked m tag), Unfinished)
+          ∷ (isUnfinished (L .terms) d (tracked m tag), Unfinished)
           ∷ [];
-      effect = λ m r. withTracks m (change (hasTag tag) (onSide d (oneMove offset count)) (m .work .tracks));
+      effect = λ m r. withTracks m (change (hasTag tag) (onSide d (withMove offset count)) (m .work .tracks));
       writes = [];
       answer = anything;
     }

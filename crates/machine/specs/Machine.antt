@@ -12,28 +12,12 @@ use Rattle.srp.specs.Lists.{find}
 use Rattle.srp.specs.Both.{along}
 use Rattle.srp.specs.Descriptors.{Segment, sumOf}
 use Rattle.srp.specs.Requests.{isRequest, readMessage}
-<<<<<<< /work/main/crates/machine/specs/Machine.antt
-use Rattle.srp.specs.Cutting.{bytesIn}
+use Rattle.srp.specs.Cutting.{trimmed, highest}
 use Rattle.srp.specs.Credit.{Held, withSides}
 use Rattle.srp.specs.declared.Terms.{Terms}
-||||||| /tmp/mf/base
-use Rattle.srp.specs.Cutting.{bytesIn}
-use Rattle.srp.specs.Credit.{Held, withSides, Terms}
-=======
-use Rattle.srp.specs.Cutting.{highest}
-use Rattle.srp.specs.Credit.{Held, withSides, Terms}
->>>>>>> /tmp/mf/theirs
 use Rattle.srp.specs.Take.{hasTag, Tables, newlyHeld}
-<<<<<<< /work/main/crates/machine/specs/Machine.antt
 use Rattle.srp.specs.Login.{termsOf}
 use Rattle.srp.specs.declared.Settings.{Settings}
-use Rattle.srp.specs.declared.Direction.{Direction}
-||||||| /tmp/mf/base
-use Rattle.srp.specs.Login.{Settings, termsOf}
-use Rattle.srp.specs.declared.Direction.{Direction}
-=======
-use Rattle.srp.specs.Login.{Settings, termsOf}
->>>>>>> /tmp/mf/theirs
 use Rattle.srp.specs.declared.Piece.{Piece}
 use Rattle.srp.specs.declared.Command.{Command}
 use Rattle.srp.specs.declared.Message.{Message}
@@ -79,8 +63,8 @@ pub record Progress : Type 0 where
   pub operations : List Piece
 
 -- min(R, B)
-abbrev pub mostOf : Progress → ℕ
-mostOf g = min (g .required) (sumOf (g .segs))
+abbrev pub movableIn : Progress → ℕ
+movableIn g = min (g .required) (sumOf (g .segs))
 
 -- the request is followed whole so that the port's command can be told from this record alone
 abbrev pub Track : Type 0
@@ -100,12 +84,12 @@ abbrev pub plannedFor : ℕ → ℕ → Track → Track
 plannedFor out inn t = withSides t true (along needing (record { out = out; inn = inn }) (t .sides))
 
 -- "A move is trimmed at min(R, B)"
-abbrev pub oneMove : ℕ → ℕ → Progress → Progress
-oneMove offset count g =
+abbrev pub withMove : ℕ → ℕ → Progress → Progress
+withMove offset count g =
     record {
       segs = g .segs;
       required = g .required;
-      moves = g .moves ++ (record { from = offset; to = min (offset + count) (mostOf g) } ∷ []);
+      moves = g .moves ++ (record { from = offset; to = trimmed offset count (movableIn g) } ∷ []);
       operations = g .operations;
     }
 
