@@ -15,7 +15,8 @@ use Rattle.srp.specs.declared.Piece.{Piece}
 use Rattle.srp.specs.declared.Cut.{Cut}
 use Rattle.srp.specs.declared.Cut.the-variants.{CutPiece}
 use Rattle.srp.proofs.CutLaws.{Lawful, up-to, done-iff, pieces-all}
-use Rattle.srp.proofs.Pieces.{Fits, piece-fits, wrapped-same, cuts-bytes}
+use Rattle.srp.proofs.Pieces.{Fits, piece-fits, wrapped-same}
+use Rattle.srp.proofs.Moves.{cuts-bytes}
 use Rattle.cut.specs.Walk.{nextWrapped}
 use Rattle.cutlist.specs.Lines.{Appends, maximum, rule, linesFrom, Fills}
 

@@ -21,7 +21,8 @@ use Rattle.machine.specs.Events.{cutsOfAll, wholeOf, piecesLeft}
 use Rattle.machine.specs.Demand.{Prefix}
 use Rattle.srp.specs.declared.Piece.{Piece}
 use Rattle.srp.proofs.CutLaws.{Lawful, unrolls, stops, next-at, take-more, drop-more, first-left, some-below, none-above, done-iff}
-use Rattle.srp.proofs.Pieces.{piece-fits, Fits, move-bytes}
+use Rattle.srp.proofs.Pieces.{piece-fits, Fits}
+use Rattle.srp.proofs.Moves.{move-bytes}
 
 -- the end of the move named last, 0 where none was
 abbrev pub endOf : List Move → ℕ

@@ -12,6 +12,7 @@ pub mod Alike
 pub mod Unread
 pub mod CutLaws
 pub mod Pieces
+pub mod Moves
 pub mod Listing
 pub mod Owed
 pub mod Opened

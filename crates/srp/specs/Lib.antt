@@ -10,6 +10,7 @@ pub mod Descriptors
 pub mod Requests
 pub mod Unread
 pub mod Cutting
+pub mod Moves
 pub mod Writing
 pub mod Answers
 pub mod Take
