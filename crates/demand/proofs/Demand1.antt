@@ -3,7 +3,7 @@
 use denote.Ref.{now}
 use Rattle.take.specs.Taking.{tables}
 use Rattle.demand.specs.Demand1.{Demand1InC}
-use Rattle.demand.proofs.Judges.{judges-plan, judges-add, judges-withdraw, judges-finish, judges-grant, judges-close, judges-step, judges-counters, judges-list, judges-look, judges-cut}
+use Rattle.demand.proofs.Judges.{judges-plan, judges-move, judges-add, judges-withdraw, judges-finish, judges-grant, judges-close, judges-step, judges-counters, judges-list, judges-look, judges-cut}
 use Rattle.demand.proofs.JudgesTake.{judges-take}
 use Rattle.demand.proofs.JudgesLogin.{judges-login}
 
@@ -14,6 +14,7 @@ demand-1-in-c =
       take = λ p q st st′ m out inn b d w v n post.
           judges-take (now p) (now st) (now b) (now q) (now st′) (now d) (now m) (tables (now out) (now inn)) n (now v) (post .1);
       plan = λ p q tag out inn n post. judges-plan (now p) (now q) n tag out inn (post .1);
+      move = λ p q tag direction offset count n post. judges-move (now p) (now q) n tag direction offset count (post .1);
       step = λ p q st w v tag direction n post. judges-step (now p) (now q) (now st) tag direction n (now v) (post .1);
       finish = λ p q e b d w v tag status n post. judges-finish (now p) (now b) (now q) (now d) n (now v) tag status (now e) (post .1);
       add = λ p q k n post. judges-add (now p) (now q) n k (post .1);

@@ -44,9 +44,9 @@ use Rattle.words.proofs.Ports.{any-words}
 use Rattle.exports.specs.Arguments.{settingsIn}
 use Rattle.demand.specs.Calls.{Memory, seen, LoggedIn}
 use Rattle.demand.specs.Judgement.{readOn, shortAnswer, JudgesLook}
-use Rattle.demand.specs.Following.{PortCall, take-call, plan-call, step-call, finish-call, add-call, withdraw-call, grant-call, close-call, Sendable, Receives, callingOf, Led, begins, goes-on, InRoom, ByLayouts, LoginByLayouts, LookByLayouts, Demand2InC}
+use Rattle.demand.specs.Following.{PortCall, take-call, plan-call, move-call, step-call, finish-call, add-call, withdraw-call, grant-call, close-call, Sendable, Receives, callingOf, Led, begins, goes-on, InRoom, ByLayouts, LoginByLayouts, LookByLayouts, Demand2InC}
 use Rattle.demand.proofs.Judges.{judges-look}
-use Rattle.demand.proofs.Holds.{took, planned-is, stepped, finished, added, withdrew, granted, ended, logged-in}
+use Rattle.demand.proofs.Holds.{took, planned-is, named, stepped, finished, added, withdrew, granted, ended, logged-in}
 
 -- ── every message written follows its layout and fits
 
@@ -133,6 +133,9 @@ module _ (s : Memory) (r : Reply) (ss : List (List ℕ)) (s′ : Memory) (R : de
   follows (plan-call tag out inn) y m =
       let is = planned-is tag out inn m in
       gives (plan-call tag out inn) _ is (def.planned R tag out inn (y .0) (y .1)) (unwritten _ is (m .wrote)) tt
+  follows (move-call tag d offset count) y m =
+      let is = named tag d offset count m in
+      gives (move-call tag d offset count) _ is (def.moved R tag d offset count) (unwritten _ is (m .wrote)) tt
   follows (step-call tag d) y m = let is = stepped tag d m in gives (step-call tag d) _ is (def.stepped R tag d) (unwritten _ is (m .wrote)) tt
   follows (finish-call room tag status sense) y m =
       gives (finish-call room tag status sense) _ (finished room tag status sense m) (def.finished R room tag status sense)

@@ -12,7 +12,7 @@ use Rattle.srp.specs.Refusals.{firstOf}
 use Rattle.srp.specs.Credit.{Port, owed}
 use Rattle.srp.specs.Take.{Outcome, silent, Tables, takeDef}
 use Rattle.srp.specs.Take as def
-use Rattle.srp.specs.Calls.{unless, planDef, stepDef, finishDef, addDef, withdrawDef, grantDef, closeDef, countersDef, listOutcome, listDef}
+use Rattle.srp.specs.Calls.{unless, planDef, moveDef, stepDef, finishDef, addDef, withdrawDef, grantDef, closeDef, countersDef, listOutcome, listDef}
 use Rattle.srp.specs.Login.{loginDef}
 use Rattle.srp.specs.Answers.{returned, sizeOf}
 use Rattle.srp.specs.declared.Refusal.the-variants.{Argument}
@@ -24,7 +24,7 @@ use Rattle.srp.specs.declared.Reply.{Reply}
 use Rattle.srp.specs.declared.Reply.the-variants.{Performed, Counts, Listed}
 use Rattle.machine.specs.Machine.{Machine, requestsHeld, Login, loginOf}
 use Rattle.machine.specs.Actions.{atFront}
-use Rattle.machine.specs.Events.{sends, delivers, takes, plans, steps, finishes, adds, withdraws, grants}
+use Rattle.machine.specs.Events.{sends, delivers, takes, plans, names, steps, finishes, adds, withdraws, grants}
 use Rattle.machine.specs.Demand.{counted, Now, Demand, Meets}
 use Rattle.machine.proofs.Demand.{demand-3}
 use Rattle.answer.specs.Words.{answerWords}
@@ -35,7 +35,7 @@ use Rattle.exports.specs.Calls.{InC, AnswersInC, RepliesInC, CountersInC, ListI
 use Rattle.exports.proofs.Listing.{counters-unwritten, list-unwritten}
 use Rattle.demand.specs.Posts.{Slice}
 use Rattle.demand.specs.Replies.{performed}
-use Rattle.demand.specs.Calls.{Memory, seen, LoggedIn, Took, WithMessage, Finished, Granted, Ended, WithoutMessage, Planned, Stepped, Added, Withdrew, Untouched, TookFront, Call}
+use Rattle.demand.specs.Calls.{Memory, seen, LoggedIn, Took, WithMessage, Finished, Granted, Ended, WithoutMessage, Planned, Named, Stepped, Added, Withdrew, Untouched, TookFront, Call}
 use Rattle.demand.specs.Holding.{Holds, Reports, Lists, Demand3InC}
 use Rattle.demand.proofs.Told as told
 
@@ -77,6 +77,11 @@ module _ {s : Memory} {r : Reply} {ss : List (List ℕ)} {s′ : Memory} where
   pub planned-is : (tag out inn : ℕ) → Planned s tag out inn r ss s′ → planDef (seen s) tag out inn ≡ record { reply = r; port = seen s′; wrote = ss }
   planned-is tag out inn c = silently (λ p. planDef p tag out inn) (λ p. told.plan-said p tag out inn) (λ p q n post. post .1) c
 
+  pub named : (tag : ℕ) (d : Direction) (offset count : ℕ) → Named s tag d offset count r ss s′
+      → moveDef (seen s) tag d offset count ≡ record { reply = r; port = seen s′; wrote = ss }
+  named tag d offset count c =
+      silently (λ p. moveDef p tag d offset count) (λ p. told.move-said p tag d offset count) (λ p q n post st. rw (← post .1) (post .2 .1 st)) c
+
   pub added : (k : ℕ) → Added s k r ss s′ → addDef (seen s) k ≡ record { reply = r; port = seen s′; wrote = ss }
   added k c = silently (λ p. addDef p k) (λ p. told.add-said p k) (λ p q n post. post .1) c
 
@@ -101,6 +106,7 @@ meets L s m (sends x) r ss s′ c = untouched c
 meets L s m delivers r ss s′ c = untouched c
 meets L s m (takes room t) r ss s′ c = front s room t (m .wire .toPort) r ss s′ c
 meets L s m (plans tag out inn) r ss s′ c = planned-is tag out inn c
+meets L s m (names tag d offset count) r ss s′ c = named tag d offset count c
 meets L s m (steps tag d) r ss s′ c = stepped tag d c
 meets L s m (finishes room tag status sense) r ss s′ c = finished room tag status sense c
 meets L s m (adds k) r ss s′ c = added k c

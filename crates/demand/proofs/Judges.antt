@@ -14,7 +14,7 @@ use Rattle.srp.specs.Requests.{lookChecks, lookOutcome}
 use Rattle.srp.specs.Cutting.{upTo, next, cutNext, cutChecks, cutOutcome}
 use Rattle.srp.specs.Credit.{Port}
 use Rattle.srp.specs.Take.{hasTag}
-use Rattle.srp.specs.Calls.{handOut, nextOf, planChecks, planOutcome, stepChecks, stepOutcome, finishChecks, finishOutcome, addChecks, addOutcome, withdrawChecks, withdrawOutcome, grantChecks, grantOutcome, closeChecks, closeOutcome, countersChecks, countersOutcome, listChecks, listOutcome}
+use Rattle.srp.specs.Calls.{handOut, nextOf, planChecks, planOutcome, moveChecks, moveOutcome, stepChecks, stepOutcome, finishChecks, finishOutcome, addChecks, addOutcome, withdrawChecks, withdrawOutcome, grantChecks, grantOutcome, closeChecks, closeOutcome, countersChecks, countersOutcome, listChecks, listOutcome}
 use Rattle.srp.specs.Outside.{lookInC, lookAnswer, cutInC, cutAnswer}
 use Rattle.srp.specs.Answers.{returned}
 use Rattle.srp.specs.declared.Direction.{Direction}
@@ -25,15 +25,20 @@ use Rattle.srp.proofs.Checks.{passes}
 use Rattle.words.specs.View.{view}
 use Rattle.exports.specs.Arguments.{recordSize, directionIn}
 use Rattle.exports.specs.Answered.{Answered}
-use Rattle.exports.specs.Calls.{PlanInC, StepInC, FinishInC, AddInC, WithdrawInC, GrantInC, CloseInC, CountersInC, ListInC}
-use Rattle.demand.specs.Judgement.{JudgesPlan, JudgesStep, JudgesFinish, JudgesAdd, JudgesWithdraw, JudgesGrant, JudgesClose, JudgesCounters, JudgesList, JudgesLook, JudgesCut}
+use Rattle.exports.specs.Calls.{PlanInC, MoveInC, StepInC, FinishInC, AddInC, WithdrawInC, GrantInC, CloseInC, CountersInC, ListInC}
+use Rattle.demand.specs.Judgement.{JudgesPlan, JudgesMove, JudgesStep, JudgesFinish, JudgesAdd, JudgesWithdraw, JudgesGrant, JudgesClose, JudgesCounters, JudgesList, JudgesLook, JudgesCut}
 use Rattle.demand.proofs.Judging.{not-zero, judge-answers, judge-replies, judge-numbers, judge-steps, judge-bytes}
 
--- ── plan, add, withdraw
+-- ── plan, move, add, withdraw
 
 module _ (l l′ : List ℕ) (n : ℕ) where
   pub judges-plan : (tag out inn : ℕ) → PlanInC l l′ tag out inn n → JudgesPlan l l′ tag out inn n
   judges-plan tag out inn P st = judge-replies (view l st) (planOutcome (view l st) tag out inn) refl (planChecks (view l st) tag) l st l′ n (P st)
+
+  pub judges-move : (tag direction offset count : ℕ) → MoveInC l l′ tag direction offset count n → JudgesMove l l′ tag direction offset count n
+  judges-move tag direction offset count P st =
+      let d = directionIn direction in
+      judge-replies (view l st) (moveOutcome (view l st) tag d offset count) refl (moveChecks (view l st) tag d offset) l st l′ n (P st)
 
   pub judges-add : (k : ℕ) → AddInC l l′ k n → JudgesAdd l l′ k n
   judges-add k P st = judge-replies (view l st) (addOutcome (view l st) k) refl (addChecks (view l st) k) l st l′ n (P st)

@@ -15,7 +15,7 @@ use Rattle.srp.specs.Refusals.{Conduct, hangsUp, answered, stays, altersNothing
 use Rattle.srp.specs.Writing.{placed}
 use Rattle.srp.specs.Credit.{Open, Port}
 use Rattle.srp.specs.Take.{Outcome, silent, hasTag, isOpen, Tables, takeChecks, conducted, accepted, takeBy, takeDef}
-use Rattle.srp.specs.Calls.{unless, planChecks, planOutcome, planDef, addChecks, addOutcome, addDef, withdrawChecks, withdrawOutcome, withdrawDef, handOut, nextOf, stepChecks, stepDef, finalResponse, finishChecks, finishOutcome, finishDef, grantChecks, grantOutcome, grantDef, closeChecks, closeOutcome, closeDef}
+use Rattle.srp.specs.Calls.{unless, planChecks, planOutcome, planDef, moveChecks, moveOutcome, moveDef, addChecks, addOutcome, addDef, withdrawChecks, withdrawOutcome, withdrawDef, handOut, nextOf, stepChecks, stepDef, finalResponse, finishChecks, finishOutcome, finishDef, grantChecks, grantOutcome, grantDef, closeChecks, closeOutcome, closeDef}
 use Rattle.srp.specs.Login.{loginChecks, rejections, loginBy, loginDef}
 use Rattle.srp.specs.Answers.{returned, sizeOf, answerOf}
 use Rattle.srp.specs.declared.Settings.{Settings}
@@ -126,7 +126,7 @@ module _ (p : Port) where
       go none Out (some o) = refl
       go none In (some o) = refl
 
--- plan, add, withdraw: they have no words
+-- plan, move, add, withdraw: they have no words
 abbrev pub Silent : Outcome → Type 0
 Silent o = (replyBy performed (returned (o .reply)) [] ≡ o .reply)
 
@@ -137,6 +137,9 @@ silently-said (some f) p q = refused performed f []
 module _ (p : Port) where
   pub plan-said : (tag out inn : ℕ) → Silent (planDef p tag out inn)
   plan-said tag out inn = silently-said (firstOf (planChecks p tag)) p (planOutcome p tag out inn .port)
+
+  pub move-said : (tag : ℕ) (d : Direction) (offset count : ℕ) → Silent (moveDef p tag d offset count)
+  move-said tag d offset count = silently-said (firstOf (moveChecks p tag d offset)) p (moveOutcome p tag d offset count .port)
 
   pub add-said : (k : ℕ) → Silent (addDef p k)
   add-said k = silently-said (firstOf (addChecks p k)) p (addOutcome p k .port)

@@ -12,11 +12,11 @@ use Rattle.srp.specs.declared.Direction.{Direction}
 use Rattle.srp.specs.declared.Reply.{Reply}
 use Rattle.srp.specs.declared.Reply.the-variants.{Performed}
 use Rattle.machine.specs.Machine.{Machine}
-use Rattle.machine.specs.Events.{Event, sends, delivers, takes, plans, steps, finishes, adds, withdraws, grants}
+use Rattle.machine.specs.Events.{Event, sends, delivers, takes, plans, names, steps, finishes, adds, withdraws, grants}
 use Rattle.words.specs.View.{view}
 use Rattle.take.specs.Taking.{tables}
 use Rattle.exports.specs.Arguments.{directionIn}
-use Rattle.demand.specs.Posts.{Slice, LoginPost, TakePost, PlanPost, StepPost, FinishPost, AddPost, WithdrawPost, GrantPost, ClosePost}
+use Rattle.demand.specs.Posts.{Slice, LoginPost, TakePost, PlanPost, MovePost, StepPost, FinishPost, AddPost, WithdrawPost, GrantPost, ClosePost}
 use Rattle.demand.specs.Replies.{replyBy, performed, taken, stepped, loggedIn, messageIn}
 
 -- what the owner keeps of a port: its words and its store
@@ -104,7 +104,7 @@ Ended s room reason = WithMessage s room λ p q b d w v n. ClosePost p q b d w v
 
 -- ── the calls without one
 
--- plan, add, withdraw: there are no words either
+-- plan, move, add, withdraw: there are no words either
 pub record WithoutMessage (s : Memory) (Post : (p q : Slice) (n : ℕ) → Type 0) (r : Reply) (ss : List (List ℕ)) (s′ : Memory) : Type 0 where
   pub p : Slice
   pub q : Slice
@@ -119,13 +119,16 @@ pub record WithoutMessage (s : Memory) (Post : (p q : Slice) (n : ℕ) → Type 
 abbrev pub Planned : Memory → (tag out inn : ℕ) → Reply → List (List ℕ) → Memory → Type 0
 Planned s tag out inn = WithoutMessage s λ p q n. PlanPost p q tag out inn n
 
+-- the direction as a number
+abbrev pub Named : Memory → (tag : ℕ) → Direction → (offset count : ℕ) → Reply → List (List ℕ) → Memory → Type 0
+Named s tag d offset count = WithoutMessage s λ p q n. (k : ℕ) × (directionIn k ≡ d) × MovePost p q tag k offset count n
+
 abbrev pub Added : Memory → (k : ℕ) → Reply → List (List ℕ) → Memory → Type 0
 Added s k = WithoutMessage s λ p q n. AddPost p q k n
 
 abbrev pub Withdrew : Memory → (k : ℕ) → Reply → List (List ℕ) → Memory → Type 0
 Withdrew s k = WithoutMessage s λ p q n. WithdrawPost p q k n
 
--- the direction as a number
 pub record Stepped (s : Memory) (tag : ℕ) (direction : Direction) (r : Reply) (ss : List (List ℕ)) (s′ : Memory) : Type 0 where
   pub p : Slice
   pub q : Slice
@@ -161,6 +164,7 @@ Call s m (sends x) r ss s′ = Untouched s r ss s′
 Call s m delivers r ss s′ = Untouched s r ss s′
 Call s m (takes room t) r ss s′ = TookFront s room t (m .wire .toPort) r ss s′
 Call s m (plans tag out inn) r ss s′ = Planned s tag out inn r ss s′
+Call s m (names tag d offset count) r ss s′ = Named s tag d offset count r ss s′
 Call s m (steps tag d) r ss s′ = Stepped s tag d r ss s′
 Call s m (finishes room tag status sense) r ss s′ = Finished s room tag status sense r ss s′
 Call s m (adds k) r ss s′ = Added s k r ss s′

@@ -33,7 +33,7 @@ use Rattle.words.specs.View.{view}
 use Rattle.exports.specs.Arguments.{settingsIn}
 use Rattle.demand.specs.Posts.{Slice, LookPost}
 use Rattle.demand.specs.Judgement.{readOn}
-use Rattle.demand.specs.Calls.{Memory, seen, LoggedIn, Took, Finished, Granted, Ended, Planned, Stepped, Added, Withdrew}
+use Rattle.demand.specs.Calls.{Memory, seen, LoggedIn, Took, Finished, Granted, Ended, Planned, Named, Stepped, Added, Withdrew}
 
 -- ── the calls
 
@@ -41,6 +41,7 @@ use Rattle.demand.specs.Calls.{Memory, seen, LoggedIn, Took, Finished, G
 pub data PortCall : Type 0 where
   take-call : (room : ℕ) → Tables → (msg : List ℕ) → PortCall
   plan-call : (tag out inn : ℕ) → PortCall
+  move-call : (tag : ℕ) → Direction → (offset count : ℕ) → PortCall
   step-call : (tag : ℕ) → Direction → PortCall
   finish-call : (room tag status : ℕ) (sense : List ℕ) → PortCall
   add-call : ℕ → PortCall
@@ -97,6 +98,7 @@ quiet made typed = writing 0 made typed
 abbrev pub callingOf : PortCall → Calling
 callingOf (take-call room t msg) = record { made = λ s. Took s room t msg; typed = Bytes msg; room = room; received = λ s o. Receives s room t msg o }
 callingOf (plan-call tag out inn) = quiet (λ s. Planned s tag out inn) ((out < 2 ^ 32) × (inn < 2 ^ 32))
+callingOf (move-call tag d offset count) = quiet (λ s. Named s tag d offset count) (Unit {0})
 callingOf (step-call tag d) = quiet (λ s. Stepped s tag d) (Unit {0})
 callingOf (finish-call room tag status sense) = writing room (λ s. Finished s room tag status sense) (status < 2 ^ 8)
 callingOf (add-call k) = quiet (λ s. Added s k) (Unit {0})

@@ -17,7 +17,7 @@ use Rattle.srp.specs.Credit.{Port, closedPort}
 use Rattle.srp.specs.Writing.{targetLogout, placed}
 use Rattle.srp.specs.Take.{Outcome, Tables, answerBad, refusedBy, accepted}
 use Rattle.srp.specs.Order.{takeOrder}
-use Rattle.srp.specs.Calls.{planChecks, planOutcome, stepChecks, stepOutcome, finishChecks, finishOutcome, addChecks, addOutcome, withdrawChecks, withdrawOutcome, grantChecks, grantOutcome, closeChecks, closeOutcome, countersChecks, countersOutcome, listing, listChecks, listOutcome}
+use Rattle.srp.specs.Calls.{planChecks, planOutcome, moveChecks, moveOutcome, stepChecks, stepOutcome, finishChecks, finishOutcome, addChecks, addOutcome, withdrawChecks, withdrawOutcome, grantChecks, grantOutcome, closeChecks, closeOutcome, countersChecks, countersOutcome, listing, listChecks, listOutcome}
 use Rattle.srp.specs.Login.{loginChecks, rejections, judged}
 use Rattle.srp.specs.Outside.{lookAnswer, cutAnswer}
 use Rattle.srp.specs.Answers.{answerOf}
@@ -118,6 +118,12 @@ JudgesLogin b l′ b′ settings own s n w =
 
 abbrev pub JudgesPlan : (l l′ : List ℕ) (tag out inn n : ℕ) → Type 0
 JudgesPlan l l′ tag out inn n = (st : List ℕ) → Judgement (planChecks (view l st) tag) n (view l′ st ≡ planOutcome (view l st) tag out inn .port) (λ f. l′ ≡ l)
+
+abbrev pub JudgesMove : (l l′ : List ℕ) (tag direction offset count n : ℕ) → Type 0
+JudgesMove l l′ tag direction offset count n =
+    (st : List ℕ)
+    → let d = directionIn direction in
+    Judgement (moveChecks (view l st) tag d offset) n (view l′ st ≡ moveOutcome (view l st) tag d offset count .port) (λ f. l′ ≡ l)
 
 -- step has words and no buffer; one that says done alters no word of the port
 pub record Handed (o : Outcome) (l l′ st w : List ℕ) : Type 0 where

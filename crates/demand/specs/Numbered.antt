@@ -11,7 +11,7 @@ use lib.ListN.{length}
 use denote.Ref.{now}
 use contract.Lifetimes.{Lfts}
 use Rattle.srp.specs.Limits.{mostBuffers}
-use Rattle.srp.specs.Calls.{planDef, stepDef, finishDef, addDef, withdrawDef, grantDef, closeDef, countersDef, listDef}
+use Rattle.srp.specs.Calls.{planDef, moveDef, stepDef, finishDef, addDef, withdrawDef, grantDef, closeDef, countersDef, listDef}
 use Rattle.srp.specs.Login.{loginDef}
 use Rattle.srp.specs.Requests.{lookDef}
 use Rattle.srp.specs.Cutting.{cutDef}
@@ -29,6 +29,7 @@ use Rattle.exports.specs.Answered.{Answered}
 use Rattle.login.proofs.login.Reads as login-call
 use Rattle.take.proofs.take.Reads as take-call
 use Rattle.transfer.proofs.plan.Reads as plan-call
+use Rattle.transfer.proofs.name_move.Reads as move-call
 use Rattle.transfer.proofs.step.Reads as step-call
 use Rattle.finish.proofs.finish.Reads as finish-call
 use Rattle.credit.proofs.add.Reads as add-call
@@ -37,7 +38,7 @@ use Rattle.credit.proofs.grant.Reads as grant-call
 use Rattle.close.proofs.close.Reads as close-call
 use Rattle.report.proofs.counters.Reads as counters-call
 use Rattle.report.proofs.list.Reads as list-call
-use Rattle.demand.specs.Posts.{Slice, LoginPost, TakePost, PlanPost, StepPost, FinishPost, AddPost, WithdrawPost, GrantPost, ClosePost, CountersPost, ListPost, LookPost, CutPost}
+use Rattle.demand.specs.Posts.{Slice, LoginPost, TakePost, PlanPost, MovePost, StepPost, FinishPost, AddPost, WithdrawPost, GrantPost, ClosePost, CountersPost, ListPost, LookPost, CutPost}
 
 -- of a call by value: the reply r has the number and the values of the outcome
 pub record SaysAs (r : Reply) (o : Outcome) : Type 0 where
@@ -61,6 +62,9 @@ pub record EachSays : Type 0 where
   pub plan : (st : List ℕ) (p q : Slice) (κs : Lfts 1) (tag out inn : ℕ) (r : Reply)
       → plan-call.Post κs (p, (tag, (out, (inn, tt)))) r (q, (tag, (out, (inn, tt))))
       → SaysAs r (planDef (view (now p) st) tag out inn)
+  pub move : (st : List ℕ) (p q : Slice) (κs : Lfts 1) (tag : ℕ) (d : Direction) (offset count : ℕ) (r : Reply)
+      → move-call.Post κs (p, (tag, (d, (offset, (count, tt))))) r (q, (tag, (d, (offset, (count, tt)))))
+      → SaysAs r (moveDef (view (now p) st) tag d offset count)
   pub step : (p q : Slice) (κs : Lfts 2) (s : Slice) (tag : ℕ) (d : Direction) (r : Reply)
       → step-call.Post κs (p, (s, (tag, (d, tt)))) r (q, (s, (tag, (d, tt))))
       → SaysAs r (stepDef (view (now p) (now s)) tag d)
@@ -90,13 +94,15 @@ pub record EachSays : Type 0 where
       → WritesListing (now p) before after r
       → SaysAs r (listDef (view (now p) st) (length before))
 
--- ── each C function: plan, add and withdraw have a number and no values; look's and the cut's values are their 32 bytes
+-- ── each C function: plan, move, add and withdraw have a number and no values; look's and the cut's values are their 32 bytes
 
 pub record EachCounts : Type 0 where
   pub login : (p q c id m b d w v : Slice) (n : ℕ) → LoginPost p q c id m b d w v n → CountsAs n (now v) (loginDef (settingsIn (now c)) (now id) (length (now b)) (now m))
   pub take : (p q st st′ m out inn b d w v : Slice) (n : ℕ) → TakePost p q st st′ m out inn b d w v n
       → CountsAs n (now v) (takeDef (view (now p) (now st)) (length (now b)) (now m) (tables (now out) (now inn)))
   pub plan : (st : List ℕ) (p q : Slice) (tag out inn n : ℕ) → PlanPost p q tag out inn n → n ≡ returned (planDef (view (now p) st) tag out inn .reply)
+  pub move : (st : List ℕ) (p q : Slice) (tag direction offset count n : ℕ) → MovePost p q tag direction offset count n
+      → n ≡ returned (moveDef (view (now p) st) tag (directionIn direction) offset count .reply)
   pub step : (p q st w v : Slice) (tag direction n : ℕ) → StepPost p q st w v tag direction n
       → CountsAs n (now v) (stepDef (view (now p) (now st)) tag (directionIn direction))
   pub finish : (st : List ℕ) (p q e b d w v : Slice) (tag status n : ℕ) → FinishPost p q e b d w v tag status n

@@ -8,6 +8,7 @@ use contract.Lifetimes.{Lfts}
 use Rattle.exports.proofs.port.srp_target_login.Reads as login-in-c
 use Rattle.exports.proofs.port.srp_target_take.Reads as take-in-c
 use Rattle.exports.proofs.port.srp_target_plan.Reads as plan-in-c
+use Rattle.exports.proofs.port.srp_target_move.Reads as move-in-c
 use Rattle.exports.proofs.port.srp_target_step.Reads as step-in-c
 use Rattle.exports.proofs.port.srp_target_finish.Reads as finish-in-c
 use Rattle.exports.proofs.port.srp_target_add.Reads as add-in-c
@@ -33,6 +34,10 @@ TakePost p q st st′ m out inn b d w v n =
 
 abbrev pub PlanPost : (p q : Slice) (tag out inn n : ℕ) → Type 0
 PlanPost p q tag out inn n = (κs : Lfts 1) × plan-in-c.Post κs (p, (tag, (out, (inn, tt)))) n (q, (tag, (out, (inn, tt))))
+
+abbrev pub MovePost : (p q : Slice) (tag direction offset count n : ℕ) → Type 0
+MovePost p q tag direction offset count n =
+    (κs : Lfts 1) × move-in-c.Post κs (p, (tag, (direction, (offset, (count, tt))))) n (q, (tag, (direction, (offset, (count, tt)))))
 
 abbrev pub StepPost : (p q st w v : Slice) (tag direction n : ℕ) → Type 0
 StepPost p q st w v tag direction n = (κs : Lfts 3) × step-in-c.Post κs (p, (st, (tag, (direction, (w, tt))))) n (q, (st, (tag, (direction, (v, tt)))))

@@ -1,5 +1,8 @@
-// exchange: an initiator and the port, through two queues. A login; commands with data both ways, direct and indirect; the listing; an abort; buffers
-// added, granted and withdrawn; a logout; a second login that the owner ends. Each message, each call and each RDMA operation is a line.
+// exchange: an initiator and the port, through two queues. A login; commands with data both ways, direct and indirect; a disk's middle sent before its
+// start; the listing; an abort; buffers added, granted and withdrawn; a logout; a second login that the owner ends. Each message, each call and each
+// RDMA operation is a line.
+mod moves;
+
 use host::MESSAGE;
 use host::channel;
 use host::message;
@@ -37,10 +40,11 @@ fn main() {
     let b = data_in(&mut port, &mut store, &mut to_port, &mut to_initiator, a);
     let c = data_out(&mut port, &mut store, &mut to_port, &mut to_initiator, b);
     let d = both_ways(&mut port, &mut store, &mut to_port, &mut to_initiator, c);
-    let e = two_open(&mut port, &mut store, &mut to_port, &mut to_initiator, d);
-    let f = abort(&mut port, &mut store, &mut to_port, &mut to_initiator, e);
-    let g = change_buffers(&mut port, &mut store, &mut to_port, &mut to_initiator, f);
-    log_out(&mut port, &mut store, &mut to_port, &mut to_initiator, g);
+    let e = moves::middle_first(&mut port, &mut store, &mut to_port, &mut to_initiator, d);
+    let f = two_open(&mut port, &mut store, &mut to_port, &mut to_initiator, e);
+    let g = abort(&mut port, &mut store, &mut to_port, &mut to_initiator, f);
+    let h = change_buffers(&mut port, &mut store, &mut to_port, &mut to_initiator, g);
+    log_out(&mut port, &mut store, &mut to_port, &mut to_initiator, h);
     close(&mut port, &mut to_port, &mut to_initiator);
 }
 
@@ -160,7 +164,7 @@ fn submit_two(to_port: &mut [u8; QUEUE], limit: u64) -> u64 {
     channel::submit(to_port, message(&msg, DIRECT_SIZE), left)
 }
 
-// The listing, with two of the three pieces of one command handed out, and the other not planned; then both end so.
+// The listing, with two of the three pieces of one command's move handed out, and the other not planned; then both end so.
 fn two_open(
     port: &mut [u64; PORT],
     store: &mut [u8; STORE],
@@ -173,6 +177,7 @@ fn two_open(
     owner::take(&mut *port, &mut *store, &mut *to_port, &mut *to_initiator);
     owner::take(&mut *port, &mut *store, to_port, &mut *to_initiator);
     owner::plan(&mut *port, 0x13, 0, 1300);
+    owner::name_move(&mut *port, 0x13, Direction::In, 0, 1300);
     owner::step(&mut *port, store, 0x13, Direction::In);
     owner::step(&mut *port, store, 0x13, Direction::In);
     owner::show_list(port);

@@ -13,9 +13,9 @@ use Rattle.srp.specs.Login.{loginDef}
 use Rattle.login.specs.LoggingIn.{LogsIn}
 use Rattle.srp.specs.declared.Settings.{Settings}
 use Rattle.take.specs.Taking.{Takes, Stores}
-use Rattle.transfer.specs.Stepping.{Steps}
+use Rattle.transfer.specs.Stepping.{Names, Steps}
 use Rattle.exports.specs.Arguments.{directionIn}
-use Rattle.exports.specs.Calls.{Gives, InC, AnswersInC, StepsInC, RepliesInC, LogsInC, TakeInC, StepInC}
+use Rattle.exports.specs.Calls.{Gives, InC, AnswersInC, StepsInC, RepliesInC, LogsInC, TakeInC, MoveInC, StepInC}
 
 pub in-numbers : {n : ℕ} {w : List ℕ} {r : Answer} {o : Outcome} → r ≡ answerOf o → Gives n w r → InC n w o
 in-numbers e g = record { number = g .0 ∙ ap (λ (a : Answer). returned (a .reply)) e; words = g .1 ∙ ap (λ (a : Answer). answerWords a) e }
@@ -50,6 +50,14 @@ module _ {l st l′ : List ℕ} {o : Outcome} {r : Reply} where
 
   pub steps-in-c : {n : ℕ} {w : List ℕ} → RepliesAs l st l′ st r o → Gives n w (record { reply = r; wrote = 0 }) → StepsInC l st l′ n w o
   steps-in-c R g = record { numbers = in-numbers (silently o (R .reply) (R .wrote)) g; call = of-outcome R }
+
+-- a move of the direction d, which is that of the number
+pub move-in-c : {l l′ : List ℕ} {tag offset count n : ℕ} {d : Direction} {r : Reply} (direction : ℕ) → d ≡ directionIn direction
+    → Names l l′ tag d offset count r
+    → n ≡ returned r
+    → MoveInC l l′ tag direction offset count n
+move-in-c {l} {l′} {tag} {offset} {count} {r = r} direction e N g st =
+    replies-in-c (subst (λ (x : Direction). Names l l′ tag x offset count r) e N st) g
 
 -- a step in the direction d, which is that of the number
 pub step-in-c : {l l′ st : List ℕ} {tag n : ℕ} {w : List ℕ} {d : Direction} {r : Reply} (direction : ℕ) → d ≡ directionIn direction → Steps l l′ st tag d r

@@ -163,13 +163,13 @@ pub fn counts(c: Counters, limit: u64) {
     end();
 }
 
-// A command in the listing: the bytes handed out each way.
+// A command in the listing: the highest offset handed out + 1 each way.
 pub fn record(r: Record) {
     hexadecimal(b"   open: tag ", r.tag, 4);
     hexadecimal(b", LUN ", r.lun, 16);
-    number(b", out ", r.out as u64);
-    number(b", in ", r.inn as u64);
-    text(b" bytes\n");
+    number(b", out up to ", r.out as u64);
+    number(b", in up to ", r.inn as u64);
+    end();
 }
 
 fn refused(f: Refusal) {
@@ -206,7 +206,7 @@ pub fn taken(r: Reply) {
     }
 }
 
-// A step, after so many pieces of its direction; whether there may be more.
+// A step, after so many pieces of its move; whether there may be more.
 pub fn stepped(r: Reply, pieces: usize) -> bool {
     match r {
         Reply::Operation(kind, p) => {
@@ -224,7 +224,7 @@ pub fn stepped(r: Reply, pieces: usize) -> bool {
     }
 }
 
-// A direction without a piece is passed over.
+// A move without a piece is passed over.
 fn done(pieces: usize) {
     if pieces != 0 {
         text(b"   done\n");

@@ -17,6 +17,8 @@ use host::show;
 pub use requests::end;
 pub use requests::finish;
 pub use requests::move_data;
+pub use requests::move_part;
+pub use requests::name_move;
 pub use requests::plan;
 pub use requests::step;
 pub use requests::take;

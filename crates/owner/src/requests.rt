@@ -103,12 +103,25 @@ pub fn plan(port: &mut [u64; PORT], tag: u64, out: u32, inn: u32) {
     show::refusal(b"   ", transfer::plan(port, tag, out, inn));
 }
 
-// One piece of a direction, or that there is no more.
+// A move of a direction: so many bytes from an offset on.
+pub fn name_move(port: &mut [u64; PORT], tag: u64, d: Direction, offset: u32, count: u32) {
+    show::hexadecimal(b"   move: tag ", tag, 4);
+    match d {
+        Direction::Out => show::text(b", out"),
+        Direction::In => show::text(b", in"),
+    }
+    show::number(b", offset ", offset as u64);
+    show::number(b", count ", count as u64);
+    show::end();
+    show::refusal(b"   ", transfer::name_move(port, tag, d, offset, count));
+}
+
+// One piece of the current move, or that there is no more.
 pub fn step(port: &mut [u64; PORT], store: &[u8; STORE], tag: u64, d: Direction) {
     show::stepped(transfer::step(port, store, tag, d), 1);
 }
 
-// Every piece of a direction.
+// Every piece of the current move.
 fn step_all(port: &mut [u64; PORT], store: &[u8; STORE], tag: u64, d: Direction) {
     let mut k: usize = 0;
     while k < PIECES {
@@ -119,11 +132,24 @@ fn step_all(port: &mut [u64; PORT], store: &[u8; STORE], tag: u64, d: Direction)
     }
 }
 
-// What the command requires each way, and all its operations.
+// A move, and all its operations.
+pub fn move_part(
+    port: &mut [u64; PORT],
+    store: &[u8; STORE],
+    tag: u64,
+    d: Direction,
+    offset: u32,
+    count: u32,
+) {
+    name_move(&mut *port, tag, d, offset, count);
+    step_all(port, store, tag, d);
+}
+
+// What the command requires each way, and one move of all of it each way.
 pub fn move_data(port: &mut [u64; PORT], store: &[u8; STORE], tag: u64, out: u32, inn: u32) {
     plan(&mut *port, tag, out, inn);
-    step_all(&mut *port, store, tag, Direction::Out);
-    step_all(port, store, tag, Direction::In);
+    move_part(&mut *port, store, tag, Direction::Out, 0, out);
+    move_part(port, store, tag, Direction::In, 0, inn);
 }
 
 // Finish, with a status and sense.

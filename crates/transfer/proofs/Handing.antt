@@ -1,75 +1,111 @@
--- Step behind its checks: the next piece of the command found handed out, or none left.
+-- Move and step behind their checks: a move named, the next piece of the command found handed out, or none left.
 -- Assumes nothing.
-use mathlib.Core.Path.{_≡_, refl, sym, _∙_, ap, subst}
-use mathlib.Core.Bool.{true}
+use mathlib.Core.Path.{_≡_, refl, sym, _∙_, ap}
+use mathlib.Core.Bool.{Bool, true, false}
 use mathlib.Core.List.{List}
 use mathlib.Core.Option.{Option, some}
-use Prim.Native.Nat.{ℕ}
+use Prim.Native.Nat.{ℕ, min}
 use native.Mathlib.Omega.{arith}
+use lib.Dec.{ltb}
 use lib.ListN.{getD}
 use Rattle.srp.specs.Lists.{find}
-use Rattle.srp.specs.Credit.{Port}
+use Rattle.srp.specs.Both.{of}
+use Rattle.srp.specs.Credit.{Side, movable, onSide, Open, Port}
 use Rattle.srp.specs.Take.{hasTag}
-use Rattle.srp.specs.Calls.{kindOf, nextOf, advanced, handOut, stepOutcome}
+use Rattle.srp.specs.Calls.{moving, hasPieces, kindOf, handing, nextIn, nextOf, handOut, stepOutcome}
 use Rattle.srp.specs.declared.Direction.{Direction}
 use Rattle.srp.specs.declared.Terms.{Terms}
 use Rattle.srp.specs.declared.Kind.{Kind}
 use Rattle.srp.specs.declared.Piece.{Piece}
 use Rattle.srp.specs.declared.Cut.{Cut}
 use Rattle.srp.specs.declared.Cut.the-variants.{CutPiece, CutDone}
-use Rattle.srp.specs.declared.Reply.the-variants.{Operation, Done}
+use Rattle.srp.specs.declared.Refusal.the-variants.{Offset, Unfinished}
+use Rattle.srp.specs.declared.Reply.the-variants.{Refused, Performed, Operation, Done}
 use Rattle.cut.specs.Walk.{nextWrapped}
-use Rattle.words.specs.Slots.{slots, noSlot, SlotIs, handedSlot}
+use Rattle.words.specs.Slots.{slots, noSlot, PartIs, placeAt, movedSlot}
 use Rattle.words.specs.Head.{headOf, SlotChanged}
-use Rattle.words.specs.View.{openOf, view}
+use Rattle.words.specs.View.{sideOf, openOf, view}
+use Rattle.words.specs.declared.Part.{Part}
 use Rattle.words.specs.declared.Slot.{Slot}
-use Rattle.words.proofs.Ports.{while-open}
+use Rattle.words.proofs.Ports.{while-open, view-live}
 use Rattle.state.specs.Changes.{FoundAt}
-use Rattle.state.proofs.Promises.{replies-by, performed, changed-view, found-slot}
-use Rattle.transfer.specs.Stepping.{HandsOut}
-use Rattle.transfer.proofs.Pieces.{no-piece, a-piece}
+use Rattle.state.proofs.Promises.{refused, replies-by, performed, changed-view, found-first}
+use Rattle.transfer.specs.Stepping.{Names, HandsOut}
+use Rattle.transfer.proofs.Checks.{move-beyond, move-unfinished, move-passed}
+use Rattle.transfer.proofs.Pieces.{side-read, no-piece, a-piece}
 
-module _ {l : List ℕ} {tag i : ℕ} {c : Slot} (F : FoundAt l tag i) (S : SlotIs l i c) where
-  -- the command in the slot has the tag
-  slot-tag : c .request .tag ≡ tag
-  slot-tag = ap (λ (x : Slot). x .request .tag) (S .whole) ∙ F .tagged
+module _ {l : List ℕ} {tag i : ℕ} (F : FoundAt l tag i) (live : headOf l .live ≡ true) where
+  -- the command found
+  abbrev here : List ℕ → Open
+  here st = openOf st (getD (slots l) i noSlot)
 
-  -- so it is found by the slot's own
-  pub found-own : FoundAt l (c .request .tag) i
-  found-own = subst (λ (n : ℕ). FoundAt l n i) (sym slot-tag) F
+  open-view : (st : List ℕ) → view l st .live ≡ true
+  open-view st = view-live l st ∙ live
 
-  -- and step by that is step
-  pub hand-own : (p : Port) (d : Direction) → stepOutcome p tag d ≡ stepOutcome p (c .request .tag) d
-  hand-own p d = ap (λ (n : ℕ). stepOutcome p n d) (sym slot-tag)
+  -- ── a move
 
-module _ {l : List ℕ} {tag i : ℕ} {c : Slot} (F : FoundAt l tag i) (S : SlotIs l i c) (live : headOf l .live ≡ true) (st : List ℕ)
-    (T : Terms) (d : Direction) (settled : T ≡ headOf l .terms) where
-  -- the next piece of the command with the tag is that of its slot
-  found-next : nextOf (view l st .terms) d (find (hasTag tag) (view l st .held)) ≡ nextOf T d (some (openOf st c))
-  found-next =
-      ap (nextOf (view l st .terms) d) (found-slot F live st S)
-      ∙ ap (λ (t : Terms). nextOf t d (some (openOf st c))) (ap (λ (p : Port). p .terms) (while-open l st live) ∙ sym settled)
+  module _ (d : Direction) (offset count : ℕ) {p : Part} (P : PartIs l i d p) (planned : getD (slots l) i noSlot .planned ≡ true) where
+    -- its direction, by what was read
+    read-side : (st : List ℕ) → of d (here st .sides) ≡ sideOf st (placeAt d (getD (slots l) i noSlot .place)) p
+    read-side st = side-read st (getD (slots l) i noSlot) d (P .whole) refl
 
-  -- what step comes to
-  hand-by : {n : Option Piece} → nextOf T d (some (openOf st c)) ≡ n → stepOutcome (view l st) tag d ≡ handOut (view l st) tag d n
-  hand-by e = ap (handOut (view l st) tag d) (found-next ∙ e)
+    same-limit : (st : List ℕ) {b : Bool} → ltb (min (p .transfer .required) (p .total)) offset ≡ b → ltb (movable (of d (here st .sides))) offset ≡ b
+    same-limit st e = ap (λ (s : Side). ltb (movable s) offset) (read-side st) ∙ e
 
-  module _ {r : Cut} (is : r ≡ nextWrapped (nextOf T d (some (openOf st c)))) where
-    -- no piece is left
-    pub none-left : r ≡ CutDone → HandsOut l l st tag d Done
-    none-left e = record { replies = replies-by (hand-by (no-piece (nextOf T d (some (openOf st c))) is e)) (performed refl refl refl refl); done = λ q. refl }
+    same-pieces : (st : List ℕ) {b : Bool} → ltb (p .transfer .at) (p .transfer .end) ≡ b → hasPieces (of d (here st .sides)) ≡ b
+    same-pieces st e = ap (λ (s : Side). hasPieces s) (read-side st) ∙ e
 
-    -- a piece is handed out
-    pub one-handed : {l′ : List ℕ} {k : Kind} (m : Piece) (n : ℕ) → r ≡ CutPiece m → k ≡ kindOf d → SlotChanged l l′ i (handedSlot d n)
-        → openOf st (handedSlot d n c) ≡ advanced d (m .len) (openOf st c) → HandsOut l l′ st tag d (Operation k m)
-    one-handed {l′} m n e q C a =
-        let o = a-piece (nextOf T d (some (openOf st c))) is e in
-        let moved : openOf st (handedSlot d n (getD (slots l) i noSlot)) ≡ advanced d (o .0 .len) (openOf st (getD (slots l) i noSlot)) =
-        ap (λ (x : Slot). openOf st (handedSlot d n x)) (sym (S .whole))
-        ∙ a
-        ∙ ap (λ (x : Piece). advanced d (x .len) (openOf st c)) (o .2)
-        ∙ ap (λ (x : Slot). advanced d (o .0 .len) (openOf st x)) (S .whole) in
-        record {
-          replies = replies-by (hand-by (o .1)) (performed (ap (λ (x : Kind). Operation x m) q ∙ ap (Operation (kindOf d)) (o .2)) (changed-view l l′ st live F C (advanced d (o .0 .len)) moved) refl refl);
-          done = λ f. let z : _≡_ {A = ℕ} 0 1 = cc in let y : ⊥ = omega arith in absurd y;
-        }
+    -- 31
+    pub too-far : ltb (min (p .transfer .required) (p .total)) offset ≡ true → Names l l tag d offset count (Refused Offset)
+    too-far e st =
+        replies-by (move-beyond (view l st) tag d offset count (open-view st) (here st) (found-first F live st) planned (same-limit st e)) (refused l st Offset)
+
+    module _ (low : ltb (min (p .transfer .required) (p .total)) offset ≡ false) where
+      -- 32
+      pub under-way : ltb (p .transfer .at) (p .transfer .end) ≡ true → Names l l tag d offset count (Refused Unfinished)
+      under-way e st =
+          replies-by (move-unfinished (view l st) tag d offset count (open-view st) (here st) (found-first F live st) planned (same-limit st low) (same-pieces st e))
+          (refused l st Unfinished)
+
+      -- none of them
+      pub begun : {l′ : List ℕ} {to : ℕ} → ltb (p .transfer .at) (p .transfer .end) ≡ false → SlotChanged l l′ i (movedSlot d (p .transfer .highest) offset to)
+          → ((st : List ℕ) → openOf st (movedSlot d (p .transfer .highest) offset to (getD (slots l) i noSlot)) ≡ onSide d (moving offset count) (here st))
+          → Names l l′ tag d offset count Performed
+      begun {l′} e C a st =
+          replies-by (move-passed (view l st) tag d offset count (open-view st) (here st) (found-first F live st) planned (same-limit st low) (same-pieces st e))
+          (performed refl (changed-view l l′ st live F C (onSide d (moving offset count)) (a st)) refl refl)
+
+  -- ── a step
+
+  module _ (st : List ℕ) (T : Terms) (d : Direction) (settled : T ≡ headOf l .terms) {p : Part} (P : PartIs l i d p)
+      {place : ℕ} (stands : place ≡ getD (slots l) i noSlot .place) where
+    abbrev coming : Option Piece
+    coming = nextIn T (sideOf st (placeAt d place) p)
+
+    -- the next piece of the command with the tag is that of its slot
+    found-next : nextOf (view l st .terms) d (find (hasTag tag) (view l st .held)) ≡ coming
+    found-next =
+        ap (nextOf (view l st .terms) d) (found-first F live st)
+        ∙ ap (λ (t : Terms). nextOf t d (some (here st))) (ap (λ (q : Port). q .terms) (while-open l st live) ∙ sym settled)
+        ∙ ap (λ (s : Side). nextIn T s) (side-read st (getD (slots l) i noSlot) d (P .whole) stands)
+
+    -- what step comes to
+    hand-by : {n : Option Piece} → coming ≡ n → stepOutcome (view l st) tag d ≡ handOut (view l st) tag d n
+    hand-by e = ap (handOut (view l st) tag d) (found-next ∙ e)
+
+    module _ {r : Cut} (is : r ≡ nextWrapped coming) where
+      -- no piece is left
+      pub none-left : r ≡ CutDone → HandsOut l l st tag d Done
+      none-left e = record { replies = replies-by (hand-by (no-piece coming is e)) (performed refl refl refl refl); done = λ q. refl }
+
+      -- a piece is handed out
+      pub one-handed : {l′ : List ℕ} {k : Kind} {h to : ℕ} (m : Piece) → r ≡ CutPiece m → k ≡ kindOf d → SlotChanged l l′ i (movedSlot d h to (p .transfer .end))
+          → openOf st (movedSlot d h to (p .transfer .end) (getD (slots l) i noSlot)) ≡ onSide d (handing (m .len)) (here st)
+          → HandsOut l l′ st tag d (Operation k m)
+      one-handed {l′} m e q C a =
+          let o = a-piece coming is e in
+          let moved = a ∙ ap (λ (x : Piece). onSide d (handing (x .len)) (here st)) (o .2) in
+          record {
+            replies = replies-by (hand-by (o .1)) (performed (ap (λ (x : Kind). Operation x m) q ∙ ap (Operation (kindOf d)) (o .2)) (changed-view l l′ st live F C (onSide d (handing (o .0 .len))) moved) refl refl);
+            done = λ f. let z : _≡_ {A = ℕ} 0 1 = cc in let y : ⊥ = omega arith in absurd y;
+          }

@@ -1,16 +1,16 @@
--- A command's slot under step, and the piece that step hands out.
+-- One direction of a command's slot under move and step, and the piece that step hands out.
 -- Assumes nothing.
-use mathlib.Core.Path.{_≡_, refl, sym, _∙_}
+use mathlib.Core.Path.{_≡_, refl, sym, _∙_, ap}
 use mathlib.Core.List.{List}
 use mathlib.Core.Option.{Option, none, some}
-use Prim.Native.Nat.{ℕ, _+_, _-_, _*_, _^_, _≤_, _<_, min}
+use Prim.Native.Nat.{ℕ, _+_, _-_, _*_, _^_, _≤_, _<_, min, max}
 use native.Mathlib.Omega.{arith}
-use lib.ListN.{take, drop}
-use Rattle.srp.specs.Limits.{mostCopies}
+use lib.ListN.{take, drop, getD}
 use Rattle.srp.specs.Descriptors.{segmentsOf}
-use Rattle.srp.specs.Cutting.{next}
-use Rattle.srp.specs.Credit.{Side, ruleOf}
-use Rattle.srp.specs.Calls.{nextIn, nextOf, wrapped, advanced}
+use Rattle.srp.specs.Cutting.{next, trimmed}
+use Rattle.srp.specs.Both.{of}
+use Rattle.srp.specs.Credit.{Side, onSide, ruleOf}
+use Rattle.srp.specs.Calls.{moving, handing, nextIn, nextOf, wrapped}
 use Rattle.srp.specs.declared.Direction.{Direction}
 use Rattle.srp.specs.declared.Direction.the-variants.{Out, In}
 use Rattle.srp.specs.declared.Terms.{Terms}
@@ -22,56 +22,56 @@ use Rattle.srp.proofs.CutLaws.{up-to}
 use Rattle.srp.proofs.Pieces.{piece-fits}
 use Rattle.cut.specs.Walk.{nextWrapped}
 use Rattle.words.specs.Sizes.{mostSlots}
-use Rattle.words.specs.Slots.{slotOf, SlotFits, SlotIs, region, partFor, placeFor, handedSlot}
+use Rattle.words.specs.Slots.{PartIs, slots, noSlot, partFor, placeAt, placeFor, movedSlot}
 use Rattle.words.specs.Head.{headOf}
-use Rattle.words.specs.View.{openOf}
+use Rattle.words.specs.View.{sideOf, openOf}
 use Rattle.words.specs.declared.Part.{Part}
 use Rattle.words.specs.declared.Slot.{Slot}
-use Rattle.words.proofs.Slots.{slot-at}
 use Rattle.words.proofs.Ports.{head-fits}
 
--- ── the slot
+-- ── a direction of the slot
 
--- with n bytes more handed out it is the command with them
-pub moved-open : (st : List ℕ) (c : Slot) (d : Direction) (n : ℕ) {p : Part} → p ≡ partFor d c → openOf st (handedSlot d (p .transfer .handed + n) c) ≡ advanced d n (openOf st c)
-moved-open st c d n e = rw e (by d)
-  where
-    by : (d : Direction) → openOf st (handedSlot d (partFor d c .transfer .handed + n) c) ≡ advanced d n (openOf st c)
-    by Out = refl
-    by In = refl
+module _ (st : List ℕ) (c : Slot) (d : Direction) {p : Part} (e : p ≡ partFor d c) where
+  -- it is the command's, by what was read of the slot
+  pub side-read : {place : ℕ} → place ≡ c .place → of d (openOf st c .sides) ≡ sideOf st (placeAt d place) p
+  side-read f = rw (e, f) (by d)
+    where
+      by : (d : Direction) → of d (openOf st c .sides) ≡ sideOf st (placeFor d c) (partFor d c)
+      by Out = refl
+      by In = refl
 
--- how many memory descriptors a direction has at most
-pub few-segments : {c : Slot} → SlotFits c → (d : Direction) → partFor d c .segments ≤ mostCopies
-few-segments F Out = F .out
-few-segments F In = F .inn
+  -- with a move named it is the command with that move
+  pub named-open : (offset count : ℕ) {to : ℕ} → to ≡ trimmed offset count (min (p .transfer .required) (p .total))
+      → openOf st (movedSlot d (p .transfer .highest) offset to c) ≡ onSide d (moving offset count) (openOf st c)
+  named-open offset count f = rw (f, e) (by d)
+    where
+      by : (d : Direction)
+          → openOf st (movedSlot d (partFor d c .transfer .highest) offset (trimmed offset count (min (partFor d c .transfer .required) (partFor d c .total))) c)
+          ≡ onSide d (moving offset count) (openOf st c)
+      by Out = refl
+      by In = refl
+
+  -- with n bytes more handed out it is the command with them
+  pub handed-open : (n : ℕ) {to h : ℕ} → to ≡ p .transfer .at + n → h ≡ max (p .transfer .highest) to
+      → openOf st (movedSlot d h to (p .transfer .end) c) ≡ onSide d (handing n) (openOf st c)
+  handed-open n f g = rw (g, f, e) (by d)
+    where
+      by : (d : Direction)
+          → openOf st (movedSlot d (max (partFor d c .transfer .highest) (partFor d c .transfer .at + n)) (partFor d c .transfer .at + n) (partFor d c .transfer .end) c)
+          ≡ onSide d (handing n) (openOf st c)
+      by Out = refl
+      by In = refl
 
 -- ── the next piece
 
--- the next piece, from the slot and the store
-pub next-part : (T : Terms) (st : List ℕ) (c : Slot) (d : Direction) {p : Part} {at to : ℕ} → p ≡ partFor d c → at ≡ placeFor d c
-    → to ≡ min (p .transfer .required) (p .total)
-    → next (ruleOf T) (p .transfer .handed) to (segmentsOf (take (at + p .segments * 16 - at) (drop at st))) ≡ nextOf T d (some (openOf st c))
-next-part T st c d {p} {at} e f g =
-    let h : at + p .segments * 16 - at ≡ 16 * p .segments = omega arith in rw (h, g, f, e) (by d)
-  where
-    by : (d : Direction)
-        → next (ruleOf T) (partFor d c .transfer .handed) (min (partFor d c .transfer .required) (partFor d c .total))
-        (segmentsOf (take (16 * partFor d c .segments) (drop (placeFor d c) st)))
-        ≡ nextOf T d (some (openOf st c))
-    by Out = refl
-    by In = refl
+-- from the part of the slot and the store
+pub next-part : (T : Terms) (st : List ℕ) (place : ℕ) (d : Direction) (p : Part) {at : ℕ} → at ≡ placeAt d place
+    → next (ruleOf T) (p .transfer .at) (p .transfer .end) (segmentsOf (take (at + p .segments * 16 - at) (drop at st))) ≡ nextIn T (sideOf st (placeAt d place) p)
+next-part T st place d p {at} f = let h : at + p .segments * 16 - at ≡ 16 * p .segments = omega arith in rw (h, f) refl
 
-module _ (T : Terms) (some-byte : 1 ≤ T .maximum) where
-  ends-by : (s : Side) (o : Piece) → nextIn T s ≡ some o → s .transfer .handed + o .len ≤ s .extent .total
-  ends-by s o e =
-      let to = min (s .transfer .required) (s .extent .total) in
-      omega (arith, piece-fits (ruleOf T) 0 (s .transfer .handed) to (s .extent .segs) o (up-to (T .maximum) some-byte) e .upto)
-
-  -- it ends by B
-  piece-ends : (st : List ℕ) (c : Slot) (d : Direction) (o : Piece) → nextOf T d (some (openOf st c)) ≡ some o
-      → partFor d c .transfer .handed + o .len ≤ partFor d c .total
-  piece-ends st c Out o e = ends-by (openOf st c .sides .out) o e
-  piece-ends st c In o e = ends-by (openOf st c .sides .inn) o e
+-- it ends by the move's end
+ends-by : (T : Terms) → 1 ≤ T .maximum → (s : Side) (o : Piece) → nextIn T s ≡ some o → s .transfer .at + o .len ≤ s .transfer .end
+ends-by T some-byte s o e = piece-fits (ruleOf T) 0 (s .transfer .at) (s .transfer .end) (s .extent .segs) o (up-to (T .maximum) some-byte) e .upto
 
 -- ── the next piece as the walk over the memory descriptors answers it
 
@@ -102,19 +102,10 @@ module _ (n : Option Piece) {r : Cut} (is : r ≡ nextWrapped n) where
 
 -- ── the bytes handed out
 
-module _ {l : List ℕ} {i : ℕ} {c : Slot} (S : SlotIs l i c) (small : i < mostSlots) where
-  -- B is below 2^32
-  total-fits : (d : Direction) → partFor d c .total < 2 ^ 32
-  total-fits d = rw (S .whole, slot-at l i small) (said d)
-    where
-      said : (d : Direction) → partFor d (slotOf (region l i)) .total < 2 ^ 32
-      said Out = omega arith
-      said In = omega arith
-
-  -- with the next piece they stay in 32 bits
-  pub handed-fits : (T : Terms) (st : List ℕ) (d : Direction) {p : Part} {r : Cut} (m : Piece) → T ≡ headOf l .terms → p ≡ partFor d c
-      → r ≡ nextWrapped (nextOf T d (some (openOf st c))) → r ≡ CutPiece m → p .transfer .handed + m .len < 2 ^ 32
-  handed-fits T st d m settled e is f =
-      let o = a-piece (nextOf T d (some (openOf st c))) is f in
-      let some-byte : 1 ≤ T .maximum = rw settled (head-fits l .terms .smallest) in
-      rw (e, o .2) (omega (arith, piece-ends T some-byte st c d (o .0) (o .1), total-fits d))
+-- with the next piece the move's next byte stays in 32 bits
+pub next-fits : (l st : List ℕ) (T : Terms) (at : ℕ) (p : Part) {r : Cut} (m : Piece) → T ≡ headOf l .terms → p .transfer .end < 2 ^ 32
+    → r ≡ nextWrapped (nextIn T (sideOf st at p)) → r ≡ CutPiece m → p .transfer .at + m .len < 2 ^ 32
+next-fits l st T at p m settled small is f =
+    let o = a-piece (nextIn T (sideOf st at p)) is f in
+    let some-byte : 1 ≤ T .maximum = rw settled (head-fits l .terms .smallest) in
+    rw (o .2) (omega (arith, ends-by T some-byte (sideOf st at p) (o .0) (o .1), small))
