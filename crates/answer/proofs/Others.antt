@@ -7,7 +7,7 @@ use types.Run.{OneOf, miss}
 use Rattle.srp.proofs.Refusal as refusal
 use Rattle.srp.proofs.Reply as reply
 use Rattle.srp.specs.declared.Refusal.{Refusal}
-use Rattle.srp.specs.declared.Refusal.the-variants.{ShortBuffer, Setting, Length, OtherType, OutFormat, InFormat, OutCount, InCount, TableLength, Fields, Argument, Closed, NoCredit, TagOpen, TagNotOpen, CreditResponse, Unanswered, NotOwed, Wanted, Unplanned, Planned}
+use Rattle.srp.specs.declared.Refusal.the-variants.{ShortBuffer, Setting, Length, OtherType, OutFormat, InFormat, OutCount, InCount, TableLength, Fields, Argument, Closed, NoCredit, TagOpen, TagNotOpen, CreditResponse, Unanswered, NotOwed, Wanted, Unplanned, Planned, Offset, Unfinished}
 use Rattle.srp.specs.declared.Reply.{Reply}
 use Rattle.srp.specs.declared.Reply.the-variants.{Refused, Performed, NewCommand, TaskAnswered, CreditSettled, LoggedOut, Operation, Done, Accepted, Rejected, Counts, Listed}
 use Rattle.srp.specs.Refusals.{conductOf, reasonIn}
@@ -34,7 +34,7 @@ unrefused (Listed n) k = refl
 
 -- all refusals but 5, 6, 7 and 8
 abbrev plain : List ℕ
-plain = 0 ∷ 1 ∷ 2 ∷ 3 ∷ 8 ∷ 9 ∷ 10 ∷ 11 ∷ 12 ∷ 13 ∷ 14 ∷ 15 ∷ 16 ∷ 17 ∷ 18 ∷ 19 ∷ 20 ∷ []
+plain = 0 ∷ 1 ∷ 2 ∷ 3 ∷ 8 ∷ 9 ∷ 10 ∷ 11 ∷ 12 ∷ 13 ∷ 14 ∷ 15 ∷ 16 ∷ 17 ∷ 18 ∷ 19 ∷ 20 ∷ 21 ∷ 22 ∷ []
 
 -- they have no reason of their own
 pub no-reason : (r : Refusal) → OneOf plain (tagOf refusal.the-type r) → 0 ≡ reasonIn (conductOf r)
@@ -59,3 +59,5 @@ no-reason NotOwed k = refl
 no-reason Wanted k = refl
 no-reason Unplanned k = refl
 no-reason Planned k = refl
+no-reason Offset k = refl
+no-reason Unfinished k = refl
