@@ -12,6 +12,8 @@ use lib.Seq.{paste, drop-paste, drop-cons, drop-drop, drop-at, take-at, length-t
 use mir.Val.{Val}
 use denote.Laws.{Is}
 use Rattle.srp.specs.Bytes.{bit}
+use Rattle.srp.specs.declared.Direction.{Direction}
+use Rattle.srp.specs.declared.Direction.the-variants.{Out, In}
 use Rattle.srp.proofs.FieldLaws.{front}
 use Rattle.words.proofs.Part as part
 use Rattle.words.proofs.Slot.{the-row}
@@ -20,7 +22,7 @@ use Rattle.words.specs.declared.Part.{Part}
 use Rattle.words.specs.declared.Slot.{Slot}
 use Rattle.words.specs.declared.Head.{Head}
 use Rattle.words.specs.Sizes.{portWords, mostSlots, headSize, slotWords, usedWords}
-use Rattle.words.specs.Slots.{on, slotRequest, slotOf, wordsOf, SlotFits, slotAt, region, slotsFrom, slots, noSlot}
+use Rattle.words.specs.Slots.{on, slotRequest, partAt, partIn, slotOf, wordsOf, SlotFits, slotAt, region, slotsFrom, slots, noSlot, partFor}
 use Rattle.words.specs.Head.{headOf, headWords, HeadFits, SlotChanged, HeadChanged}
 
 -- ── a list with a part written
@@ -75,6 +77,18 @@ slot-request l i h = ap (λ (c : Slot). c .request) (slot-at l i h)
 pub slot-tag : (l : List ℕ) (i : ℕ) → i < mostSlots → getD (slots l) i noSlot .request .tag ≡ getD l (slotAt i) 0
 slot-tag l i h =
     ap (λ (c : Slot). c .request .tag) (slot-at l i h) ∙ word-at l i 0 (omega arith) ∙ ap (λ (k : ℕ). getD l k 0) (add-zero (slotAt i))
+
+-- then whether a plan was stated, and the place
+pub slot-planned : (l : List ℕ) (i : ℕ) → i < mostSlots → getD (slots l) i noSlot .planned ≡ on (getD l (slotAt i + 4) 0)
+slot-planned l i h = ap (λ (c : Slot). c .planned) (slot-at l i h) ∙ ap on (word-at l i 4 (omega arith))
+
+pub slot-place : (l : List ℕ) (i : ℕ) → i < mostSlots → getD (slots l) i noSlot .place ≡ getD l (slotAt i + 5) 0 % mostSlots
+slot-place l i h = ap (λ (c : Slot). c .place) (slot-at l i h) ∙ ap (λ (x : ℕ). x % mostSlots) (word-at l i 5 (omega arith))
+
+-- and each direction
+pub slot-part : (l : List ℕ) (i : ℕ) → i < mostSlots → (d : Direction) → partFor d (getD (slots l) i noSlot) ≡ partIn (region l i) (partAt d)
+slot-part l i h Out = ap (partFor Out) (slot-at l i h)
+slot-part l i h In = ap (partFor In) (slot-at l i h)
 
 -- there are as many slots as are asked for
 pub slots-long : (n i : ℕ) (l : List ℕ) → length (slotsFrom n i l) ≡ n
@@ -136,13 +150,17 @@ part-kept : (p : Part) (vs : List Val) → Is part.the-row p vs → p .segments 
     → (min (p .segments) mostCopies ≡ p .segments)
     × (p .total % 2 ^ 32 ≡ p .total)
     × (p .transfer .required % 2 ^ 32 ≡ p .transfer .required)
-    × (p .transfer .handed % 2 ^ 32 ≡ p .transfer .handed)
+    × (p .transfer .highest % 2 ^ 32 ≡ p .transfer .highest)
+    × (p .transfer .at % 2 ^ 32 ≡ p .transfer .at)
+    × (p .transfer .end % 2 ^ 32 ≡ p .transfer .end)
 part-kept p vs g h =
     let t = g .1 .1 .1 .1 .0 in (
       omega arith,
       mod-eq-of-lt (g .1 .1 .1 .0 .1),
       mod-eq-of-lt (t .1 .1 .0 .1),
       mod-eq-of-lt (t .1 .1 .1 .0 .1),
+      mod-eq-of-lt (t .1 .1 .1 .1 .0 .1),
+      mod-eq-of-lt (t .1 .1 .1 .1 .1 .0 .1),
     )
 
 -- a slot's words say the slot, whatever stands behind them
@@ -150,7 +168,7 @@ decoded : (c : Slot) (vs : List Val) → Is the-row c vs → SlotFits c → (res
 decoded c vs g F rest =
     let o = part-kept (c .out) _ (g .1 .1 .1 .1 .1 .0) (F .out) in
     let n = part-kept (c .inn) _ (g .1 .1 .1 .1 .1 .1 .0) (F .inn) in
-    simp (o .0, o .1, o .2, o .3, n .0, n .1, n .2, n .3, mod-eq-of-lt (F .place), on-bit)
+    simp (o .0, o .1, o .2, o .3, o .4, o .5, n .0, n .1, n .2, n .3, n .4, n .5, mod-eq-of-lt (F .place), on-bit)
 
 -- a head's words say the head
 head-put : (l : List ℕ) (h : Head) → HeadFits h → headOf (paste l 0 (headWords h) (length (headWords h))) ≡ h

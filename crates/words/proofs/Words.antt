@@ -14,8 +14,8 @@ use Rattle.srp.specs.Bytes.{bit}
 use Rattle.srp.specs.declared.Direction.{Direction}
 use Rattle.srp.specs.declared.Direction.the-variants.{Out, In}
 use Rattle.words.specs.declared.Slot.{Slot}
-use Rattle.words.specs.Sizes.{portWords, mostSlots, headSize, slotWords, usedWords}
-use Rattle.words.specs.Slots.{slotOf, slotAt, region, slots, noSlot, partAt, plannedSlot, handedAt, handedSlot}
+use Rattle.words.specs.Sizes.{portWords, mostSlots, headSize, slotWords, partWords, usedWords}
+use Rattle.words.specs.Slots.{slotOf, slotAt, region, slots, noSlot, partAt, plannedSlot, movedSlot}
 use Rattle.words.specs.Head.{headOf, countedOf, CountsFit, SlotChanged, HeadChanged}
 use Rattle.words.proofs.Slots.{slots-same, slot-at, word-at, wordsAt, words-front, spread, on-bit, head-same, either, OnlySlot, put-slot}
 
@@ -102,18 +102,21 @@ module _ (l : List ℕ) (long : length l ≡ portWords) (i : ℕ) (h : i < mostS
       changed i (slot-word i (slot-word i (slot-word i (unwritten l i) 4 1 (omega arith)) (partAt Out + 2) out (omega arith)) (partAt In + 2) inn (omega arith)) h (plannedSlot out inn)
       (ap (λ (r : List ℕ). slotOf (set (set (set r 4 1) (partAt Out + 2) out) (partAt In + 2) inn)) whole ∙ simp (mod-eq-of-lt o, mod-eq-of-lt n))
 
-  -- bytes handed out
-  pub handed-put : (d : Direction) (n : ℕ) → n < 2 ^ 32 → SlotChanged l (set l (slotAt i + handedAt d) n) i (handedSlot d n)
+  -- a move named or handed out
+  pub moved-put : (d : Direction) (n at end : ℕ) → n < 2 ^ 32 → at < 2 ^ 32 → end < 2 ^ 32
+      → SlotChanged l (set (set (set l (slotAt i + (partAt d + 3)) n) (slotAt i + (partAt d + 4)) at) (slotAt i + (partAt d + 5)) end) i (movedSlot d n at end)
   unfolding wordsAt
-  handed-put d n b = changed i (slot-word i (unwritten l i) (handedAt d) n (small d)) h (handedSlot d n) (said d)
+  moved-put d n at end bn ba be =
+      changed i (slot-word i (slot-word i (slot-word i (unwritten l i) (partAt d + 3) n (small d 3 (omega arith))) (partAt d + 4) at (small d 4 (omega arith))) (partAt d + 5) end (small d 5 (omega arith))) h
+      (movedSlot d n at end) (said d)
     where
-      small : (d : Direction) → handedAt d < slotWords
-      small Out = omega arith
-      small In = omega arith
+      small : (d : Direction) (k : ℕ) → k < partWords → partAt d + k < slotWords
+      small Out k q = omega arith
+      small In k q = omega arith
 
-      said : (d : Direction) → slotOf (set (region l i) (handedAt d) n) ≡ handedSlot d n (slotOf (region l i))
-      said Out = ap (λ (r : List ℕ). slotOf (set r (handedAt Out) n)) whole ∙ simp (mod-eq-of-lt b)
-      said In = ap (λ (r : List ℕ). slotOf (set r (handedAt In) n)) whole ∙ simp (mod-eq-of-lt b)
+      said : (d : Direction) → slotOf (set (set (set (region l i) (partAt d + 3) n) (partAt d + 4) at) (partAt d + 5) end) ≡ movedSlot d n at end (slotOf (region l i))
+      said Out = ap (λ (r : List ℕ). slotOf (set (set (set r (partAt Out + 3) n) (partAt Out + 4) at) (partAt Out + 5) end)) whole ∙ simp (mod-eq-of-lt bn, mod-eq-of-lt ba, mod-eq-of-lt be)
+      said In = ap (λ (r : List ℕ). slotOf (set (set (set r (partAt In + 3) n) (partAt In + 4) at) (partAt In + 5) end)) whole ∙ simp (mod-eq-of-lt bn, mod-eq-of-lt ba, mod-eq-of-lt be)
 
 -- ── a slot's words moved to another
 

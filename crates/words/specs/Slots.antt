@@ -8,6 +8,7 @@ use lib.ListN.{take, drop, getD}
 use Rattle.srp.specs.Limits.{mostCopies}
 use Rattle.srp.specs.Bytes.{bit}
 use Rattle.srp.specs.Both.{Both, of, alter, along}
+use Rattle.srp.specs.Credit.{unmoved}
 use Rattle.srp.specs.declared.Direction.{Direction}
 use Rattle.srp.specs.declared.Direction.the-variants.{Out, In}
 use Rattle.srp.specs.declared.Request.{Request}
@@ -89,7 +90,7 @@ abbrev pub slots : List ℕ → List Slot
 slots l = slotsFrom mostSlots 0 l
 
 abbrev pub noPart : Part
-noPart = record { segments = 0; total = 0; transfer = record { required = 0; highest = 0; at = 0; end = 0 } }
+noPart = record { segments = 0; total = 0; transfer = unmoved }
 
 abbrev pub noSlot : Slot
 noSlot =

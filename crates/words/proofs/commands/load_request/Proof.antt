@@ -1,3 +1,4 @@
+-- `words::load_request` meets its contract. Assumes nothing.
 use mathlib.Core.Path.{_≡_, sym, _∙_}
 use Prim.Native.Nat.{_+_, _-_}
 use native.Mathlib.Omega.{arith}
@@ -7,43 +8,31 @@ use Rattle.words.proofs.Slots.{slot-request}
 use borrow.Author.Needs.{needs}
 use Rattle.words.proofs.commands.load_request.Statement.{statement}
 use Rattle.words.proofs.commands.load_request.Tie as tie
-use Rattle.words.proofs.commands.load_request.Reads as reads
-use Rattle.words.proofs.commands.load_request.Lts as lts
-use Rattle.words.proofs.commands.request_of.Reads as request-of-reads
 
--- src/commands.rt:133:14
 mul-at : tie.Need-mul-at
 mul-at c = search needs
 
--- src/commands.rt:133:14
 add-at : tie.Need-add-at
 add-at c = search needs
 
--- src/commands.rt:134:23
 add-request-of : tie.Need-add-request-of
 add-request-of c = search needs
 
--- src/commands.rt:134:16
 mul-request-of : tie.Need-mul-request-of
 mul-request-of c = search needs
 
--- src/commands.rt:134:16
 sub-request-of : tie.Need-sub-request-of
 sub-request-of c = search needs
 
--- src/commands.rt:134:16
 part-request-of-start : tie.Need-part-request-of-start
 part-request-of-start c = search needs
 
--- src/commands.rt:134:16
 part-request-of-end : tie.Need-part-request-of-end
 part-request-of-end c = search needs
 
--- src/commands.rt:134:5
 request-of-requires : tie.Need-request-of-requires
 request-of-requires c κs = search needs
 
--- src/commands.rt:128:1
 returns : tie.Need-returns
 returns c =
     let a = c .before .before .before .args in

@@ -1,37 +1,27 @@
+-- `words::slot_of` meets its contract. Assumes nothing.
 use mathlib.Core.Path.{refl}
 use borrow.Author.Needs.{needs}
 use Rattle.words.proofs.commands.slot_of.Statement.{statement}
 use Rattle.words.proofs.commands.slot_of.Tie as tie
-use Rattle.words.proofs.commands.slot_of.Reads as reads
-use Rattle.words.proofs.commands.slot_of.Lts as lts
-use Rattle.words.proofs.commands.part_of.Reads as part-of-reads
-use Rattle.words.proofs.commands.request_of.Reads as request-of-reads
 
--- src/commands.rt:79:9
 request-of-requires : tie.Need-request-of-requires
 request-of-requires c κs = search needs
 
--- src/commands.rt:80:9
 part-of-requires : tie.Need-part-of-requires
 part-of-requires c κs = search needs
 
--- src/commands.rt:81:9
 part-of-requires-2 : tie.Need-part-of-requires-2
 part-of-requires-2 c κs = search needs
 
--- src/commands.rt:84:18
 shared-slice-read-t6 : tie.Need-shared-slice-read-t6
 shared-slice-read-t6 c = search needs
 
--- src/commands.rt:85:17
 shared-slice-read-t10 : tie.Need-shared-slice-read-t10
 shared-slice-read-t10 c = search needs
 
--- src/commands.rt:85:16
 cast-t12 : tie.Need-cast-t12
 cast-t12 c = search needs
 
--- src/commands.rt:75:1
 returns : tie.Need-returns
 returns c =
     rw (c .before .before .before .before .request-of .ensures, c .before .before .before .part-of .ensures, c .before .before .part-of2 .ensures) refl

@@ -1,0 +1,30 @@
+-- `words::load_planned` meets its contract. Assumes nothing.
+use mathlib.Core.Path.{sym}
+use Rattle.words.proofs.Slots.{slot-planned}
+use borrow.Author.Needs.{needs}
+use Rattle.words.proofs.commands.load_planned.Statement.{statement}
+use Rattle.words.proofs.commands.load_planned.Tie as tie
+
+mul-result : tie.Need-mul-result
+mul-result c = search needs
+
+add-result : tie.Need-add-result
+add-result c = search needs
+
+add-result-2 : tie.Need-add-result-2
+add-result-2 c = search needs
+
+mul-result-2 : tie.Need-mul-result-2
+mul-result-2 c = search needs
+
+shared-slice-read-result : tie.Need-shared-slice-read-result
+shared-slice-read-result c = search needs
+
+returns : tie.Need-returns
+returns c =
+    sym (slot-planned (c .before .args .s .now) (c .before .args .i) (c .before .pre .1))
+
+pub load-planned-spec : {M : Type 1} → statement M
+load-planned-spec =
+    tie.close
+    (tie.spec mul-result add-result add-result-2 mul-result-2 shared-slice-read-result returns)
