@@ -37,7 +37,9 @@ pub fn middle_first(
     limit: u64,
 ) -> u64 {
     let mut msg = [0u8; MESSAGE];
-    show::text(b"data in, the middle first: bytes 600 to 1,199 of 1,300, then the start, then the end\n");
+    show::text(
+        b"data in, the middle first: bytes 600 to 1,199 of 1,300, then the start, then the end\n",
+    );
     host::put_command(&mut msg, 0, IN_DIRECT, 0, 0, TAG, 0, 0x28);
     host::put_segment(&mut msg, CMD_SIZE, 0x1000, 7, 1300);
     let left = channel::submit(&mut *to_port, message(&msg, DIRECT_SIZE), limit);

@@ -4,10 +4,11 @@ use mathlib.Core.Path.{_≡_, refl, sym, _∙_, ap}
 use mathlib.Core.Bool.{Bool, true, false}
 use mathlib.Core.List.{List}
 use mathlib.Core.Option.{Option, some}
-use Prim.Native.Nat.{ℕ, min}
+use Prim.Native.Nat.{ℕ, _≤_, _<_, min}
 use native.Mathlib.Omega.{arith}
 use lib.Dec.{ltb}
 use lib.ListN.{getD}
+use borrow.Author.Tests.{lt-ltb, le-ltb}
 use Rattle.srp.specs.Lists.{find}
 use Rattle.srp.specs.Both.{of}
 use Rattle.srp.specs.Credit.{Side, movable, onSide, Open, Port}
@@ -56,23 +57,27 @@ module _ {l : List ℕ} {tag i : ℕ} (F : FoundAt l tag i) (live : headOf l .li
     same-pieces st e = ap (λ (s : Side). hasPieces s) (read-side st) ∙ e
 
     -- 31
-    pub too-far : ltb (min (p .transfer .required) (p .total)) offset ≡ true → Names l l tag d offset count (Refused Offset)
+    pub too-far : min (p .transfer .required) (p .total) < offset → Names l l tag d offset count (Refused Offset)
     too-far e st =
-        replies-by (move-beyond (view l st) tag d offset count (open-view st) (here st) (found-first F live st) planned (same-limit st e)) (refused l st Offset)
+        replies-by (move-beyond (view l st) tag d offset count (open-view st) (here st) (found-first F live st) planned (same-limit st (lt-ltb (min (p .transfer .required) (p .total)) offset e)))
+        (refused l st Offset)
 
-    module _ (low : ltb (min (p .transfer .required) (p .total)) offset ≡ false) where
+    module _ (low : offset ≤ min (p .transfer .required) (p .total)) where
+      within : (st : List ℕ) → ltb (movable (of d (here st .sides))) offset ≡ false
+      within st = same-limit st (le-ltb (min (p .transfer .required) (p .total)) offset low)
+
       -- 32
-      pub under-way : ltb (p .transfer .at) (p .transfer .end) ≡ true → Names l l tag d offset count (Refused Unfinished)
+      pub under-way : p .transfer .at < p .transfer .end → Names l l tag d offset count (Refused Unfinished)
       under-way e st =
-          replies-by (move-unfinished (view l st) tag d offset count (open-view st) (here st) (found-first F live st) planned (same-limit st low) (same-pieces st e))
+          replies-by (move-unfinished (view l st) tag d offset count (open-view st) (here st) (found-first F live st) planned (within st) (same-pieces st (lt-ltb (p .transfer .at) (p .transfer .end) e)))
           (refused l st Unfinished)
 
       -- none of them
-      pub begun : {l′ : List ℕ} {to : ℕ} → ltb (p .transfer .at) (p .transfer .end) ≡ false → SlotChanged l l′ i (movedSlot d (p .transfer .highest) offset to)
+      pub begun : {l′ : List ℕ} (to : ℕ) → p .transfer .end ≤ p .transfer .at → SlotChanged l l′ i (movedSlot d (p .transfer .highest) offset to)
           → ((st : List ℕ) → openOf st (movedSlot d (p .transfer .highest) offset to (getD (slots l) i noSlot)) ≡ onSide d (moving offset count) (here st))
           → Names l l′ tag d offset count Performed
-      begun {l′} e C a st =
-          replies-by (move-passed (view l st) tag d offset count (open-view st) (here st) (found-first F live st) planned (same-limit st low) (same-pieces st e))
+      begun {l′} to e C a st =
+          replies-by (move-passed (view l st) tag d offset count (open-view st) (here st) (found-first F live st) planned (within st) (same-pieces st (le-ltb (p .transfer .at) (p .transfer .end) e)))
           (performed refl (changed-view l l′ st live F C (onSide d (moving offset count)) (a st)) refl refl)
 
   -- ── a step
@@ -99,10 +104,10 @@ module _ {l : List ℕ} {tag i : ℕ} (F : FoundAt l tag i) (live : headOf l .li
       none-left e = record { replies = replies-by (hand-by (no-piece coming is e)) (performed refl refl refl refl); done = λ q. refl }
 
       -- a piece is handed out
-      pub one-handed : {l′ : List ℕ} {k : Kind} {h to : ℕ} (m : Piece) → r ≡ CutPiece m → k ≡ kindOf d → SlotChanged l l′ i (movedSlot d h to (p .transfer .end))
+      pub one-handed : {l′ : List ℕ} {k : Kind} (h to : ℕ) (m : Piece) → r ≡ CutPiece m → k ≡ kindOf d → SlotChanged l l′ i (movedSlot d h to (p .transfer .end))
           → openOf st (movedSlot d h to (p .transfer .end) (getD (slots l) i noSlot)) ≡ onSide d (handing (m .len)) (here st)
           → HandsOut l l′ st tag d (Operation k m)
-      one-handed {l′} m e q C a =
+      one-handed {l′} h to m e q C a =
           let o = a-piece coming is e in
           let moved = a ∙ ap (λ (x : Piece). onSide d (handing (x .len)) (here st)) (o .2) in
           record {

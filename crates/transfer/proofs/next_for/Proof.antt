@@ -1,75 +1,60 @@
--- `transfer::next_for` meets its contract. Assumes nothing.
-use mathlib.Core.Path.{_≡_, _∙_, ap}
-use native.Mathlib.Omega.{arith}
+use mathlib.Core.Path.{_∙_, ap}
 use Rattle.cut.specs.Walk.{nextWrapped}
-use Rattle.words.specs.Slots.{partFor}
-use Rattle.words.specs.declared.Part.{Part}
-use Rattle.transfer.proofs.Pieces.{few-segments, next-part}
+use Rattle.transfer.proofs.Pieces.{next-part}
 use borrow.Author.Needs.{needs}
 use Rattle.transfer.proofs.next_for.Statement.{statement}
 use Rattle.transfer.proofs.next_for.Tie as tie
+use Rattle.transfer.proofs.next_for.Reads as reads
+use Rattle.transfer.proofs.next_for.Lts as lts
+use Rattle.cut.proofs.next_piece.Reads as next-piece-reads
+use Rattle.transfer.proofs.place_for.Reads as place-for-reads
 
-part-for-requires : tie.Need-part-for-requires
-part-for-requires c κs = search needs
-
+-- src/lib.rt:123:9
 place-for-requires : tie.Need-place-for-requires
 place-for-requires c κs = search needs
 
+-- src/lib.rt:124:21
 cast-end : tie.Need-cast-end
 cast-end c = search needs
 
+-- src/lib.rt:124:20
 mul-end : tie.Need-mul-end
 mul-end c = search needs
 
+-- src/lib.rt:124:15
 add-end : tie.Need-add-end
 add-end c = search needs
 
-cast-least : tie.Need-cast-least
-cast-least c = search needs
-
-cast-least-2 : tie.Need-cast-least-2
-cast-least-2 c = search needs
-
-least-requires : tie.Need-least-requires
-least-requires c κs = search needs
-
-cast-to : tie.Need-cast-to
-cast-to c = search needs
-
+-- src/lib.rt:126:9
 sub-next-piece : tie.Need-sub-next-piece
 sub-next-piece c = search needs
 
+-- src/lib.rt:126:9
 part-next-piece-start : tie.Need-part-next-piece-start
 part-next-piece-start c = search needs
 
+-- src/lib.rt:126:9
 part-next-piece-end : tie.Need-part-next-piece-end
-part-next-piece-end c =
-    let a = c .before .before .before .before .before .before .before .args in
-    let p = c .before .before .before .before .before .before .before .pre in
-    let same : c .before .before .before .before .before .part-for .result .segments ≡ partFor (a .d) (a .c) .segments = ap (λ (x : Part). x .segments) (c .before .before .before .before .before .part-for .ensures) in
-    omega (arith, few-segments (p .1) (a .d), same, c .before .before .before .before .place-for .ensures .1, p .0)
+part-next-piece-end c = search needs
 
+-- src/lib.rt:125:5
 next-piece-requires : tie.Need-next-piece-requires
 next-piece-requires c κs = search needs
 
+-- src/lib.rt:117:1
 returns : tie.Need-returns
 returns c =
-    let a = c .before .before .before .before .before .before .before .before .before .args in
-    c .next-piece .ensures ∙ ap nextWrapped (next-part (a .terms) (a .store .now) (a .c) (a .d) (c .before .before .before .before .before .before .before .part-for .ensures) (c .before .before .before .before .before .before .place-for .ensures .0) (c .before .before .least .ensures))
+    let a = c .before .before .before .before .before .args in
+    c .next-piece .ensures ∙ ap nextWrapped (next-part (a .terms) (a .store .now) (a .place) (a .d) (a .p) (c .before .before .before .place-for .ensures .0))
 
 pub next-for-spec : {M : Type 1} → statement M
 next-for-spec =
     tie.close
     (tie.spec
-    part-for-requires
     place-for-requires
     cast-end
     mul-end
     add-end
-    cast-least
-    cast-least-2
-    least-requires
-    cast-to
     sub-next-piece
     part-next-piece-start
     part-next-piece-end
