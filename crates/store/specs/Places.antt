@@ -7,7 +7,7 @@ use lib.ListN.{length, getD, take, drop}
 use Rattle.srp.specs.Bytes.{bit}
 use Rattle.srp.specs.Descriptors.{segmentsOf}
 use Rattle.srp.specs.Both.{Both}
-use Rattle.srp.specs.Credit.{Side, Open, Port, withHeld}
+use Rattle.srp.specs.Credit.{Side, unmoved, Open, Port, withHeld}
 use Rattle.srp.specs.Limits.{longestTable}
 use Rattle.srp.specs.declared.Request.{Request}
 use Rattle.words.specs.Sizes.{mostSlots, placeSize}
@@ -38,9 +38,9 @@ pub record Segments (l : List ℕ) : Type 0 where
   pub short : length l ≤ longestTable
   pub whole : length l % 16 ≡ 0
 
--- a direction with so many segments, of which nothing was planned or handed out
+-- a direction with so many segments, of which nothing was planned, named or handed out
 abbrev pub newPart : ℕ → ℕ → Part
-newPart segments total = record { segments = segments; total = total; transfer = record { required = 0; handed = 0 } }
+newPart segments total = record { segments = segments; total = total; transfer = unmoved }
 
 -- a new command at a place of the store
 abbrev pub newSlot : Request → ℕ → Part → Part → Slot
@@ -48,7 +48,7 @@ newSlot r place out inn = record { request = r; planned = false; place = place; 
 
 -- with its memory descriptors and B each way, as the port has it
 abbrev pub enteredSide : ℕ → List ℕ → Side
-enteredSide total list = record { extent = record { segs = segmentsOf list; total = total }; transfer = record { required = 0; handed = 0 } }
+enteredSide total list = record { extent = record { segs = segmentsOf list; total = total }; transfer = unmoved }
 
 abbrev pub enteredOpen : Request → Both Side → Open
 enteredOpen r sides = record { request = r; planned = false; sides = sides }
