@@ -39,8 +39,8 @@ module _ (s : Side) where
   over h = rw (lt-ltb (s .extent .total) (s .transfer .required) h) refl
 
   module _ (h : s .transfer .required ≤ s .extent .total) where
-    pub under : s .transfer .handed < s .extent .total → residualOf s ≡ Under (s .extent .total - s .transfer .handed)
-    under k = rw (le-ltb (s .extent .total) (s .transfer .required) h, lt-ltb (s .transfer .handed) (s .extent .total) k) refl
+    pub under : s .transfer .highest < s .extent .total → residualOf s ≡ Under (s .extent .total - s .transfer .highest)
+    under k = rw (le-ltb (s .extent .total) (s .transfer .required) h, lt-ltb (s .transfer .highest) (s .extent .total) k) refl
 
-    pub even : s .extent .total ≤ s .transfer .handed → residualOf s ≡ Even
-    even k = rw (le-ltb (s .extent .total) (s .transfer .required) h, le-ltb (s .transfer .handed) (s .extent .total) k) refl
+    pub even : s .extent .total ≤ s .transfer .highest → residualOf s ≡ Even
+    even k = rw (le-ltb (s .extent .total) (s .transfer .required) h, le-ltb (s .transfer .highest) (s .extent .total) k) refl
