@@ -1,6 +1,6 @@
 -- What the owner reads of a port: the counters, the listing by value, and the listing in a lent list. Document 01: "the open commands listed into
 -- a lent list of records (tag, LUN, bytes handed out each way), each command once; .. the rest of the list untouched". The order, which is free, is
--- the oldest first.
+-- the oldest first. Document 02, job 1: the listing takes h, "the highest offset handed out + 1, 0 where nothing was", for the bytes handed out.
 use mathlib.Core.Path.{_≡_}
 use mathlib.Core.List.{List, _++_, map}
 use Prim.Native.Nat.{ℕ, _-_, _≤_}
@@ -19,7 +19,7 @@ use Rattle.report.specs.declared.Listing.{Listing}
 
 -- the record of a command in its slot, those of all slots, and one that stands for no command
 abbrev pub slotRecord : Slot → Record
-slotRecord c = record { tag = c .request .tag; lun = c .request .lun; out = c .out .transfer .handed; inn = c .inn .transfer .handed }
+slotRecord c = record { tag = c .request .tag; lun = c .request .lun; out = c .out .transfer .highest; inn = c .inn .transfer .highest }
 
 abbrev pub slotRecords : List ℕ → List Record
 slotRecords l = map slotRecord (slots l)
