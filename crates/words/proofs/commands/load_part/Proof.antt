@@ -1,5 +1,5 @@
 -- `words::load_part` meets its contract. Assumes nothing.
-use mathlib.Core.Path.{_≡_, sym, _∙_}
+use mathlib.Core.Path.{_≡_, sym, _∙_, ap}
 use Prim.Native.Nat.{_+_, _-_}
 use native.Mathlib.Omega.{arith}
 use Rattle.words.specs.Sizes.{slotWords}
@@ -40,7 +40,7 @@ returns : tie.Need-returns
 returns c =
     let a = c .before .before .before .before .args in
     let n : slotAt (a .i) + slotWords - slotAt (a .i) ≡ slotWords = omega arith in
-    let e : c .part-of .result ≡ partIn (region (a .s .now) (a .i)) (partAt (a .d)) = rw (n, c .before .before .part-at .ensures .0) at (c .part-of .ensures) in
+    let e : c .part-of .result ≡ partIn (region (a .s .now) (a .i)) (partAt (a .d)) = rw n at (c .part-of .ensures) ∙ ap (partIn (region (a .s .now) (a .i))) (c .before .before .part-at .ensures .0) in
     record { whole = e ∙ sym (slot-part (a .s .now) (a .i) (c .before .before .before .before .pre .1) (a .d)); few = rw e (omega arith) }
 
 pub load-part-spec : {M : Type 1} → statement M

@@ -59,7 +59,7 @@ same-length c = search needs
 returns : tie.Need-returns
 returns c =
     let a = c .before .before .args in
-    rw (c .part-at .ensures .0)
+    rw (← c .part-at .ensures .0) at
     (moved-put (a .s .now) (c .before .before .pre .0) (a .i) (c .before .before .pre .1) (a .d) (a .highest) (a .next) (a .end) (search needs) (search needs) (search needs))
 
 pub set-move-spec : {M : Type 1} → statement M
