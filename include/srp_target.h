@@ -34,8 +34,11 @@
  *   - For an SRP_CMD, srp_look first. It names the tables to fetch. They are fetched by RDMA Read in both directions.
  *     When these Reads are complete: srp_target_take, with both tables; later messages wait. All other messages, and
  *     commands that srp_look refuses, are taken without tables.
- *   - For a command taken: srp_target_plan, then srp_target_step in either direction until done, each piece posted as
- *     the RDMA operation that the answer names, then srp_target_finish.
+ *   - For a command taken: srp_target_plan; then for each part of its data, in the order in which the device has them,
+ *     srp_target_move, and srp_target_step in that direction until done, each piece posted as the RDMA operation that
+ *     the answer names; then srp_target_finish. One move of offset 0 and count R is all of a direction.
+ *   - The port does not know EMDP (mode page 02h, byte 12 bit 7). While it is 0, the moves of a command are named in
+ *     rising order.
  *   - Data-out: RDMA Reads complete in any order. Wait for each Read's completion before its data are used. The port
  *     counts pieces handed out, not completions.
  *   - Data-in: post the RDMA Writes before the response is sent, on the same channel. The initiator then has the data
@@ -47,10 +50,10 @@
  * negative after a withdrawal of buffers that are announced already. Each SRP_RSP and SRP_CRED_REQ carries a delta,
  * the larger of D and 0, which moves from D to A. A request is an SRP_CMD or an SRP_TSK_MGMT.
  *
- * B of a direction is the sum of its segments' lengths, R the length that the SCSI command requires. Numbers in
- * messages, in tables and in the answers of srp_look and srp_cut are big-endian, those in words the processor's own.
- * Bit 0 is the lowest. An h marks hexadecimal. A memory descriptor has 16 bytes: address in 0-7, handle in 8-11,
- * length in 12-15.
+ * B of a direction is the sum of its segments' lengths, R the length that the SCSI command requires, h the highest
+ * offset handed out + 1, 0 where nothing was: it never falls. Numbers in messages, in tables and in the answers of
+ * srp_look and srp_cut are big-endian, those in words the processor's own. Bit 0 is the lowest. An h behind digits
+ * marks hexadecimal. A memory descriptor has 16 bytes: address in 0-7, handle in 8-11, length in 12-15.
  */
 #ifndef SRP_TARGET_H
 #define SRP_TARGET_H
@@ -61,6 +64,9 @@
 #ifdef __cplusplus
 extern "C" {
 #endif
+
+/* The version of this interface. In version 0 there were no moves: after srp_target_plan, step served all the data. */
+#define SRP_TARGET_VERSION 1
 
 /* Refusals: from the message or the caller. */
 #define SRP_REFUSED_SHORT_BUFFER 1  /* lent buffer too short */
@@ -84,8 +90,10 @@ extern "C" {
 #define SRP_REFUSED_UNANSWERED      26 /* the last SRP_CRED_REQ is unanswered */
 #define SRP_REFUSED_NOT_OWED        27 /* D not above 0 */
 #define SRP_REFUSED_WANTED          28 /* W would leave 1 to 16 */
-#define SRP_REFUSED_UNPLANNED       29 /* step before plan */
+#define SRP_REFUSED_UNPLANNED       29 /* move or step before plan */
 #define SRP_REFUSED_PLANNED         30 /* planned already */
+#define SRP_REFUSED_OFFSET          31 /* offset above min(R, B) */
+#define SRP_REFUSED_UNFINISHED      32 /* the direction's earlier move still has pieces */
 
 /* Sizes: of a port, of the answers, of lent buffers and lists. */
 #define SRP_PORT_WORDS    528   /* words of a port */
@@ -265,14 +273,36 @@ uint32_t srp_target_take(uint64_t *port, uint8_t *store, const uint8_t *msg, siz
  *   24  tag not open
  *   30  planned already
  *
- * After 0 the first min(R, B) bytes of each direction can be had by srp_target_step. R above B is lawful, also where a
- * direction has no descriptor.
+ * After 0 moves of the first min(R, B) bytes of each direction can be named; none is yet, and step says done. R above
+ * B is lawful, also where a direction has no descriptor.
  */
 uint32_t srp_target_plan(uint64_t *port, uint64_t tag, uint32_t r_out, uint32_t r_in);
 
 /*
- * Step: the next RDMA operation of an open command in a direction, or done. Pieces are cut as srp_cut has it, with the
- * login's M. Steps of other commands, and of the other direction, may stand between.
+ * Move: names the bytes of an open command in a direction that srp_target_step hands out next, from offset up to the
+ * smaller of offset + count and min(R, B). The sum does not wrap at 2^32.
+ *
+ *   port        the port
+ *   tag         the command's tag
+ *   direction   0 out, else in
+ *   offset      of the first byte in the command's data
+ *   count       how many bytes
+ *
+ * Refusals, in the order of checking:
+ *   21  channel closed
+ *   24  tag not open
+ *   29  not planned
+ *   31  offset above min(R, B)
+ *   32  the earlier move of this direction still has pieces
+ *
+ * After 0 it is the direction's current move. Moves may come in any order, overlap, and be repeated; h does not change
+ * until a piece is handed out. A count of 0, or an offset of min(R, B), names no bytes and is lawful: step says done.
+ */
+uint32_t srp_target_move(uint64_t *port, uint64_t tag, uint32_t direction, uint32_t offset, uint32_t count);
+
+/*
+ * Step: the next RDMA operation of an open command's current move in a direction, or done. Moves and steps of other
+ * commands, and of the other direction, may stand between.
  *
  *   port, store   the port; the store is only read
  *   tag           the command's tag
@@ -285,9 +315,10 @@ uint32_t srp_target_plan(uint64_t *port, uint64_t tag, uint32_t r_out, uint32_t 
  *
  * answer after 0, with a piece:   1, operation (1 RDMA Read, 2 RDMA Write), handle, address, length, offset
  * answer after 0, done:           0
- * A piece is handed out by the call: the next one starts behind it. It is 1 to M long, lies in one segment, and its
- * data stand at the offset in the command's data. Done comes when min(R, B) bytes have been handed out, and then each
- * time again; it alters no word of the port.
+ * A piece is handed out by the call. The first starts at the move's offset, each other one behind the last. It is 1 to
+ * M long, with the login's M, and ends at the nearest of M bytes, its segment's end and the move's end; its data stand
+ * at the offset in the command's data. Done comes when the current move has no bytes left, or none was named, and then
+ * each time again until another is; it alters no word of the port.
  */
 uint32_t srp_target_step(uint64_t *port, const uint8_t *store, uint64_t tag, uint32_t direction, uint64_t answer[8]);
 
@@ -308,9 +339,9 @@ uint32_t srp_target_step(uint64_t *port, const uint8_t *store, uint64_t tag, uin
  *   24  tag not open
  *
  * answer after 0: 36 + sense_len, the bytes of the message. The tag is not open any more: H - 1, D + 1, then the
- * delta. Its residual in a direction: R above B gives over, R - B; else, fewer than B bytes handed out give under, B
- * less the bytes handed out; else there is none, and 0. Without a plan R is 0. SOLNT is the command's UCSOLNT (byte 1
- * bit 2 of the SRP_CMD) if status is not 0, else its SCSOLNT (bit 1).
+ * delta. Its residual in a direction: R above B gives over, R - B; else h below B gives under, B - h, also where bytes
+ * below h were left out; else there is none, and 0. Without a plan R is 0. SOLNT is the command's UCSOLNT (byte 1 bit
+ * 2 of the SRP_CMD) if status is not 0, else its SCSOLNT (bit 1).
  */
 uint32_t srp_target_finish(uint64_t *port, uint64_t tag, uint8_t status, const uint8_t *sense, size_t sense_len,
                            uint8_t *buf, size_t buf_len, uint64_t answer[8]);
@@ -390,8 +421,8 @@ uint32_t srp_target_counters(const uint64_t *port, uint64_t answer[8]);
  *   21  channel closed
  *   11  words under 64
  *
- * answer after 0: how many, which is H. Their records stand from records[0] on: tag, LUN, bytes handed out of
- * data-out, bytes handed out of data-in. Words behind them are as they were.
+ * answer after 0: how many, which is H. Their records stand from records[0] on: tag, LUN, h of data-out, h of data-in.
+ * Words behind them are as they were.
  */
 uint32_t srp_target_list(const uint64_t *port, uint64_t *records, size_t words, uint64_t answer[8]);
 
