@@ -33,7 +33,7 @@ static void arbitrary_port(void)
     lay(STORE, NULL, 0);
 }
 
-enum call { PLAN, STEP_OUT, STEP_IN, FINISH, ADD, GRANT, WITHDRAW, LIST, COUNTERS, TAKE, CLOSE, LOGIN, CALLS };
+enum call { PLAN, MOVE, STEP_OUT, STEP_IN, FINISH, ADD, GRANT, WITHDRAW, LIST, COUNTERS, TAKE, CLOSE, LOGIN, CALLS };
 
 #define BIT(n)        ((uint64_t)1 << (n))
 #define WITH_A_LOGOUT (BIT(3) | BIT(4) | BIT(5) | BIT(6) | BIT(7) | BIT(8) | BIT(22) | BIT(23) | BIT(25))
@@ -45,6 +45,7 @@ static const struct {
 } rules[CALLS] = {
     [TAKE] = {"any words, take", BIT(PORT) | BIT(STORE) | BIT(BUF) | BIT(ANSWER), WITH_A_LOGOUT | BIT(10) | BIT(21)},
     [PLAN] = {"any words, plan", BIT(PORT), BIT(21) | BIT(24) | BIT(30)},
+    [MOVE] = {"any words, move", BIT(PORT), BIT(21) | BIT(24) | BIT(29) | BIT(31) | BIT(32)},
     [STEP_OUT] = {"any words, step out", BIT(PORT) | BIT(ANSWER), BIT(21) | BIT(24) | BIT(29)},
     [STEP_IN] = {"any words, step in", BIT(PORT) | BIT(ANSWER), BIT(21) | BIT(24) | BIT(29)},
     [FINISH] = {"any words, finish", BIT(PORT) | BIT(BUF) | BIT(ANSWER), BIT(21) | BIT(24)},
@@ -109,6 +110,12 @@ static struct bytes some_message(uint64_t tag)
     }
 }
 
+/* Small numbers and large ones. */
+static uint32_t any_size(void)
+{
+    return (uint32_t)next() >> (next() >> 59);
+}
+
 static uint32_t made(enum call call, uint64_t tag, size_t msg_len)
 {
     uint64_t *port = lent_words(PORT), *answer = lent_words(ANSWER);
@@ -118,6 +125,8 @@ static uint32_t made(enum call call, uint64_t tag, size_t msg_len)
         return srp_target_take(port, lent(STORE), lent(MSG), msg_len, lent(OUT), 0, lent(IN), 0, buf, 132, answer);
     case PLAN:
         return srp_target_plan(port, tag, (uint32_t)next(), (uint32_t)next());
+    case MOVE:
+        return srp_target_move(port, tag, next() & 1, any_size(), any_size());
     case STEP_OUT:
     case STEP_IN:
         return srp_target_step(port, lent(STORE), tag, call == STEP_IN, answer);
@@ -166,13 +175,13 @@ static int in_ranges(void)
 static void some_calls(void)
 {
     unsigned i;
-    for (i = 0; i < 31; i++) {
+    for (i = 0; i < 34; i++) {
         uint64_t tag;
         lay(RECORDS, NULL, 0);
         if (!in_ranges())
             fail("any words", "counters or listing out of their ranges");
         tag = lent_words(RECORDS)[SRP_RECORD_WORDS * (i % 4)];
-        one_call(i < 30 ? (enum call)(i % CLOSE) : CLOSE, tag, some_message(tag));
+        one_call(i < 33 ? (enum call)(i % CLOSE) : CLOSE, tag, some_message(tag));
     }
 }
 
@@ -194,6 +203,7 @@ static void all_zero(void)
     lay(PORT, zeros, sizeof zeros);
     take("words of 0", SRP_REFUSED_CLOSED, NOTHING, command(1, 0, 0), NO_BYTES, NO_BYTES, 132);
     plan("words of 0", SRP_REFUSED_CLOSED, 0, 0, 0);
+    move("words of 0", SRP_REFUSED_CLOSED, 0, 0, 0, 0);
     step("words of 0", SRP_REFUSED_CLOSED, NOTHING, 0, 0);
     finish("words of 0", SRP_REFUSED_CLOSED, NOTHING, 0, 0, NO_BYTES, 132);
     add("words of 0", SRP_REFUSED_CLOSED, 1);
@@ -217,7 +227,7 @@ static void copied(void)
     opened(1, 1);
     lay(PORT, port, sizeof port);
     lay(STORE, store, sizeof store);
-    plan("after the copy", 0, 5, 0, 1300);
+    planned("after the copy", 5, 0, 1300);
     piece("after the copy", 5, 1, 7, 0x1000, 512, 0);
 }
 

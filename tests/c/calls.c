@@ -9,6 +9,7 @@ static uint32_t (*const login_of_header)(uint64_t *, const uint32_t *, const uin
 static uint32_t (*const take_of_header)(uint64_t *, uint8_t *, const uint8_t *, size_t, const uint8_t *, size_t,
                                         const uint8_t *, size_t, uint8_t *, size_t, uint64_t *) = srp_target_take;
 static uint32_t (*const plan_of_header)(uint64_t *, uint64_t, uint32_t, uint32_t) = srp_target_plan;
+static uint32_t (*const move_of_header)(uint64_t *, uint64_t, uint32_t, uint32_t, uint32_t) = srp_target_move;
 static uint32_t (*const step_of_header)(uint64_t *, const uint8_t *, uint64_t, uint32_t, uint64_t *) = srp_target_step;
 static uint32_t (*const finish_of_header)(uint64_t *, uint64_t, uint8_t, const uint8_t *, size_t, uint8_t *, size_t,
                                           uint64_t *) = srp_target_finish;
@@ -123,6 +124,12 @@ void plan(const char *name, uint32_t number, uint64_t tag, uint32_t r_out, uint3
     judge_plain(name, plan_of_header(lent_words(PORT), tag, r_out, r_in), number);
 }
 
+void move(const char *name, uint32_t number, uint64_t tag, uint32_t direction, uint32_t offset, uint32_t count)
+{
+    begin();
+    judge_plain(name, move_of_header(lent_words(PORT), tag, direction, offset, count), number);
+}
+
 void step(const char *name, uint32_t number, struct after after, uint64_t tag, uint32_t direction)
 {
     lend_answers();
@@ -225,6 +232,22 @@ void taken(const char *name, struct bytes msg)
     uint64_t cdb = 16 + 4 * (uint64_t)(msg.at[31] >> 2);
     struct after after = {OTHER, {0, SRP_KIND_COMMAND, number_at(msg.at, 8), number_at(msg.at, 20), 32, cdb}, NULL};
     take(name, 0, after, msg, NO_BYTES, NO_BYTES, SRP_MESSAGE_BYTES);
+}
+
+void named(const char *name, uint64_t tag, uint32_t direction, uint32_t offset, uint32_t count)
+{
+    uint32_t returned;
+    begin();
+    returned = move_of_header(lent_words(PORT), tag, direction, offset, count);
+    judge_port(name, ANY);
+    compare(name, returned, 0);
+}
+
+void planned(const char *name, uint64_t tag, uint32_t r_out, uint32_t r_in)
+{
+    plan(name, 0, tag, r_out, r_in);
+    named(name, tag, SRP_DIRECTION_OUT, 0, r_out);
+    named(name, tag, SRP_DIRECTION_IN, 0, r_in);
 }
 
 void piece(const char *name, uint64_t tag, uint32_t direction, uint64_t handle, uint64_t address, uint64_t length,

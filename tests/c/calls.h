@@ -9,7 +9,7 @@
 #include "messages.h"
 #include "srp_target.h"
 
-/* The port's words after a call: as they were; others; any, the state being as before; those of a closed port. */
+/* The port's words after a call: as they were; others; any, the state perhaps as before; those of a closed port. */
 enum words_after { SAME, OTHER, ANY, CLOSED };
 
 struct after {
@@ -37,6 +37,7 @@ void login(const char *name, uint32_t number, struct after after, const uint32_t
 void take(const char *name, uint32_t number, struct after after, struct bytes msg, struct bytes out, struct bytes in,
           size_t buf_len);
 void plan(const char *name, uint32_t number, uint64_t tag, uint32_t r_out, uint32_t r_in);
+void move(const char *name, uint32_t number, uint64_t tag, uint32_t direction, uint32_t offset, uint32_t count);
 void step(const char *name, uint32_t number, struct after after, uint64_t tag, uint32_t direction);
 void finish(const char *name, uint32_t number, struct after after, uint64_t tag, uint8_t status, struct bytes sense,
             size_t buf_len);
@@ -49,9 +50,12 @@ void counters(const char *name, uint32_t number, uint64_t w, uint64_t a, uint64_
 /* The records expected, in any order. */
 void list(const char *name, uint32_t number, size_t words, size_t count, const uint64_t (*records)[SRP_RECORD_WORDS]);
 
-/* Calls that leave little to say: a port opened with N and M, a command taken, a piece, done, an end with status 0. */
+/* Calls that leave little to say: a port opened with N and M, a command taken, a move that may have no bytes, a plan
+ * with a move each way of offset 0 and count R, a piece, done, an end with status 0. */
 void opened(uint32_t n, uint32_t m);
 void taken(const char *name, struct bytes msg);
+void named(const char *name, uint64_t tag, uint32_t direction, uint32_t offset, uint32_t count);
+void planned(const char *name, uint64_t tag, uint32_t r_out, uint32_t r_in);
 void piece(const char *name, uint64_t tag, uint32_t direction, uint64_t handle, uint64_t address, uint64_t length,
            uint64_t offset);
 void done(const char *name, uint64_t tag, uint32_t direction);

@@ -12,6 +12,8 @@ void take_cases(void);
 void table_cases(void);
 void task_cases(void);
 void transfer_cases(void);
+void move_cases(void);
+void highest_cases(void);
 void finish_cases(void);
 void credit_cases(void);
 void list_cases(void);

@@ -64,11 +64,11 @@ static void refusals(void)
     finish("finish 1 before 21", SRP_REFUSED_SHORT_BUFFER, NOTHING, TAG, 0x00, NO_BYTES, 131);
 }
 
-/* R each way, whether the pieces are handed out, and what the response says. */
+/* R each way, with a move of all of it, whether the pieces are handed out, and what the response says. */
 static void moved(const char *name, uint32_t r_out, uint32_t r_in, int all, struct residuals residuals)
 {
     both_open(0);
-    plan(name, 0, TAG, r_out, r_in);
+    planned(name, TAG, r_out, r_in);
     if (all && r_out)
         piece(name, TAG, 0, 7, 0x1000, r_out < 100 ? r_out : 100, 0);
     if (all && r_in)
@@ -95,7 +95,7 @@ static void no_buffer(void)
 {
     opened(N, M);
     taken("no data", command(TAG, 0, 0));
-    plan("no data, plan", 0, TAG, 5, 0);
+    planned("no data, plan", TAG, 5, 0);
     done("no data, done", TAG, 0);
     finished("no data", TAG, 1, (struct residuals){DOOVER, 5, 0});
 }

@@ -10,7 +10,7 @@ static const uint8_t both[32] = {
     0, 0, 0, 0, 0, 0, 0x50, 0, 0, 0, 0, 9, 0, 0, 0x02, 0xbc,
 };
 
-/* Tag, LUN, bytes out and in are four other numbers: shows an exchange of two of them. 65 words: the rest stays. */
+/* Tag, LUN, h out and in are four other numbers: shows an exchange of two of them. 65 words: the rest stays. */
 static void records(void)
 {
     static const uint64_t expected[2][SRP_RECORD_WORDS] = {{0x8000000000000001, 0, 1024, 512},
@@ -18,7 +18,7 @@ static void records(void)
     opened(4, M);
     list("none open", 0, SRP_LIST_WORDS, 0, NULL);
     taken("both ways", command_with(0x8000000000000001, 0, 0x11, 0, 0, BYTES(both)));
-    plan("plan", 0, 0x8000000000000001, 1300, 700);
+    planned("plan", 0x8000000000000001, 1300, 700);
     piece("out", 0x8000000000000001, 0, 7, 0x1000, 512, 0);
     piece("out", 0x8000000000000001, 0, 7, 0x1200, 512, 512);
     piece("in", 0x8000000000000001, 1, 9, 0x5000, 512, 0);

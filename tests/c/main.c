@@ -11,6 +11,8 @@ int main(void)
     table_cases();
     task_cases();
     transfer_cases();
+    move_cases();
+    highest_cases();
     finish_cases();
     credit_cases();
     list_cases();

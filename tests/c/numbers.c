@@ -4,6 +4,8 @@
  */
 #include "srp_target.h"
 
+_Static_assert(SRP_TARGET_VERSION == 1, "version");
+
 _Static_assert(SRP_REFUSED_SHORT_BUFFER == 1, "short buffer");
 _Static_assert(SRP_REFUSED_SETTING == 2, "setting");
 _Static_assert(SRP_REFUSED_LENGTH == 3, "length");
@@ -25,6 +27,8 @@ _Static_assert(SRP_REFUSED_NOT_OWED == 27, "not owed");
 _Static_assert(SRP_REFUSED_WANTED == 28, "wanted");
 _Static_assert(SRP_REFUSED_UNPLANNED == 29, "unplanned");
 _Static_assert(SRP_REFUSED_PLANNED == 30, "planned");
+_Static_assert(SRP_REFUSED_OFFSET == 31, "offset");
+_Static_assert(SRP_REFUSED_UNFINISHED == 32, "unfinished");
 
 _Static_assert(SRP_STORE_BYTES == 16384, "bytes of a store");
 _Static_assert(SRP_ANSWER_WORDS == 8, "words of an answer");

@@ -10,7 +10,7 @@ static void p1(void)
     static const uint8_t direct[16] = {0, 0, 0, 0, 0, 0, 0x10, 0, 0, 0, 0, 7, 0, 0, 0x05, 0x14};
     opened(4, M);
     taken("P1", command_with(1, 0, 0x01, 0, 0, BYTES(direct)));
-    plan("P1, plan", 0, 1, 0, 1300);
+    planned("P1, plan", 1, 0, 1300);
     piece("P1, first", 1, SRP_DIRECTION_IN, 7, 0x1000, 512, 0);
     piece("P1, second", 1, SRP_DIRECTION_IN, 7, 0x1200, 512, 512);
     piece("P1, third", 1, SRP_DIRECTION_IN, 7, 0x1400, 276, 1024);
@@ -30,7 +30,7 @@ static void three(const char *name, uint32_t r, uint64_t last, struct residuals 
 {
     opened(1, M);
     taken(name, command_with(1, 0, 0x02, 0, 3, BYTES(three_segments)));
-    plan(name, 0, 1, 0, r);
+    planned(name, 1, 0, r);
     piece(name, 1, SRP_DIRECTION_IN, 7, 0x3000, 512, 0);
     piece(name, 1, SRP_DIRECTION_IN, 7, 0x3200, 88, 512);
     piece(name, 1, SRP_DIRECTION_IN, 7, 0x5000, last, 600);

@@ -59,6 +59,7 @@ static void owner(const uint8_t own[16], const uint8_t *login, size_t login_len,
     if (a[0]) send(buf, a[0]);                       /* an answer, also with a refusal; SRP_T_LOGOUT: then disconnect */
     if (refusal == 0 && a[1] == SRP_KIND_COMMAND) {  /* tag a[2], LUN a[3], CDB at msg + a[4], a[5] bytes */
         uint64_t tag = a[2]; srp_target_plan(port, tag, 0, required_in);
+        srp_target_move(port, tag, SRP_DIRECTION_IN, 0, required_in);   /* all of it; or in parts, in any order */
         while (srp_target_step(port, store, tag, SRP_DIRECTION_IN, a) == 0 && a[0]) rdma(a[1], a[2], a[3], a[4], a[5]);
         if (srp_target_finish(port, tag, 0x00, NULL, 0, buf, sizeof buf, a) == 0) send(buf, a[0]); }
     /* end */

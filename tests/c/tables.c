@@ -37,7 +37,7 @@ static void arguments(void)
     opened(N, M);
     take("two tables", 0, now_open, command_with(TAG, 0, 0x22, 1, 0, BYTES(descriptors)), BYTES(out_table),
          BYTES(in_table), 140);
-    plan("two tables, plan", 0, TAG, 600, 90);
+    planned("two tables, plan", TAG, 600, 90);
     piece("two tables, in", TAG, 1, 0x21, 0x7000, 40, 0);
     piece("two tables, out", TAG, 0, 0x11, 0x2000, 100, 0);
     piece("two tables, out", TAG, 0, 0x12, 0x3000, 200, 100);
@@ -119,7 +119,7 @@ static void cdbs(void)
     msg[31] = 0xff;
     opened(N, M);
     taken("63 words more of CDB", BYTES(msg));
-    plan("63 words, plan", 0, TAG, 0, 100);
+    planned("63 words, plan", TAG, 0, 100);
     piece("63 words, piece", TAG, 1, 7, 0x1000, 100, 0);
 }
 
@@ -133,7 +133,7 @@ static void sixteen(void)
         segment[6] = (uint8_t)(0x40 + i);
         segment[15] = (uint8_t)(10 + i);
         taken("one of sixteen", command_with(100 + i, 0, i % 2 ? 0x10 : 0x01, 0, 0, BYTES(segment)));
-        plan("one of sixteen, plan", 0, 100 + i, 99, 99);
+        planned("one of sixteen, plan", 100 + i, 99, 99);
     }
     for (i = 0; i < 16; i++) {
         uint32_t in = i % 2 ? 0 : 1;

@@ -1,4 +1,4 @@
-/* srp_target_plan and srp_target_step. */
+/* srp_target_plan and srp_target_step, with one move each way. */
 #include "calls.h"
 #include "cases.h"
 
@@ -23,7 +23,7 @@ static void both_open(void)
 static void arguments(void)
 {
     both_open();
-    plan("plan", 0, TAG, 650, 90);
+    planned("plan", TAG, 650, 90);
     piece("first out", TAG, SRP_DIRECTION_OUT, 7, 0x1000, 512, 0);
     piece("all in", TAG, SRP_DIRECTION_IN, 9, 0x5000, 90, 0);
     piece("last out", TAG, SRP_DIRECTION_OUT, 7, 0x1200, 138, 512);
@@ -36,7 +36,7 @@ static void arguments(void)
 static void directions(void)
 {
     both_open();
-    plan("plan", 0, TAG, 650, 700);
+    planned("plan", TAG, 650, 700);
     piece("direction 2", TAG, 2, 9, 0x5000, 512, 0);
     piece("direction 2^31", TAG, 0x80000000, 9, 0x5200, 188, 512);
     done("direction 256", TAG, 0x100);
@@ -46,7 +46,7 @@ static void directions(void)
 static void lengths(void)
 {
     both_open();
-    plan("plan", 0, TAG, 0, 0xffffffff);
+    planned("plan", TAG, 0, 0xffffffff);
     done("R = 0", TAG, SRP_DIRECTION_OUT);
     piece("R above B", TAG, SRP_DIRECTION_IN, 9, 0x5000, 512, 0);
     piece("R above B", TAG, SRP_DIRECTION_IN, 9, 0x5200, 188, 512);
@@ -64,7 +64,7 @@ static void refusals(void)
     plan("plan 24, high half of the tag", SRP_REFUSED_TAG_NOT_OPEN, TAG | 1ull << 32, 1, 1);
     plan("plan", 0, TAG, 0, 0);
     plan("plan 30", SRP_REFUSED_PLANNED, TAG, 1, 1);
-    done("the first plan stands", TAG, 0);
+    move("the first plan stands", SRP_REFUSED_OFFSET, TAG, 0, 1, 0);
     close_channel("close", 0, (struct after){CLOSED, {16}, target_logout(1, 0)}, 0, 132);
     plan("plan 21", SRP_REFUSED_CLOSED, TAG, 1, 1);
     step("step 21", SRP_REFUSED_CLOSED, NOTHING, TAG, 0);
