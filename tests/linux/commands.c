@@ -1,4 +1,4 @@
-/* Commands: taken, planned, stepped, finished. */
+/* Commands: taken, planned, finished. */
 #include <string.h>
 
 #include "decode.h"
@@ -92,11 +92,6 @@ void bad_command(struct channel *c)
     count(BAD_FIELDS);
 }
 
-static struct request *any_open(struct channel *c)
-{
-    return c->held ? &c->commands[from_to(0, c->held - 1)] : NULL;
-}
-
 void plan_one(struct channel *c)
 {
     struct request *r = any_open(c);
@@ -108,29 +103,11 @@ void plan_one(struct channel *c)
     same("plan", "returned", srp_target_plan(port.words, r->tag, r->out.required, r->in.required), 0);
 }
 
-static void step_once(const struct channel *c, uint64_t tag, struct side *s, uint32_t in)
+/* Where R is not above B, and h is not the number of bytes handed out. */
+static void count_handed(const struct side *s, int over)
 {
-    struct piece p;
-    lend();
-    same("step", "returned", srp_target_step(port.words, port.store, tag, in, port.answer), 0);
-    if (!next_piece(s, c->longest_piece, &p)) {
-        answered("done", (const uint64_t[SRP_ANSWER_WORDS]){0});
-        return;
-    }
-    answered("piece", (const uint64_t[SRP_ANSWER_WORDS]){1, in ? SRP_RDMA_WRITE : SRP_RDMA_READ, p.handle, p.address,
-                                                         p.length, p.offset});
-    s->moved += p.length;
-    count(PIECES);
-}
-
-void step_some(struct channel *c)
-{
-    struct request *r = any_open(c);
-    uint32_t in = from_to(0, 1), steps = from_to(1, 8);
-    if (!r || !r->planned)
-        return;
-    while (steps--)
-        step_once(c, r->tag, in ? &r->in : &r->out, in);
+    if (over <= 0 && s->highest != s->handed)
+        count(s->highest < s->handed ? BELOW_HANDED : ABOVE_HANDED);
 }
 
 /* Flags and counts of the residuals. */
@@ -145,6 +122,8 @@ static void put_residuals(struct response *a, const struct request *r)
         count(in > 0 ? IN_OVER : IN_UNDER);
     if (!out && !in)
         count(NO_RESIDUAL);
+    count_handed(&r->out, out);
+    count_handed(&r->in, in);
 }
 
 void finish_one(struct channel *c)

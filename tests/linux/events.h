@@ -11,6 +11,7 @@ void open_channel(struct channel *c);
 void new_command(struct channel *c);
 void bad_command(struct channel *c);
 void plan_one(struct channel *c);
+void move_some(struct channel *c);
 void step_some(struct channel *c);
 void finish_one(struct channel *c);
 void manage(struct channel *c);

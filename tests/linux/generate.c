@@ -114,6 +114,11 @@ void any_command(struct request *r, struct channel *c)
     } while (48 + 4 * r->more_cdb + descriptor_length(&r->out) + descriptor_length(&r->in) > c->agreed);
 }
 
+struct request *any_open(struct channel *c)
+{
+    return c->held ? &c->commands[from_to(0, c->held - 1)] : NULL;
+}
+
 uint32_t any_required(const struct side *s)
 {
     uint32_t b = buffer_length(s);
@@ -126,6 +131,29 @@ uint32_t any_required(const struct side *s)
         return (uint32_t)any_number();
     default:
         return b;
+    }
+}
+
+/* All of the data, the data below h again or from h on, an offset of min(R, B) or above it, any part. */
+void any_move(const struct side *s, uint32_t *offset, uint32_t *count)
+{
+    uint32_t length = data_length(s);
+    *count = one_in(3) ? UINT32_MAX - from_to(0, 100) : from_to(0, one_in(2) ? length : 100);
+    *offset = from_to(0, length);
+    switch (from_to(0, 9)) {
+    case 0:
+    case 1:
+        *offset = 0;
+        *count = one_in(2) ? s->required : s->highest;
+        break;
+    case 2:
+        *offset = s->highest;
+        break;
+    case 3:
+        *offset = length;
+        break;
+    case 4:
+        *offset = length + (one_in(2) ? 1 : from_to(1, UINT32_MAX - length));
     }
 }
 

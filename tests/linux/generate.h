@@ -21,8 +21,12 @@ uint32_t rejection(const struct login *l, const struct settings *s);
 void any_request(struct request *r, struct channel *c);
 void any_command(struct request *r, struct channel *c);
 
-/* A lawful R, of any size. */
+/* An open command, or NULL. */
+struct request *any_open(struct channel *c);
+
+/* A lawful R, of any size; a move, lawful or not. */
 uint32_t any_required(const struct side *s);
+void any_move(const struct side *s, uint32_t *offset, uint32_t *count);
 
 /* Gives one direction a bad field, in the message or in its table; 0 where it has none to spoil. */
 int spoil(struct side *s, uint8_t *table);

@@ -16,23 +16,44 @@ uint32_t fetched_length(const struct side *s)
     return s->format == 2 && whole && length != 16 * s->copies ? length : 0;
 }
 
+uint32_t data_length(const struct side *s)
+{
+    uint32_t b = buffer_length(s);
+    return s->required < b ? s->required : b;
+}
+
+void name_move(struct side *s, uint32_t offset, uint32_t count)
+{
+    uint32_t room = data_length(s) - offset;
+    s->at = offset;
+    s->end = offset + (count < room ? count : room);
+}
+
 int next_piece(const struct side *s, uint32_t longest, struct piece *p)
 {
-    uint32_t b = buffer_length(s), end = s->required < b ? s->required : b, within = s->moved;
+    uint32_t within = s->at;
     const struct segment *segment = s->segments;
-    if (s->moved >= end)
+    if (s->at >= s->end)
         return 0;
     while (within >= segment->length)
         within -= segment++->length;
     p->address = segment->address + within;
     p->handle = segment->handle;
-    p->offset = s->moved;
+    p->offset = s->at;
     p->length = segment->length - within;
     if (p->length > longest)
         p->length = longest;
-    if (p->length > end - s->moved)
-        p->length = end - s->moved;
+    if (p->length > s->end - s->at)
+        p->length = s->end - s->at;
     return 1;
+}
+
+void hand_out(struct side *s, const struct piece *p)
+{
+    s->at += p->length;
+    s->handed += p->length;
+    if (s->highest < s->at)
+        s->highest = s->at;
 }
 
 int residual(const struct side *s, uint32_t *count)
@@ -43,8 +64,8 @@ int residual(const struct side *s, uint32_t *count)
         *count = s->required - b;
         return 1;
     }
-    if (s->moved < b) {
-        *count = b - s->moved;
+    if (s->highest < b) {
+        *count = b - s->highest;
         return -1;
     }
     return 0;

@@ -1,6 +1,6 @@
 /*
- * What document 01 says of one channel: its credit, its open commands, the pieces and residuals of a direction, a
- * login's rejection. Written from that paper alone.
+ * What the papers say of one channel: its credit, its open commands, the moves, pieces and residuals of a direction, a
+ * login's rejection. Written from them alone.
  */
 #ifndef MODEL_H
 #define MODEL_H
@@ -15,13 +15,16 @@ struct segment {
     uint32_t handle, length;
 };
 
-/* One direction of a command: its descriptor's format, the copies in the message, the table, and what was done. */
+/* One direction of a command: its descriptor's format, the copies in the message, the table; R, h and the bytes handed
+ * out, each as often as it was; and of the current move the bytes left, from `at` up to `end`. */
 struct side {
     unsigned format, copies, entries;
     uint64_t table_address;
     uint32_t table_handle, table_length, total;
     struct segment segments[MOST_SEGMENTS];
-    uint32_t required, moved;
+    uint32_t required, highest;
+    uint64_t handed;
+    uint32_t at, end;
 };
 
 struct request {
@@ -45,14 +48,19 @@ struct channel {
 uint32_t buffer_length(const struct side *s);
 uint32_t fetched_length(const struct side *s);
 
-/* The next piece of a direction; 0 where all min(R, B) bytes have been handed out. */
+/* min(R, B), where moves end; a move is named. */
+uint32_t data_length(const struct side *s);
+void name_move(struct side *s, uint32_t offset, uint32_t count);
+
+/* The next piece of the current move, 0 where none is left; it is handed out. */
 struct piece {
     uint64_t address;
     uint32_t handle, length, offset;
 };
 int next_piece(const struct side *s, uint32_t longest, struct piece *p);
+void hand_out(struct side *s, const struct piece *p);
 
-/* Whether more was required than B (1), or less moved (-1); and by how much. */
+/* Whether more was required than B (1), or h stayed below it (-1); and by how much. */
 int residual(const struct side *s, uint32_t *count);
 
 int64_t owed(const struct channel *c);

@@ -51,8 +51,8 @@ static void agree_listing(struct channel *c)
         same("list", "seen before", seen >> (r - c->commands) & 1, 0);
         seen |= 1u << (r - c->commands);
         same("list", "LUN", record[1], r->lun);
-        same("list", "out", record[2], r->out.moved);
-        same("list", "in", record[3], r->in.moved);
+        same("list", "out", record[2], r->out.highest);
+        same("list", "in", record[3], r->in.highest);
         count(LISTED);
     }
 }

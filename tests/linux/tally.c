@@ -7,8 +7,11 @@ static const char *const names[TALLIES] = {
     "SRP_LOGIN_RSP", "SRP_LOGIN_REJ", "SRP_RSP of finish", "SRP_RSP to a task request", "SRP_RSP to bad fields",
     "SRP_CRED_REQ", "SRP_T_LOGOUT of take", "SRP_T_LOGOUT of close",
     "sense", "out over", "out under", "in over", "in under", "no residual",
+    "h below the bytes handed out", "h above the bytes handed out",
     "SRP_LOGIN_REQ", "SRP_TSK_MGMT", "SRP_CRED_RSP", "SRP_I_LOGOUT",
     "direct", "indirect, all copied", "indirect, fetched", "both ways", "additional CDB",
+    "empty move", "middle first", "move backwards", "move past 2^32", "move trimmed",
+    "move unplanned", "move above min(R, B)", "move unfinished",
     "RDMA operation", "record",
 };
 static unsigned tallies[TALLIES], comparisons, failures;

@@ -9,9 +9,11 @@ enum tally {
     /* messages decoded */
     LOGIN_RSPS, LOGIN_REJS, FINISHED, TASK_ANSWERS, BAD_FIELDS, CRED_REQS, HANG_UPS, CLOSINGS,
     /* of those of finish */
-    WITH_SENSE, OUT_OVER, OUT_UNDER, IN_OVER, IN_UNDER, NO_RESIDUAL,
+    WITH_SENSE, OUT_OVER, OUT_UNDER, IN_OVER, IN_UNDER, NO_RESIDUAL, BELOW_HANDED, ABOVE_HANDED,
     /* messages built that are no command; descriptors and additional CDBs of commands */
     LOGIN_REQS, TASKS, CRED_RSPS, I_LOGOUTS, DIRECT, INDIRECT_WHOLE, INDIRECT_FETCHED, BOTH_WAYS, LONG_CDBS,
+    /* moves, and those refused */
+    EMPTY_MOVES, MIDDLE_FIRST, BACKWARDS, PAST_2_32, TRIMMED, MOVES_UNPLANNED, MOVES_ABOVE, MOVES_UNFINISHED,
     /* answers */
     PIECES, LISTED,
     TALLIES

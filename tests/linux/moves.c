@@ -1,0 +1,96 @@
+/* Moves: named, and handed out piece by piece. */
+#include "events.h"
+#include "port.h"
+#include "random.h"
+#include "tally.h"
+
+static uint32_t refusal_of(const struct request *r, const struct side *s, uint32_t offset)
+{
+    if (!r->planned)
+        return SRP_REFUSED_UNPLANNED;
+    if (offset > data_length(s))
+        return SRP_REFUSED_OFFSET;
+    return s->at < s->end ? SRP_REFUSED_UNFINISHED : 0;
+}
+
+static void count_refusal(uint32_t refusal)
+{
+    if (refusal == SRP_REFUSED_UNPLANNED)
+        count(MOVES_UNPLANNED);
+    if (refusal == SRP_REFUSED_OFFSET)
+        count(MOVES_ABOVE);
+    if (refusal == SRP_REFUSED_UNFINISHED)
+        count(MOVES_UNFINISHED);
+}
+
+/* A move that is named: empty; else where it starts and what is trimmed. */
+static void count_move(const struct side *s, uint32_t offset, uint32_t bytes)
+{
+    uint64_t past = (uint64_t)offset + bytes;
+    if (s->at == s->end) {
+        count(EMPTY_MOVES);
+        return;
+    }
+    if (offset && !s->highest)
+        count(MIDDLE_FIRST);
+    if (offset < s->highest)
+        count(BACKWARDS);
+    if (past > s->end)
+        count(past > UINT32_MAX ? PAST_2_32 : TRIMMED);
+}
+
+static void name_one(struct request *r, struct side *s, uint32_t in)
+{
+    uint32_t offset, bytes, refusal;
+    any_move(s, &offset, &bytes);
+    refusal = refusal_of(r, s, offset);
+    same("move", "returned", srp_target_move(port.words, r->tag, in, offset, bytes), refusal);
+    count_refusal(refusal);
+    if (refusal)
+        return;
+    name_move(s, offset, bytes);
+    count_move(s, offset, bytes);
+}
+
+static void step_once(const struct channel *c, uint64_t tag, struct side *s, uint32_t in)
+{
+    struct piece p;
+    lend();
+    same("step", "returned", srp_target_step(port.words, port.store, tag, in, port.answer), 0);
+    if (!next_piece(s, c->longest_piece, &p)) {
+        answered("done", (const uint64_t[SRP_ANSWER_WORDS]){0});
+        return;
+    }
+    answered("piece", (const uint64_t[SRP_ANSWER_WORDS]){1, in ? SRP_RDMA_WRITE : SRP_RDMA_READ, p.handle, p.address,
+                                                         p.length, p.offset});
+    hand_out(s, &p);
+    count(PIECES);
+}
+
+static void step_side(const struct channel *c, struct request *r, uint32_t in, uint32_t steps)
+{
+    while (steps--)
+        step_once(c, r->tag, in ? &r->in : &r->out, in);
+}
+
+/* Moves of one direction, one after the other, each stepped or not. */
+void move_some(struct channel *c)
+{
+    struct request *r = any_open(c);
+    uint32_t in = from_to(0, 1), moves = from_to(1, 4);
+    if (!r)
+        return;
+    while (moves--) {
+        name_one(r, in ? &r->in : &r->out, in);
+        if (r->planned && one_in(2))
+            step_side(c, r, in, from_to(1, 30));
+    }
+}
+
+void step_some(struct channel *c)
+{
+    struct request *r = any_open(c);
+    uint32_t in = from_to(0, 1), steps = from_to(1, 8);
+    if (r && r->planned)
+        step_side(c, r, in, steps);
+}
