@@ -39,8 +39,10 @@ part-of-requires c κs = search needs
 returns : tie.Need-returns
 returns c =
     let a = c .before .before .before .before .args in
+    let r = region (a .s .now) (a .i) in
     let n : slotAt (a .i) + slotWords - slotAt (a .i) ≡ slotWords = omega arith in
-    let e : c .part-of .result ≡ partIn (region (a .s .now) (a .i)) (partAt (a .d)) = rw n at (c .part-of .ensures) ∙ ap (partIn (region (a .s .now) (a .i))) (c .before .before .part-at .ensures .0) in
+    let there : c .part-of .result ≡ partIn r (c .before .before .part-at .result) = rw n at (c .part-of .ensures) in
+    let e : c .part-of .result ≡ partIn r (partAt (a .d)) = there ∙ ap (partIn r) (c .before .before .part-at .ensures .0) in
     record { whole = e ∙ sym (slot-part (a .s .now) (a .i) (c .before .before .before .before .pre .1) (a .d)); few = rw e (omega arith) }
 
 pub load-part-spec : {M : Type 1} → statement M
