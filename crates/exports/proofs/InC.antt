@@ -52,11 +52,11 @@ module _ {l st l′ : List ℕ} {o : Outcome} {r : Reply} where
   steps-in-c R g = record { numbers = in-numbers (silently o (R .reply) (R .wrote)) g; call = of-outcome R }
 
 -- a move of the direction d, which is that of the number
-pub move-in-c : {l l′ : List ℕ} {tag offset count n : ℕ} {d : Direction} {r : Reply} (direction : ℕ) → d ≡ directionIn direction
+pub move-in-c : {l l′ : List ℕ} {n : ℕ} {d : Direction} {r : Reply} (tag direction offset count : ℕ) → d ≡ directionIn direction
     → Names l l′ tag d offset count r
     → n ≡ returned r
     → MoveInC l l′ tag direction offset count n
-move-in-c {l} {l′} {tag} {offset} {count} {r = r} direction e N g st =
+move-in-c {l} {l′} {r = r} tag direction offset count e N g st =
     replies-in-c (subst (λ (x : Direction). Names l l′ tag x offset count r) e N st) g
 
 -- a step in the direction d, which is that of the number
