@@ -1,20 +1,20 @@
 -- The cuts of a move: 1 to M long, each inside one segment, consecutive, and together the move's bytes, once; document 01's own list; and h.
 -- Assumes nothing.
-use mathlib.Core.Path.{_≡_, refl, ap, sym, _∙_, subst}
+use mathlib.Core.Path.{_≡_, refl, ap, sym, _∙_}
 use mathlib.Core.Logic.{_⊎_, inl, inr, ⊎-elim}
-use mathlib.Core.Bool.{Bool, true, false, cond}
+use mathlib.Core.Bool.{Bool, true, false}
 use mathlib.Core.List.{List, [], _∷_, _++_, append-assoc, append-nil}
-use mathlib.Core.Option.{some, Option·none-ne-some, Option·some-injective}
-use Prim.Native.Nat.{ℕ, zero, suc, _+_, _-_, _^_, _≤_, _<_, min, max}
-use native.Mathlib.Nat.{suc-add, zero-add, add-zero, sub-zero, zero-sub, add-assoc, not-suc-le-zero, mod-eq-of-lt}
+use mathlib.Core.Option.{some}
+use Prim.Native.Nat.{ℕ, zero, suc, _+_, _-_, _≤_, min, max}
+use native.Mathlib.Nat.{suc-add, zero-add, add-zero, sub-zero, zero-sub, add-assoc, not-suc-le-zero}
 use native.Mathlib.Omega.{arith}
-use lib.Dec.{ltb, leb}
+use lib.Dec.{ltb}
 use lib.ListN.{length, take, drop, getElem?}
 use lib.Seq.{take-append-add, take-at, take-nil, drop-append-add, drop-append-le, drop-nil}
-use borrow.Author.Tests.{ltb-true, ltb-false, leb-true}
+use borrow.Author.Tests.{ltb-true, ltb-false}
 use Rattle.srp.specs.Lists.{All}
-use Rattle.srp.specs.Descriptors.{Segment, sumOf, reachable}
-use Rattle.srp.specs.Cutting.{Rule, upTo, piece, bytesIn, highest, trimmed, cutSegment, cutsFrom, cutsOf, cuts, nextFrom, next}
+use Rattle.srp.specs.Descriptors.{Segment, sumOf}
+use Rattle.srp.specs.Cutting.{Rule, upTo, bytesIn, highest, trimmed, cutSegment, cutsFrom, cutsOf, cuts}
 use Rattle.srp.specs.Moves.{InSegments, Consecutive, run, bytesOfSegments, bytesOfPieces, MovesCut, OwnList, EndsAt, HighestIs, HighestOfOwn}
 use Rattle.srp.specs.declared.Piece.{Piece}
 use Rattle.srp.proofs.ListLaws.{all-weaken}

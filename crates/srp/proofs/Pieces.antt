@@ -1,26 +1,22 @@
 -- The next piece of a move: it lies inside one segment, where its offset says, is as long as the rule says, and its address fits 64 bits.
 -- Assumes nothing.
-use mathlib.Core.Path.{_≡_, refl, ap, sym, _∙_, subst}
+use mathlib.Core.Path.{_≡_, refl, ap, subst}
 use mathlib.Core.Logic.{_⊎_, inl, inr, ⊎-elim}
 use mathlib.Core.Bool.{Bool, true, false, cond}
-use mathlib.Core.List.{List, [], _∷_, _++_, append-assoc, append-nil}
+use mathlib.Core.List.{List, [], _∷_}
 use mathlib.Core.Option.{some, Option·none-ne-some, Option·some-injective}
-use Prim.Native.Nat.{ℕ, zero, suc, _+_, _-_, _^_, _≤_, _<_, min, max}
-use native.Mathlib.Nat.{suc-add, zero-add, add-zero, sub-zero, zero-sub, add-assoc, not-suc-le-zero, mod-eq-of-lt}
+use Prim.Native.Nat.{ℕ, _+_, _-_, _^_, _≤_, _<_, min}
+use native.Mathlib.Nat.{mod-eq-of-lt}
 use native.Mathlib.Omega.{arith}
 use lib.Dec.{ltb, leb}
-use lib.ListN.{length, take, drop, getElem?}
-use lib.Seq.{take-append-add, take-at, take-nil, drop-append-add, drop-append-le, drop-nil}
 use borrow.Author.Tests.{ltb-true, ltb-false, leb-true}
-use Rattle.srp.specs.Lists.{All}
-use Rattle.srp.specs.Descriptors.{Segment, sumOf, reachable}
-use Rattle.srp.specs.Cutting.{Rule, upTo, piece, bytesIn, highest, cutSegment, cutsFrom, cutsOf, cuts, nextFrom, next}
+use Rattle.srp.specs.Descriptors.{Segment, reachable}
+use Rattle.srp.specs.Cutting.{Rule, piece, nextFrom, next}
 use Rattle.srp.specs.Moves.{Inside, InSegments}
 use Rattle.srp.specs.Calls.{wrapped}
 use Rattle.srp.specs.declared.Piece.{Piece}
 use Rattle.srp.proofs.FieldLaws.{both}
-use Rattle.srp.proofs.ListLaws.{all-weaken}
-use Rattle.srp.proofs.CutLaws.{Lawful, up-to, cutSegment-bytes, next-at, cutsFrom-bytes}
+use Rattle.srp.proofs.CutLaws.{Lawful}
 
 -- so it has only bytes of that segment
 pub inside-bounds : {o : ℕ} {p : Piece} {s : Segment} → Inside o p s → (s .address ≤ p .address) × (p .address + p .len ≤ s .address + s .len)

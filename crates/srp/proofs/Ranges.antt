@@ -19,9 +19,9 @@ use Rattle.srp.specs.Limits.{bufferSize}
 use Rattle.srp.specs.Refusals.{Conduct, hangsUp, answered, stays, altersNothing, conductOf, firstOf}
 use Rattle.srp.specs.Descriptors.{segmentsIn, segmentsOf, segments, sumOf, reachable, descriptorOf, goodTable, copiesAgree, goodFields}
 use Rattle.srp.specs.Requests.{outAt, inAt, outDescriptor, inDescriptor, commandOf, readMessage}
-use Rattle.srp.specs.Both.{of, Each}
+use Rattle.srp.specs.Both.{of}
 use Rattle.srp.specs.Credit.{Side, movable, onSide, Open, ruleOf, Port, closedPort, due, withHeld, withWanted, withUnanswered}
-use Rattle.srp.specs.Take.{Outcome, closed, conducted, Tables, fieldsFit, newSide, newOpen, aborted, takeChecks, accepted, takeBy, takeDef, hasTag}
+use Rattle.srp.specs.Take.{Outcome, conducted, Tables, fieldsFit, newSide, newOpen, aborted, takeChecks, accepted, takeBy, takeDef, hasTag}
 use Rattle.srp.specs.Calls.{unless, planned as withPlan, planChecks, planDef, moving, moveChecks, moveDef, requiring, handing, nextIn, nextOf, wrapped, handOut, stepChecks, stepDef, finishChecks, finishDef, addChecks, addDef, withdrawChecks, withdrawDef, grantChecks, grantDef, closeDef, closeChecks}
 use Rattle.srp.specs.declared.Refusal.{Refusal}
 use Rattle.srp.specs.declared.Refusal.the-variants.{ShortBuffer, Closed}

@@ -27,7 +27,6 @@ use Rattle.words.specs.Slots.{slots, noSlot, PartIs, placeAt, movedSlot}
 use Rattle.words.specs.Head.{headOf, SlotChanged}
 use Rattle.words.specs.View.{sideOf, openOf, view}
 use Rattle.words.specs.declared.Part.{Part}
-use Rattle.words.specs.declared.Slot.{Slot}
 use Rattle.words.proofs.Ports.{while-open, view-live}
 use Rattle.state.specs.Changes.{FoundAt}
 use Rattle.state.proofs.Promises.{refused, replies-by, performed, changed-view, found-first}

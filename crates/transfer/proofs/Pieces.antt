@@ -1,16 +1,16 @@
 -- One direction of a command's slot under move and step, and the piece that step hands out.
 -- Assumes nothing.
-use mathlib.Core.Path.{_≡_, refl, sym, _∙_, ap}
+use mathlib.Core.Path.{_≡_, refl, sym, _∙_}
 use mathlib.Core.List.{List}
 use mathlib.Core.Option.{Option, none, some}
 use Prim.Native.Nat.{ℕ, _+_, _-_, _*_, _^_, _≤_, _<_, min, max}
 use native.Mathlib.Omega.{arith}
-use lib.ListN.{take, drop, getD}
+use lib.ListN.{take, drop}
 use Rattle.srp.specs.Descriptors.{segmentsOf}
 use Rattle.srp.specs.Cutting.{next, trimmed}
 use Rattle.srp.specs.Both.{of}
 use Rattle.srp.specs.Credit.{Side, onSide, ruleOf}
-use Rattle.srp.specs.Calls.{moving, handing, nextIn, nextOf, wrapped}
+use Rattle.srp.specs.Calls.{moving, handing, nextIn, wrapped}
 use Rattle.srp.specs.declared.Direction.{Direction}
 use Rattle.srp.specs.declared.Direction.the-variants.{Out, In}
 use Rattle.srp.specs.declared.Terms.{Terms}
@@ -21,8 +21,7 @@ use Rattle.srp.specs.declared.Cut.the-variants.{CutRefused, CutPiece, CutDone}
 use Rattle.srp.proofs.CutLaws.{up-to}
 use Rattle.srp.proofs.Pieces.{piece-fits}
 use Rattle.cut.specs.Walk.{nextWrapped}
-use Rattle.words.specs.Sizes.{mostSlots}
-use Rattle.words.specs.Slots.{PartIs, slots, noSlot, partFor, placeAt, placeFor, movedSlot}
+use Rattle.words.specs.Slots.{partFor, placeAt, placeFor, movedSlot}
 use Rattle.words.specs.Head.{headOf}
 use Rattle.words.specs.View.{sideOf, openOf}
 use Rattle.words.specs.declared.Part.{Part}

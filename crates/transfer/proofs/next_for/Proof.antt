@@ -1,47 +1,35 @@
+-- `transfer::next_for` meets its contract. Assumes nothing.
 use mathlib.Core.Path.{_∙_, ap}
 use Rattle.cut.specs.Walk.{nextWrapped}
 use Rattle.transfer.proofs.Pieces.{next-part}
 use borrow.Author.Needs.{needs}
 use Rattle.transfer.proofs.next_for.Statement.{statement}
 use Rattle.transfer.proofs.next_for.Tie as tie
-use Rattle.transfer.proofs.next_for.Reads as reads
-use Rattle.transfer.proofs.next_for.Lts as lts
-use Rattle.cut.proofs.next_piece.Reads as next-piece-reads
-use Rattle.transfer.proofs.place_for.Reads as place-for-reads
 
--- src/lib.rt:123:9
 place-for-requires : tie.Need-place-for-requires
 place-for-requires c κs = search needs
 
--- src/lib.rt:124:21
 cast-end : tie.Need-cast-end
 cast-end c = search needs
 
--- src/lib.rt:124:20
 mul-end : tie.Need-mul-end
 mul-end c = search needs
 
--- src/lib.rt:124:15
 add-end : tie.Need-add-end
 add-end c = search needs
 
--- src/lib.rt:126:9
 sub-next-piece : tie.Need-sub-next-piece
 sub-next-piece c = search needs
 
--- src/lib.rt:126:9
 part-next-piece-start : tie.Need-part-next-piece-start
 part-next-piece-start c = search needs
 
--- src/lib.rt:126:9
 part-next-piece-end : tie.Need-part-next-piece-end
 part-next-piece-end c = search needs
 
--- src/lib.rt:125:5
 next-piece-requires : tie.Need-next-piece-requires
 next-piece-requires c κs = search needs
 
--- src/lib.rt:117:1
 returns : tie.Need-returns
 returns c =
     let a = c .before .before .before .before .before .args in

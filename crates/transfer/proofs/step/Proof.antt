@@ -1,5 +1,6 @@
+-- `transfer::step` meets its contract. Assumes nothing.
 use mathlib.Core.Path.{_≡_, refl, sym, _∙_, ap}
-use mathlib.Core.Bool.{Bool, true, not}
+use mathlib.Core.Bool.{true, not}
 use lib.ListN.{getD}
 use Rattle.words.specs.Slots.{slots, noSlot}
 use Rattle.words.specs.Head.{headOf}
@@ -14,18 +15,10 @@ use Rattle.transfer.proofs.Checks.{step-closed, step-unknown, step-unpl
 use borrow.Author.Needs.{needs}
 use Rattle.transfer.proofs.step.Statement.{statement}
 use Rattle.transfer.proofs.step.Tie as tie
-use Rattle.transfer.proofs.step.Reads as reads
-use Rattle.transfer.proofs.step.Lts as lts
-use Rattle.state.proofs.find.Reads as find-reads
-use Rattle.transfer.proofs.hand_out.Reads as hand-out-reads
-use Rattle.words.proofs.commands.load_planned.Reads as load-planned-reads
-use Rattle.words.proofs.get_head.Reads as get-head-reads
 
--- src/lib.rt:161:9
 get-head-requires : tie.Need-get-head-requires
 get-head-requires c κs = search needs
 
--- src/lib.rt:164:9
 returns : tie.Need-returns
 returns c =
     let a = c .before .before .before .before .args in
@@ -33,19 +26,15 @@ returns c =
     let st = a .store .now in
     record { replies = replies-by (step-closed (view l st) (a .tag) (a .d) (port-closed (c .before .get-head .ensures) st (c .if1 .taken))) (refused l st Closed); done = λ e. refl }
 
--- src/lib.rt:166:24
 find-requires : tie.Need-find-requires
 find-requires c κs = search needs
 
--- src/lib.rt:166:19
 enum-known-i : tie.Need-enum-known-i
 enum-known-i c = search needs
 
--- src/lib.rt:167:31
 enum-told : tie.Need-enum-told
 enum-told c = search needs
 
--- src/lib.rt:167:9
 returns-2 : tie.Need-returns-2
 returns-2 c =
     let a = c .before .before .before .before .before .before .before .before .before .args in
@@ -54,14 +43,12 @@ returns-2 c =
     let live : headOf l .live ≡ true = head-open (c .before .before .before .before .before .before .get-head .ensures) (c .before .before .before .before .before .if1 .left) in
     record { replies = replies-by (step-unknown (view l st) (a .tag) (a .d) (view-live l st ∙ live) (found-none l (a .tag) (rw (c .enum-told .given .1) at (c .before .before .find .ensures)) live st)) (refused l st TagNotOpen); done = λ e. refl }
 
--- src/lib.rt:169:9
 load-planned-requires : tie.Need-load-planned-requires
 load-planned-requires c κs =
     let a = c .before .before .before .before .before .before .before .before .before .before .before .before .args in
     let F : FoundAt (a .s .now) (a .tag) (c .before .before .before .i .given .0 .0) = rw (c .before .before .before .i .given .1) at (c .before .before .before .before .before .find .ensures) in
     (search needs, F .small)
 
--- src/lib.rt:170:9
 returns-3 : tie.Need-returns-3
 returns-3 c =
     let a = c .before .before .before .before .before .before .before .before .before .before .before .before .before .before .args in
@@ -71,7 +58,6 @@ returns-3 c =
     let st = a .store .now in
     record { replies = replies-by (step-unplanned (view l st) (a .tag) (a .d) (view-live l st ∙ live) (openOf st (getD (slots l) (c .before .before .before .before .before .i .given .0 .0) noSlot)) (found-first F live st) (ap not (sym (c .before .load-planned .ensures)) ∙ c .if2 .taken)) (refused l st Unplanned); done = λ e. refl }
 
--- src/lib.rt:172:5
 hand-out-requires : tie.Need-hand-out-requires
 hand-out-requires c κs =
     let a = c .before .before .before .before .before .before .before .before .before .before .before .before .before .before .before .before .args in
@@ -80,7 +66,6 @@ hand-out-requires c κs =
     let F : FoundAt l (a .tag) (c .before .before .before .before .before .before .before .i .given .0 .0) = rw (c .before .before .before .before .before .before .before .i .given .1) at (c .before .before .before .before .before .before .before .before .before .find .ensures) in
     (search needs, (search needs, (live, (F, ap (λ (h : Head). h .terms) (c .before .before .before .before .before .before .before .before .before .before .before .before .before .get-head .ensures .whole)))))
 
--- src/lib.rt:158:1
 returns-4 : tie.Need-returns-4
 returns-4 c =
     let a = c .before .before .before .before .before .before .before .before .before .before .before .before .before .before .before .before .before .args in

@@ -15,8 +15,9 @@ returned-requires c κs = search needs
 
 returns : tie.Need-returns
 returns c =
-    let a = c .before .before .before .args in
-    move-in-c (a .tag) (a .direction) (a .offset) (a .count) (c .before .before .direction-of .ensures) (c .before .name-move .ensures) (c .returned .ensures)
+    let a = c .before .before .before .before .args in
+    move-in-c (a .tag) (a .direction) (a .offset) (a .count) (c .before .before .before .direction-of .ensures) (c .before .name-move .ensures) (c .returned .ensures)
 
 pub srp-target-move-spec : {M : Type 1} → statement M
-srp-target-move-spec = tie.close (tie.spec direction-of-requires name-move-requires returned-requires returns)
+srp-target-move-spec =
+    tie.close (tie.spec direction-of-requires name-move-requires returned-requires returns)
