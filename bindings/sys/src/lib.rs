@@ -46,6 +46,7 @@ extern "C" {
         answer: *mut Answer,
     ) -> u32;
     pub fn srp_target_plan(port: *mut Words, tag: u64, r_out: u32, r_in: u32) -> u32;
+    pub fn srp_target_move(port: *mut Words, tag: u64, direction: u32, offset: u32, count: u32) -> u32;
     pub fn srp_target_step(port: *mut Words, store: *const Store, tag: u64, direction: u32, answer: *mut Answer)
         -> u32;
     pub fn srp_target_finish(

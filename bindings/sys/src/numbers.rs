@@ -1,5 +1,8 @@
 //! The numbers of include/srp_target.h, in its order; tests/rust/tests/header.rs compares them.
 
+// The version of the interface.
+pub const TARGET_VERSION: u32 = 1;
+
 // Refusals: from the message or the caller.
 pub const REFUSED_SHORT_BUFFER: u32 = 1;
 pub const REFUSED_SETTING: u32 = 2;
@@ -24,6 +27,8 @@ pub const REFUSED_NOT_OWED: u32 = 27;
 pub const REFUSED_WANTED: u32 = 28;
 pub const REFUSED_UNPLANNED: u32 = 29;
 pub const REFUSED_PLANNED: u32 = 30;
+pub const REFUSED_OFFSET: u32 = 31;
+pub const REFUSED_UNFINISHED: u32 = 32;
 
 // Sizes: of a port, of the answers, of lent buffers and lists.
 pub const PORT_WORDS: usize = 528;

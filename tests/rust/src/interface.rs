@@ -69,6 +69,10 @@ impl<'a> Port<'a> {
         unsafe { srp_target_plan(self.words, tag, r_out, r_in) }
     }
 
+    pub fn name_move(self, tag: u64, direction: u32, offset: u32, count: u32) -> u32 {
+        unsafe { srp_target_move(self.words, tag, direction, offset, count) }
+    }
+
     pub fn step(self, tag: u64, direction: u32) -> u32 {
         let store: &Store = (&*self.store).try_into().expect("a store's bytes");
         unsafe { srp_target_step(self.words, store, tag, direction, self.answer) }

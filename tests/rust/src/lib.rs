@@ -1,11 +1,13 @@
 //! The C interface of the SRP target port, called from Rust (`interface`), and what its tests need: the port, look and
-//! the cut written anew from document 01 (`model`), calls on a port and what is checked of each (`port`), generated
-//! arguments of look and the cut (`generate`), and the rows of tests/rows (`rows`).
+//! the cut written anew from documents 01 and 02 (`model`), calls on a port and what is checked of each (`port`),
+//! generated arguments of look and the cut (`generate`), pieces judged byte by byte (`judge`), and the rows of
+//! tests/rows (`rows`).
 
 pub mod calls;
 pub mod generate;
 pub mod guarded;
 pub mod interface;
+pub mod judge;
 pub mod model;
 pub mod port;
 pub mod random;

@@ -1,4 +1,6 @@
-//! The rows of tests/rows/base.rows; their format is in FORMAT.md there.
+//! The rows of tests/rows; their format is in FORMAT.md there.
+
+pub mod job;
 
 use std::fs;
 use std::path::Path;
@@ -39,9 +41,12 @@ impl Answer {
     }
 }
 
+pub const BASE: &str = "base.rows";
+pub const JOB_1: &str = "job1.rows";
+
 /// Runs the rows of look.
 pub fn run_look(through: &str, look: impl Fn(&Look, &mut [u8]) -> u32) {
-    run(&[("look", 292)], through, |words| {
+    run(BASE, &[("look", 292)], through, |words| {
         let ["look", agreed, formats, msg, lent, fill, "=", answer @ ..] = words else {
             panic!("not a look row: {words:?}");
         };
@@ -51,16 +56,22 @@ pub fn run_look(through: &str, look: impl Fn(&Look, &mut [u8]) -> u32) {
     });
 }
 
-/// Runs the rows of the cut.
+/// Runs the rows of the cut, of both files.
 pub fn run_cut(through: &str, cut: impl Fn(&Cut, &mut [u8]) -> u32) {
-    run(&[("cut", 267)], through, |words| {
-        let ["cut", list, m, r, handed, lent, fill, "=", answer @ ..] = words else {
-            panic!("not a cut row: {words:?}");
-        };
-        let (m, r, handed, lent) = (number(m), number(r), number(handed), number(lent) as usize);
-        let call = Cut { list: bytes(list), m, r, handed, lent };
-        judge(lent, fill, answer, |buf| cut(&call, buf))
+    run(BASE, &[("cut", 267)], through, |words| cut_row(words, &cut));
+    run(JOB_1, &[("cut", 480)], through, |words| {
+        let row = job::in_base_words(words);
+        cut_row(&row.split(' ').collect::<Vec<&str>>(), &cut)
     });
+}
+
+fn cut_row(words: &[&str], cut: impl Fn(&Cut, &mut [u8]) -> u32) -> Result<(), String> {
+    let ["cut", list, m, r, handed, lent, fill, "=", answer @ ..] = words else {
+        panic!("not a cut row: {words:?}");
+    };
+    let (m, r, handed, lent) = (number(m), number(r), number(handed), number(lent) as usize);
+    let call = Cut { list: bytes(list), m, r, handed, lent };
+    judge(lent, fill, answer, |buf| cut(&call, buf))
 }
 
 fn judge(lent: usize, fill: &str, answer: &[&str], call: impl FnOnce(&mut [u8]) -> u32) -> Result<(), String> {
@@ -72,15 +83,15 @@ fn judge(lent: usize, fill: &str, answer: &[&str], call: impl FnOnce(&mut [u8]) 
 
 /// Runs the rows of these kinds, in the file's order, and panics with the first that failed, or unless there are so
 /// many of each.
-pub fn run(kinds: &[(&str, usize)], through: &str, mut row: impl FnMut(&[&str]) -> Result<(), String>) {
-    let path = Path::new(env!("CARGO_MANIFEST_DIR")).join("../rows/base.rows");
+pub fn run(file: &str, kinds: &[(&str, usize)], through: &str, mut row: impl FnMut(&[&str]) -> Result<(), String>) {
+    let path = Path::new(env!("CARGO_MANIFEST_DIR")).join("../rows").join(file);
     let text = fs::read_to_string(&path).unwrap_or_else(|error| panic!("{}: {error}", path.display()));
     let (mut rows, mut failures) = (Tally::default(), Vec::new());
     for (at, line) in text.lines().enumerate() {
         let words: Vec<&str> = line.split(' ').collect();
         if kinds.iter().any(|(kind, _)| *kind == words[0]) {
             rows.add(words[0]);
-            failures.extend(row(&words).err().map(|failure| format!("line {}: {failure}", at + 1)));
+            failures.extend(row(&words).err().map(|failure| format!("{file}, line {}: {failure}", at + 1)));
         }
     }
     let some = failures.iter().take(5).map(String::as_str).collect::<Vec<&str>>().join("\n");
@@ -89,7 +100,7 @@ pub fn run(kinds: &[(&str, usize)], through: &str, mut row: impl FnMut(&[&str]) 
         assert_eq!(rows.count(kind), *count as u64, "{kind} rows");
     }
     let names: Vec<&str> = kinds.iter().map(|(kind, _)| *kind).collect();
-    rows.print_as(&format!("{}, through {through}", names.join(", ")), "rows");
+    rows.print_as(&format!("{file}, {}, through {through}", names.join(", ")), "rows");
 }
 
 /// A hexadecimal number of up to 64 bits.
@@ -97,8 +108,9 @@ pub fn long(word: &str) -> u64 {
     u64::from_str_radix(word, 16).expect("a hexadecimal number of 64 bits")
 }
 
+/// A number of 32 bits; for a wider one, which C cannot say, the largest, with which such a row has the same answer.
 pub fn number(word: &str) -> u32 {
-    u32::from_str_radix(word, 16).expect("a hexadecimal number of 32 bits")
+    long(word).min(u64::from(u32::MAX)) as u32
 }
 
 pub fn bytes(word: &str) -> Vec<u8> {

@@ -1,4 +1,9 @@
-//! P1, P2, P5, P6 and P7 of document 01, with the bytes written out.
+//! P1 to P7 of document 01, and moves of P2's segments, with the bytes written out.
+
+use srp_tests::interface::{Port, PORT_WORDS, STORE_BYTES};
+use srp_tests::port::plain::{login, OWN};
+use srp_tests::port::Call;
+use srp_tests::random::Random;
 
 const LONGEST: u32 = 1364;
 const BOTH_FORMATS: u32 = 0b110;
@@ -148,4 +153,97 @@ fn p7_one_indirect() {
     assert_eq!(look(&four), (7, UNTOUCHED));
     let four = joined(&[&head(0x02, 0, 4, 0), &TABLE, &SEGMENTS, &SEGMENTS[..16]]);
     assert_eq!(look(&four), (8, UNTOUCHED));
+}
+
+const TAG: u64 = 1;
+const OUT: u32 = 0;
+const IN: u32 = 1;
+const DONE_STEP: [u64; 8] = [0; 8];
+
+/// A port that has taken a command with P2's segments each way, M 512.
+struct Taken {
+    words: Vec<u64>,
+    store: Vec<u8>,
+    answer: [u64; 8],
+}
+
+impl Taken {
+    fn new() -> Self {
+        let mut taken = Taken { words: vec![0; PORT_WORDS], store: vec![0; STORE_BYTES], answer: [0; 8] };
+        let Call::Login { msg, .. } = login(&mut Random::new(1), 1, 512, LONGEST, 0b110) else { unreachable!() };
+        let mut buf = [0; 132];
+        assert_eq!(taken.port().login(&[1, 512, LONGEST, 1, 1], &OWN, &msg, &mut buf), 0);
+        let msg = joined(&[&head(0x22, 3, 3, 0), &TABLE, &SEGMENTS, &TABLE, &SEGMENTS]);
+        assert_eq!(taken.port().take(&msg, [&[], &[]], &mut buf), 0);
+        taken
+    }
+
+    fn port(&mut self) -> Port<'_> {
+        Port::new(&mut self.words, &mut self.store, &mut self.answer)
+    }
+
+    fn name(&mut self, direction: u32, offset: u32, count: u32) -> u32 {
+        self.port().name_move(TAG, direction, offset, count)
+    }
+
+    fn step(&mut self, direction: u32) -> [u64; 8] {
+        assert_eq!(self.port().step(TAG, direction), 0);
+        self.answer
+    }
+
+    /// h of data-out and of data-in, as they are listed.
+    fn listed(&mut self) -> [u64; 2] {
+        let mut records = [0; 64];
+        assert_eq!((self.port().list(&mut records), self.answer[0]), (0, 1));
+        [records[2], records[3]]
+    }
+
+    /// Flags, and both residuals.
+    fn finish(&mut self) -> (u8, [u8; 8]) {
+        let mut buf = [FILL; 132];
+        assert_eq!(self.port().finish(TAG, 0, &[], &mut buf), 0);
+        (buf[18], buf[20..28].try_into().unwrap())
+    }
+}
+
+fn read(address: u64, length: u64, offset: u64) -> [u64; 8] {
+    [1, 1, 7, address, length, offset, 0, 0]
+}
+
+fn write(address: u64, length: u64, offset: u64) -> [u64; 8] {
+    [1, 2, 7, address, length, offset, 0, 0]
+}
+
+/// P3 out and P4 in, one move each way, offset 0, count R.
+#[test]
+fn p3_and_p4_residuals() {
+    let mut taken = Taken::new();
+    assert_eq!(taken.port().plan(TAG, 650, 800), 0);
+    assert_eq!((taken.name(OUT, 0, 650), taken.name(IN, 0, 800)), (0, 0));
+    for pieces in [[read(0x3000, 512, 0), write(0x3000, 512, 0)], [read(0x3200, 88, 512), write(0x3200, 88, 512)]] {
+        assert_eq!([taken.step(OUT), taken.step(IN)], pieces);
+    }
+    assert_eq!([taken.step(OUT), taken.step(IN)], [read(0x5000, 50, 600), write(0x5000, 100, 600)]);
+    assert_eq!([taken.step(OUT), taken.step(IN)], [DONE_STEP; 2]);
+    assert_eq!(taken.finish(), (0b01_1000, [0, 0, 0, 50, 0, 0, 0, 100]), "DOUNDER by 50, DIOVER by 100");
+}
+
+/// The middle before the start: M counts from a move's own offset, and h stays where the middle ended.
+#[test]
+fn the_middle_first() {
+    let mut taken = Taken::new();
+    assert_eq!(taken.name(OUT, 0, 1), 29, "not planned");
+    assert_eq!(taken.port().plan(TAG, 700, 700), 0);
+    assert_eq!(taken.step(OUT), DONE_STEP, "plan alone starts no move");
+    assert_eq!((taken.name(OUT, 701, 0), taken.name(OUT, 50, 600)), (31, 0));
+    assert_eq!(taken.step(OUT), read(0x3032, 512, 50));
+    assert_eq!((taken.name(OUT, 0, 50), taken.name(OUT, 701, 0)), (32, 31), "38 and 50 bytes are left");
+    assert_eq!((taken.name(IN, 600, 0), taken.step(IN)), (0, DONE_STEP), "the other direction has a move of its own");
+    assert_eq!([taken.step(OUT), taken.step(OUT)], [read(0x3232, 38, 562), read(0x5000, 50, 600)]);
+    assert_eq!((taken.step(OUT), taken.listed()), (DONE_STEP, [650, 0]));
+    assert_eq!((taken.name(OUT, 0, 50), taken.step(OUT), taken.step(OUT)), (0, read(0x3000, 50, 0), DONE_STEP));
+    assert_eq!(taken.listed(), [650, 0], "h does not fall");
+    assert_eq!((taken.name(IN, 699, u32::MAX), taken.step(IN)), (0, write(0x5063, 1, 699)), "no sum wraps");
+    assert_eq!((taken.name(IN, 700, 1), taken.step(IN), taken.listed()), (0, DONE_STEP, [650, 700]));
+    assert_eq!(taken.finish(), (0b00_1000, [0, 0, 0, 50, 0, 0, 0, 0]), "DOUNDER by 50, data-in none: h is B");
 }

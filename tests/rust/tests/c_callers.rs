@@ -84,6 +84,7 @@ mod wide {
     #[allow(clashing_extern_declarations)]
     extern "C" {
         pub fn srp_target_plan(port: *mut u64, tag: u64, r_out: u64, r_in: u64) -> u32;
+        pub fn srp_target_move(port: *mut u64, tag: u64, direction: u64, offset: u64, count: u64) -> u32;
         pub fn srp_target_step(port: *mut u64, store: *const u8, tag: u64, direction: u64, answer: *mut u64) -> u32;
         pub fn srp_target_add(port: *mut u64, k: u64) -> u32;
         pub fn srp_target_withdraw(port: *mut u64, k: u64) -> u32;
@@ -105,6 +106,9 @@ fn arguments_below_other_bits() {
         assert_eq!(wide::srp_target_add(port, ABOVE | 2), 0);
         assert_eq!(wide::srp_target_withdraw(port, ABOVE | 3), 0);
         assert_eq!(wide::srp_target_plan(port, 9, ABOVE | 5, ABOVE), 0);
+        // Of a command without data min(R, B) is 0.
+        assert_eq!(wide::srp_target_move(port, 9, ABOVE, ABOVE, ABOVE | 4), 0);
+        assert_eq!(wide::srp_target_move(port, 9, ABOVE, ABOVE | 1, ABOVE), 31);
         assert_eq!(wide::srp_target_step(port, store.as_ptr(), 9, ABOVE, answered), 0);
     }
     assert_eq!(lent.port().finish(9, 0, &[], &mut buf), 0);

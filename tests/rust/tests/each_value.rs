@@ -45,8 +45,8 @@ fn short(kind: u8) -> Vec<u8> {
     msg
 }
 
-/// A port with commands 1 and 2 of LUN 0 and command 3 of LUN 1 open, the first two planned, a piece handed out, and a
-/// credit request unanswered.
+/// A port with commands 1 and 2 of LUN 0 and command 3 of LUN 1 open, the first two planned, of the first one's data-in
+/// a move with a piece handed out, and a credit request unanswered.
 fn prepared(agreed: u32) -> Both {
     let (mut both, mut random) = (Both::new(3), Random::new(4));
     both.call(&login(agreed));
@@ -56,6 +56,7 @@ fn prepared(agreed: u32) -> Both {
     }
     both.call(&Call::Plan { tag: 1, r_out: 0, r_in: 1300 });
     both.call(&Call::Plan { tag: 2, r_out: 5, r_in: 0 });
+    both.call(&Call::Move { tag: 1, direction: 1, offset: 0, count: 1300 });
     both.call(&Call::Step { tag: 1, direction: 1 });
     both.call(&Call::Add { k: 2 });
     assert_eq!(both.call(&Call::Grant { buf: buffer(132) }).returned, 0);
@@ -245,6 +246,7 @@ fn of_a_bit_of_a_tag() {
     for bit in 0..64 {
         for tag in [1, 2, 3].map(|tag| tag ^ 1 << bit) {
             from.call(&Call::Plan { tag, r_out: 1, r_in: 1 });
+            from.call(&Call::Move { tag, direction: 0, offset: 0, count: 1 });
             from.call(&Call::Step { tag, direction: 0 });
             from.call(&Call::Finish { tag, status: 0, sense: Vec::new(), buf: buffer(132) });
             from.call(&take(&task(9, 0, 0x01, tag), [&[], &[]]));
@@ -253,7 +255,8 @@ fn of_a_bit_of_a_tag() {
     }
     from.tally.print("port, each bit of a tag");
     // 1, 2 and 3 are two bits apart at most: 1 and 3, 2 and 3 become each other.
-    assert_eq!(from.tally.count("plan: refused 24"), 64 * 3 - 4);
+    let not_open = ["plan", "move", "step"].map(|name| from.tally.count(&format!("{name}: refused 24")));
+    assert_eq!(not_open, [64 * 3 - 4; 3]);
     assert_eq!(from.tally.count("finish: done"), 4);
 }
 
@@ -263,7 +266,10 @@ fn of_a_direction() {
     let mut from = From::new(prepared(LONGEST));
     for direction in (0..=300).chain((0..32).map(|bit| 1 << bit)) {
         from.call(&Call::Step { tag: 1, direction });
+        from.call(&Call::Move { tag: 1, direction, offset: 1, count: 1 });
     }
     from.tally.print("port, each direction");
     assert_eq!((from.tally.count("step: done"), from.tally.count("step: RDMA Write")), (1, 332));
+    // Data-out has no byte, data-in pieces left.
+    assert_eq!((from.tally.count("move: refused 31"), from.tally.count("move: refused 32")), (1, 332));
 }

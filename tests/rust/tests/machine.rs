@@ -2,20 +2,23 @@
 
 use srp_tests::port::{library::Library, machine::Machine};
 
-const STATES: [&str; 9] = [
+const STATES: [&str; 12] = [
     "16 commands open",
     "SRP_CRED_REQ lifts 1",
     "SRP_CRED_REQ lifts more",
     "SRP_RSP lifts 0",
     "SRP_RSP lifts 1",
     "SRP_RSP lifts more",
+    "ended with pieces left",
+    "h above the bytes handed out",
+    "h below the bytes handed out",
     "owed 0",
     "owed above 0",
     "owed below 0",
 ];
 
 /// Events that come up whatever the initiator does.
-const EVENTS: [&str; 46] = [
+const EVENTS: [&str; 51] = [
     "add: done",
     "add: refused 11",
     "add: refused 28",
@@ -30,6 +33,11 @@ const EVENTS: [&str; 46] = [
     "grant: refused 26",
     "grant: refused 27",
     "login: accepted",
+    "move: done",
+    "move: refused 24",
+    "move: refused 29",
+    "move: refused 31",
+    "move: refused 32",
     "plan: done",
     "plan: refused 24",
     "plan: refused 30",

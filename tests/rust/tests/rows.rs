@@ -16,5 +16,10 @@ fn cut_rows() {
 
 #[test]
 fn port_rows() {
-    port::rows::run(&mut Library::new(1), "the C interface");
+    port::rows::run_base(&mut Library::new(1), "the C interface");
+}
+
+#[test]
+fn move_rows() {
+    port::rows::run_job_1(&mut Library::new(1), "the C interface");
 }

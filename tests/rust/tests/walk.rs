@@ -4,28 +4,10 @@
 
 use srp_tests::calls::{Call, Cut, Memory, Placement};
 use srp_tests::generate;
+use srp_tests::judge::{bytes_of, judge, ENDS};
 use srp_tests::model::MemoryDescriptor;
 use srp_tests::random::Random;
 use srp_tests::tally::Tally;
-
-/// One byte of the buffer: the segment that has it, its handle and its address.
-#[derive(Clone, Copy, Debug, PartialEq)]
-struct Byte {
-    segment: usize,
-    handle: u32,
-    address: u64,
-}
-
-/// The buffer, byte after byte, segment by segment.
-fn bytes_of(segments: &[MemoryDescriptor]) -> Vec<Byte> {
-    let mut bytes = Vec::new();
-    for (at, segment) in segments.iter().enumerate() {
-        for i in 0..u64::from(segment.length) {
-            bytes.push(Byte { segment: at, handle: segment.handle, address: segment.address + i });
-        }
-    }
-    bytes
-}
 
 /// The answer's bytes as a piece and its offset; None for done. Bytes 20-31 of a piece are 0.
 fn read_answer(buf: &[u8]) -> Option<(MemoryDescriptor, u32)> {
@@ -71,31 +53,6 @@ impl Walk {
     }
 }
 
-/// Judges the pieces of a walk over the buffer's bytes, of which the first min(R, B) are due.
-fn judge(walk: &Walk, bytes: &[Byte], pieces: &[(MemoryDescriptor, u32)], tally: &mut Tally) {
-    let due = &bytes[..bytes.len().min(walk.r as usize)];
-    let mut covered = Vec::new();
-    for (memory, offset) in pieces {
-        let (start, end) = (*offset as usize, *offset as usize + memory.length as usize);
-        assert!(end <= due.len(), "past min(R, B)");
-        let segment = due[start].segment;
-        assert!(due[start..end].iter().all(|byte| byte.segment == segment), "crosses a segment");
-        let (at_m, at_end) = (memory.length == walk.m, end == due.len());
-        let at_segment = bytes.get(end).is_none_or(|byte| byte.segment != segment);
-        assert!(memory.length <= walk.m, "longer than M");
-        assert!(at_m || at_segment || at_end, "could be longer");
-        tally.add(match (at_m, at_segment, at_end) {
-            (true, _, _) => "piece of M bytes",
-            (_, true, _) => "piece up to its segment's end",
-            _ => "piece up to R, inside a segment",
-        });
-        let byte = |i| Byte { segment, handle: memory.handle, address: memory.address.wrapping_add(i) };
-        covered.extend((0..u64::from(memory.length)).map(byte));
-    }
-    assert!(covered == due, "the pieces do not cover the first min(R, B) bytes in order, once each");
-    tally.add("done");
-}
-
 fn length(random: &mut Random, m: u32) -> u32 {
     match random.below(6) {
         0 | 1 => 0,
@@ -130,11 +87,11 @@ fn every_byte_of_small_buffers() {
         let r = random.of(&[bytes.len(), bytes.len() + 1, bytes.len().saturating_sub(1), bytes.len() / 2, 0, 1 << 31]);
         let walk = Walk { list: generate::list_of(&segments), m, r: r as u32 };
         let pieces = walk.pieces(&mut memory, 10_000);
-        judge(&walk, &bytes, &pieces, &mut tally);
+        judge(&bytes, 0..bytes.len().min(r), m, &pieces, &mut tally);
+        tally.add("done");
     }
     tally.print("walks, judged byte by byte");
-    let outcomes = ["done", "piece of M bytes", "piece up to its segment's end", "piece up to R, inside a segment"];
-    tally.assert_each(500, &outcomes);
+    tally.assert_each(500, &[&["done"], &ENDS[..]].concat());
 }
 
 /// Buffers up to 2^32 - 1 bytes: each piece is placed by its offset in its segment.

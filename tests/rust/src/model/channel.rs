@@ -1,5 +1,7 @@
 //! The port: closed, or an open channel with its credit and its open commands.
 
+use std::ops::Range;
+
 use super::command::Request;
 use super::cutting::sum_of_lengths;
 
@@ -55,8 +57,10 @@ pub struct Transfer {
     pub segments: Vec<u8>,
     /// R; "unplanned: R = 0".
     pub required: u32,
-    /// Bytes handed out.
-    pub moved: u32,
+    /// What is left of the current move, as offsets in the buffer; empty where none was named.
+    pub current: Range<u64>,
+    /// h: "the highest offset handed out + 1, 0 where nothing was".
+    pub reached: u64,
 }
 
 impl Credit {
@@ -96,11 +100,16 @@ impl Channel {
 
 impl Transfer {
     pub fn new(segments: Vec<u8>) -> Self {
-        Transfer { segments, required: 0, moved: 0 }
+        Transfer { segments, required: 0, current: 0..0, reached: 0 }
     }
 
     /// B.
     pub fn length(&self) -> u64 {
         sum_of_lengths(&self.segments)
+    }
+
+    /// min(R, B).
+    pub fn due(&self) -> u64 {
+        self.length().min(u64::from(self.required))
     }
 }

@@ -51,9 +51,9 @@ pub fn past_the_end(segment: MemoryDescriptor) -> bool {
 }
 
 /// "The first min(R, B) bytes are cut segment by segment, zero-length segments skipped, each piece as long as possible
-/// up to M." `end` is min(R, B), and `handed` is at most that.
-fn next_piece(list: &[u8], m: u64, handed: u64, end: u64) -> Option<Piece> {
-    if handed == end {
+/// up to M." Here the bytes up to `end`, which is at most B, after the first `handed`.
+pub fn next_piece(list: &[u8], m: u64, handed: u64, end: u64) -> Option<Piece> {
+    if handed >= end {
         return None;
     }
     let mut start = 0; // offset in the buffer of the segment's first byte

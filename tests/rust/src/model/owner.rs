@@ -106,7 +106,8 @@ impl Port {
     }
 
     /// "The open commands listed into a lent list of records (tag, LUN, bytes handed out each way), each command once;
-    /// .. the rest of the list untouched." 21, 11 (under 16 records of four words). Answer: how many.
+    /// .. the rest of the list untouched"; "the listing now take h for the bytes handed out". 21, 11 (under 16 records
+    /// of four words). Answer: how many.
     pub fn list(&mut self, records: &mut [u64], answer: &mut Answer) -> u32 {
         *answer = [0; 8];
         returned(self.open().and_then(|channel| {
@@ -114,8 +115,8 @@ impl Port {
                 return Err(Refusal::Argument);
             }
             for (record, command) in records.chunks_exact_mut(4).zip(&channel.commands) {
-                let moved = [u64::from(command.data_out.moved), u64::from(command.data_in.moved)];
-                record.copy_from_slice(&[command.request.tag, command.request.lun, moved[0], moved[1]]);
+                let [out, inn] = [&command.data_out, &command.data_in].map(|transfer| transfer.reached);
+                record.copy_from_slice(&[command.request.tag, command.request.lun, out, inn]);
             }
             answer[0] = channel.commands.len() as u64;
             Ok(())

@@ -1,4 +1,4 @@
-//! The refusals, with document 01's numbers.
+//! The refusals, with the numbers of documents 01 and 02.
 
 #[derive(Clone, Copy, Debug, PartialEq, Eq)]
 pub enum Refusal {
@@ -25,6 +25,9 @@ pub enum Refusal {
     Wanted = 28,
     Unplanned = 29,
     PlannedAlready = 30,
+    // Document 02: "Refused: 31 offset above min(R, B); 32 the direction's earlier move still has pieces."
+    Offset = 31,
+    EarlierMove = 32,
 }
 
 impl Refusal {

@@ -1,8 +1,20 @@
-//! Plan and step.
+//! Plan, move and step.
 
 use super::channel::{Channel, OpenCommand, Port, Transfer};
+use super::cutting::next_piece;
 use super::writing::Answer;
-use super::{cut, Refusal};
+use super::Refusal;
+
+impl OpenCommand {
+    /// "Direction: 0 out, else in."
+    fn transfer(&mut self, direction: u32) -> &mut Transfer {
+        if direction == 0 {
+            &mut self.data_out
+        } else {
+            &mut self.data_in
+        }
+    }
+}
 
 impl Port {
     /// The open command with that tag, and M. "21 closed .. 24 tag not open."
@@ -12,7 +24,16 @@ impl Port {
         Ok((&mut channel.commands[place], channel.agreement.longest_piece))
     }
 
-    /// "Plan states once per command, for each direction, R." 21, 24, 30.
+    /// As `command`, then 29.
+    fn planned(&mut self, tag: u64) -> Result<(&mut OpenCommand, u32), Refusal> {
+        let (command, m) = self.command(tag)?;
+        if !command.planned {
+            return Err(Refusal::Unplanned);
+        }
+        Ok((command, m))
+    }
+
+    /// "Plan states once per command, for each direction, R." 21, 24, 30. "Plan alone starts none": no move.
     pub fn plan(&mut self, tag: u64, r_out: u32, r_in: u32) -> u32 {
         let command = match self.command(tag) {
             Err(refusal) => return refusal.number(),
@@ -27,29 +48,46 @@ impl Port {
         0
     }
 
-    /// "Step names a tag and a direction and hands out the next piece there, or says done." 21, 24, 29.
+    /// "After plan, the owner names a move: direction, offset, count." 21, 24, 29, 31, 32.
+    pub fn name_move(&mut self, tag: u64, direction: u32, offset: u32, count: u32) -> u32 {
+        let transfer = match self.planned(tag) {
+            Err(refusal) => return refusal.number(),
+            Ok((command, _)) => command.transfer(direction),
+        };
+        let (due, start) = (transfer.due(), u64::from(offset));
+        if start > due {
+            return Refusal::Offset.number();
+        }
+        if !transfer.current.is_empty() {
+            return Refusal::EarlierMove.number();
+        }
+        // "A move is trimmed at min(R, B)."
+        transfer.current = start..due.min(start + u64::from(count));
+        0
+    }
+
+    /// "Step names a tag and a direction and hands out the next piece there, or says done"; "step serves the pieces of
+    /// that direction's current move". 21, 24, 29.
     pub fn step(&mut self, tag: u64, direction: u32, answer: &mut Answer) -> u32 {
         *answer = [0; 8];
-        let (command, m) = match self.command(tag) {
+        let (command, m) = match self.planned(tag) {
             Err(refusal) => return refusal.number(),
             Ok(found) => found,
         };
-        if !command.planned {
-            return Refusal::Unplanned.number();
-        }
         // "Data-out gives RDMA Reads, data-in RDMA Writes."
-        let (transfer, operation) = if direction == 0 { (&mut command.data_out, 1) } else { (&mut command.data_in, 2) };
-        hand_out(transfer, operation, m, answer);
+        let operation = if direction == 0 { 1 } else { 2 };
+        hand_out(command.transfer(direction), operation, m, answer);
         0
     }
 }
 
 /// "An operation is kind, handle, address, length, offset in the buffer."
 fn hand_out(transfer: &mut Transfer, operation: u64, m: u32, answer: &mut Answer) {
-    // Take has judged the segments, and no more was handed out than there is: the cut refuses nothing.
-    if let Ok(Some(piece)) = cut(&transfer.segments, m, transfer.required, transfer.moved) {
+    let current = &mut transfer.current;
+    if let Some(piece) = next_piece(&transfer.segments, u64::from(m), current.start, current.end) {
         let (memory, offset) = (piece.memory, u64::from(piece.offset));
-        transfer.moved += memory.length;
+        current.start += u64::from(memory.length);
+        transfer.reached = transfer.reached.max(current.start);
         *answer = [1, operation, u64::from(memory.handle), memory.address, u64::from(memory.length), offset, 0, 0];
     }
 }

@@ -104,13 +104,14 @@ pub enum Residual {
 }
 
 impl Residual {
-    /// "R > B: over, R - B. Else moved < B: under, B - moved .. Else no flag, count 0."
+    /// "R > B: over, R - B. Else moved < B: under, B - moved .. Else no flag, count 0"; "the residual rule .. now take h
+    /// for the bytes handed out".
     pub fn of(transfer: &Transfer) -> Self {
-        let (r, b, moved) = (u64::from(transfer.required), transfer.length(), u64::from(transfer.moved));
+        let (r, b, h) = (u64::from(transfer.required), transfer.length(), transfer.reached);
         if r > b {
             Residual::Over((r - b) as u32)
-        } else if moved < b {
-            Residual::Under((b - moved) as u32)
+        } else if h < b {
+            Residual::Under((b - h) as u32)
         } else {
             Residual::None
         }

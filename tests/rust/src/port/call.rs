@@ -10,6 +10,7 @@ pub enum Call {
     Login { settings: [u32; 5], own: [u8; 16], msg: Vec<u8>, buf: Vec<u8> },
     Take { msg: Vec<u8>, tables: [Vec<u8>; 2], buf: Vec<u8> },
     Plan { tag: u64, r_out: u32, r_in: u32 },
+    Move { tag: u64, direction: u32, offset: u32, count: u32 },
     Step { tag: u64, direction: u32 },
     Finish { tag: u64, status: u8, sense: Vec<u8>, buf: Vec<u8> },
     Add { k: u32 },
@@ -29,7 +30,7 @@ pub struct Outcome {
     pub records: Vec<u64>,
 }
 
-/// What the answer words hold before a call: each must be written, but by plan, add and withdraw, which have none.
+/// What the answer words hold before a call: each must be written, but by plan, move, add and withdraw, which have none.
 pub const UNWRITTEN: Answer = [0xa5a5_a5a5_a5a5_a5a5; 8];
 
 /// Something that has a port: the library or the model.
@@ -54,6 +55,7 @@ impl Call {
             Call::Login { .. } => "login",
             Call::Take { .. } => "take",
             Call::Plan { .. } => "plan",
+            Call::Move { .. } => "move",
             Call::Step { .. } => "step",
             Call::Finish { .. } => "finish",
             Call::Add { .. } => "add",
@@ -113,7 +115,7 @@ impl Call {
     }
 
     pub fn has_answer(&self) -> bool {
-        !matches!(self, Call::Plan { .. } | Call::Add { .. } | Call::Withdraw { .. })
+        !matches!(self, Call::Plan { .. } | Call::Move { .. } | Call::Add { .. } | Call::Withdraw { .. })
     }
 
     /// Whether the store is lent with the call.
@@ -130,6 +132,7 @@ impl Call {
             }
             Call::Take { .. } => port.take(lent.input, lent.tables, lent.buf),
             Call::Plan { tag, r_out, r_in } => port.plan(tag, r_out, r_in),
+            Call::Move { tag, direction, offset, count } => port.name_move(tag, direction, offset, count),
             Call::Step { tag, direction } => port.step(tag, direction),
             Call::Finish { tag, status, .. } => port.finish(tag, status, lent.input, lent.buf),
             Call::Add { k } => port.add(k),
@@ -149,6 +152,7 @@ impl Target for model::Port {
             Call::Login { settings, own, msg, .. } => self.login(settings, own, msg, &mut buf, &mut answer),
             Call::Take { msg, tables: [out, inn], .. } => self.take(msg, out, inn, &mut buf, &mut answer),
             Call::Plan { tag, r_out, r_in } => self.plan(*tag, *r_out, *r_in),
+            Call::Move { tag, direction, offset, count } => self.name_move(*tag, *direction, *offset, *count),
             Call::Step { tag, direction } => self.step(*tag, *direction, &mut answer),
             Call::Finish { tag, status, sense, .. } => self.finish(*tag, *status, sense, &mut buf, &mut answer),
             Call::Add { k } => self.add(*k),

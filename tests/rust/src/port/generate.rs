@@ -80,7 +80,7 @@ impl Generator {
     /// A call that draws 21, or 1.
     fn call_on_closed(&mut self) -> Call {
         let random = &mut self.random;
-        match random.below(10) {
+        match random.below(11) {
             0 => message::any(random),
             1 => Call::Plan { tag: random.of(&TAGS), r_out: random.any_size(), r_in: random.any_size() },
             2 => Call::Step { tag: random.of(&TAGS), direction: random.any_size() },
@@ -90,6 +90,9 @@ impl Generator {
             6 => Call::Grant { buf: buffer(random) },
             7 => Call::Close { reason: random.any_size(), buf: buffer(random) },
             8 => Call::Counters,
+            9 => {
+                Call::Move { tag: random.of(&TAGS), direction: random.any_size(), offset: 0, count: random.any_size() }
+            }
             _ => Call::List { records: record_list(random) },
         }
     }
@@ -107,9 +110,10 @@ impl Generator {
             0..=29 if careful && channel.credit.announced == 0 => owner::step(random, channel),
             0..=29 => message::request(random, channel, careful),
             30..=35 => message::other(random, channel, careful),
-            36..=45 => owner::plan(random, channel),
-            46..=71 => owner::step(random, channel),
-            72..=81 => {
+            36..=43 => owner::plan(random, channel),
+            44..=53 => owner::name_move(random, channel),
+            54..=73 => owner::step(random, channel),
+            74..=81 => {
                 let tag = chosen(random_open(random, channel));
                 owner::finish(random, tag)
             }

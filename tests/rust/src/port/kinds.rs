@@ -1,10 +1,12 @@
 //! Names for what a call came to, so that a tally shows that all of it came up.
 
+pub mod moves;
+
 use super::call::{Call, Outcome};
 use crate::model::{number, Channel, Command, Port};
 
 /// The outcomes that calls have, one a call: a refusal, or what the call gave.
-pub const OUTCOMES: [&str; 65] = [
+pub const OUTCOMES: [&str; 71] = [
     "login: accepted",
     "login: rejected 10000",
     "login: rejected 10002",
@@ -38,6 +40,12 @@ pub const OUTCOMES: [&str; 65] = [
     "plan: refused 21",
     "plan: refused 24",
     "plan: refused 30",
+    "move: done",
+    "move: refused 21",
+    "move: refused 24",
+    "move: refused 29",
+    "move: refused 31",
+    "move: refused 32",
     "step: RDMA Read",
     "step: RDMA Write",
     "step: done",
@@ -90,7 +98,8 @@ pub fn outcome(call: &Call, outcome: &Outcome) -> String {
     }
 }
 
-/// Further kinds, several a call: what a command was like, why it was refused, what a message says.
+/// Further kinds, several a call: what a command was like, why it was refused, what a message says. `moves` has those
+/// of move and step.
 pub const FEATURES: [&str; 72] = [
     "SRP_CRED_REQ, delta above 1",
     "SRP_CRED_REQ, delta 1",
@@ -177,6 +186,10 @@ pub fn features(call: &Call, outcome: &Outcome, before: &Port) -> Vec<String> {
             10 => found.extend(of_bad_fields(msg, tables, channel)),
             refusal => found.extend(of_hang_up(refusal, msg, channel)),
         }
+    }
+    if let (Call::Move { tag, .. } | Call::Step { tag, .. }, Some(channel)) = (call, &before.channel) {
+        let command = channel.place_of(*tag).map(|place| &channel.commands[place]);
+        found.extend(command.into_iter().flat_map(|command| moves::features(call, outcome, command)));
     }
     if let (Call::Finish { tag, .. }, Some(channel), 0) = (call, &before.channel, outcome.returned) {
         found.extend(of_residuals(&outcome.buf, *tag, channel));

@@ -62,14 +62,15 @@ impl<T: Target> Machine<T> {
 
     fn event(&mut self) -> Channel {
         match self.random.below(100) {
-            0..=23 => self.send(),
-            24..=39 => self.deliver(),
-            40..=59 => return self.take(),
-            60..=66 => self.plan(),
-            67..=82 => self.step(),
-            83..=90 => self.finish(),
-            91..=93 => self.add(),
-            94..=96 => self.withdraw(),
+            0..=22 => self.send(),
+            23..=37 => self.deliver(),
+            38..=56 => return self.take(),
+            57..=62 => self.plan(),
+            63..=70 => self.name_move(),
+            71..=84 => self.step(),
+            85..=91 => self.finish(),
+            92..=94 => self.add(),
+            95..=97 => self.withdraw(),
             _ => self.grant(),
         }
         Channel::Open

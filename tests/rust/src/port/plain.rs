@@ -1,6 +1,9 @@
 //! Calls without a fault, for tests that bring a port to a certain state.
 
 use super::call::Call;
+use super::generate::Data;
+use crate::generate::{list_of, Descriptor};
+use crate::model::MemoryDescriptor;
 use crate::random::Random;
 
 /// The port's own identifier.
@@ -20,6 +23,13 @@ pub fn login(random: &mut Random, n: u32, m: u32, agreed: u32, formats: u16) -> 
     msg[26] &= !0b11;
     msg[48..64].copy_from_slice(&OWN);
     Call::Login { settings: [n, m, 1364, 1, 1], own: OWN, msg, buf: buffer(132) }
+}
+
+/// A direction with these segments behind a table at 9000h, none of them in the message.
+pub fn fetched(segments: &[MemoryDescriptor]) -> Data {
+    let table = MemoryDescriptor { address: 0x9000, handle: 8, length: 16 * segments.len() as u32 };
+    let total = segments.iter().map(|segment| segment.length).sum();
+    Data { descriptor: Descriptor::Indirect { table, total, copies: Vec::new() }, table: list_of(segments) }
 }
 
 pub fn take(msg: &[u8], tables: [&[u8]; 2]) -> Call {

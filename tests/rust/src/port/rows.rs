@@ -1,12 +1,12 @@
-//! The rows of tests/rows/base.rows that are calls on a port.
+//! The rows of tests/rows that are calls on a port.
 
 use super::call::{Call, Outcome, Target, UNWRITTEN};
 use crate::model::number as field;
 use crate::model::writing::Answer;
-use crate::rows::{self, bytes, long, number};
+use crate::rows::{self, bytes, job, long, number};
 
-/// The kinds of rows, and how many there are of each.
-const KINDS: [(&str, usize); 11] = [
+/// The kinds of rows of base.rows, and how many there are of each.
+const BASE: [(&str, usize); 11] = [
     ("login", 652),
     ("take", 1393),
     ("plan", 98),
@@ -20,24 +20,81 @@ const KINDS: [(&str, usize); 11] = [
     ("counters", 2337),
 ];
 
-/// Runs the rows in their order. "There is one current port. `login` replaces it, whatever its answer."
-pub fn run(target: &mut impl Target, through: &str) {
-    rows::run(&KINDS, through, |words| {
-        let equals = words.iter().position(|&word| word == "=").expect("an answer");
-        let (call, answer) = (read_call(&words[..equals]), &words[equals + 1..]);
-        let expected = read_outcome(&call, answer);
-        let outcome = target.call(&call).in_order();
-        if outcome == expected {
-            Ok(())
-        } else {
-            Err(format!("{call:02x?}\nexpected {expected:02x?}\n     got {outcome:02x?}"))
+/// Those of job1.rows.
+const JOB_1: [(&str, usize); 13] = [
+    ("session", 160),
+    ("login", 189),
+    ("take", 673),
+    ("plan", 343),
+    ("move", 311),
+    ("step", 298),
+    ("finish", 286),
+    ("add", 483),
+    ("withdraw", 494),
+    ("grant", 718),
+    ("close", 16),
+    ("list", 926),
+    ("counters", 1383),
+];
+
+/// Runs the rows of base.rows in their order. "There is one current port. `login` replaces it, whatever its answer."
+/// They know no moves: after each plan that is not refused each direction gets one, offset 0, count R.
+pub fn run_base(target: &mut impl Target, through: &str) {
+    rows::run(rows::BASE, &BASE, through, |words| {
+        let (call, returned) = judge(target, words)?;
+        if let (Call::Plan { tag, r_out, r_in }, 0) = (call, returned) {
+            for (direction, count) in [(0, r_out), (1, r_in)] {
+                let named = target.call(&Call::Move { tag, direction, offset: 0, count });
+                assert_eq!(named.returned, 0, "a move of all of a direction");
+            }
         }
+        Ok(())
     });
+}
+
+/// Runs the rows of job1.rows in their order. A session begins with a closed port.
+pub fn run_job_1(target: &mut impl Target, through: &str) {
+    rows::run(rows::JOB_1, &JOB_1, through, |words| {
+        if words[0] == "session" {
+            return close(target);
+        }
+        let row = job::in_base_words(words);
+        judge(target, &row.split(' ').collect::<Vec<&str>>()).map(|_| ())
+    });
+}
+
+/// By a login that is refused.
+fn close(target: &mut impl Target) -> Result<(), String> {
+    let login = Call::Login { settings: [0; 5], own: [0; 16], msg: Vec::new(), buf: Vec::new() };
+    match target.call(&login).returned {
+        1 => Ok(()),
+        other => Err(format!("a login without a buffer returned {other}")),
+    }
+}
+
+/// Makes a row's call and compares; the call, and what it returned.
+fn judge(target: &mut impl Target, words: &[&str]) -> Result<(Call, u32), String> {
+    let equals = words.iter().position(|&word| word == "=").expect("an answer");
+    let (call, answer) = (read_call(&words[..equals]), &words[equals + 1..]);
+    let expected = read_outcome(&call, answer);
+    let outcome = target.call(&call).in_order();
+    if outcome != expected {
+        return Err(format!("{call:02x?}\nexpected {expected:02x?}\n     got {outcome:02x?}"));
+    }
+    Ok((call, outcome.returned))
 }
 
 /// "`LENT FILL` is a lent buffer: LENT bytes, each of them FILL."
 fn lent(length: &str, fill: &str) -> Vec<u8> {
     vec![number(fill) as u8; number(length) as usize]
+}
+
+fn direction(word: &str) -> u32 {
+    match word {
+        "out" => 0,
+        "in" => 1,
+        _ => panic!("not a direction: {word}"),
+    }
 }
 
 fn read_call(words: &[&str]) -> Call {
@@ -52,8 +109,10 @@ fn read_call(words: &[&str]) -> Call {
             Call::Take { msg: bytes(msg), tables: [bytes(out), bytes(inn)], buf: lent(length, fill) }
         }
         ["plan", tag, r_out, r_in] => Call::Plan { tag: long(tag), r_out: number(r_out), r_in: number(r_in) },
-        ["step", tag, "out"] => Call::Step { tag: long(tag), direction: 0 },
-        ["step", tag, "in"] => Call::Step { tag: long(tag), direction: 1 },
+        ["move", tag, way, offset, count] => {
+            Call::Move { tag: long(tag), direction: direction(way), offset: number(offset), count: number(count) }
+        }
+        ["step", tag, way] => Call::Step { tag: long(tag), direction: direction(way) },
         ["finish", tag, status, sense, length, fill] => {
             Call::Finish { tag: long(tag), status: number(status) as u8, sense: bytes(sense), buf: lent(length, fill) }
         }
@@ -141,6 +200,11 @@ mod tests {
 
     #[test]
     fn port_rows() {
-        super::run(&mut model::Port::default(), "the model");
+        super::run_base(&mut model::Port::default(), "the model");
+    }
+
+    #[test]
+    fn move_rows() {
+        super::run_job_1(&mut model::Port::default(), "the model");
     }
 }

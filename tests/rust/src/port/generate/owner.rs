@@ -3,7 +3,7 @@
 use super::super::call::Call;
 use super::{buffer, chosen, random_open, TAGS};
 use crate::model::channel::{OpenCommand, Transfer};
-use crate::model::Channel;
+use crate::model::{segments, Channel};
 use crate::random::Random;
 
 /// Mostly the tag of an open command.
@@ -29,9 +29,9 @@ fn required(random: &mut Random, transfer: Option<&Transfer>) -> u32 {
     r.min(u64::from(u32::MAX)) as u32
 }
 
-/// One of the open commands that are planned, or that are not.
-fn with_plan<'a>(random: &mut Random, channel: &'a Channel, planned: bool) -> Option<&'a OpenCommand> {
-    let some: Vec<&OpenCommand> = channel.commands.iter().filter(|command| command.planned == planned).collect();
+/// Mostly one of the open commands that a test names, else any.
+fn preferred<'a>(random: &mut Random, channel: &'a Channel, test: fn(&OpenCommand) -> bool) -> Option<&'a OpenCommand> {
+    let some: Vec<&OpenCommand> = channel.commands.iter().filter(|command| test(command)).collect();
     if some.is_empty() || random.one_in(12) {
         random_open(random, channel)
     } else {
@@ -40,16 +40,88 @@ fn with_plan<'a>(random: &mut Random, channel: &'a Channel, planned: bool) -> Op
 }
 
 pub fn plan(random: &mut Random, channel: &Channel) -> Call {
-    let command = with_plan(random, channel, false);
+    let command = preferred(random, channel, |command| !command.planned);
     let r_out = required(random, command.map(|command| &command.data_out));
     let r_in = required(random, command.map(|command| &command.data_in));
     Call::Plan { tag: tag(random, chosen(command)), r_out, r_in }
 }
 
+/// Where a move begins: at 0, at min(R, B) and beside it, at a segment's end and beside it, at h, below h, or anywhere.
+fn offset(random: &mut Random, transfer: &Transfer) -> u64 {
+    match random.below(13) {
+        0..=2 => 0,
+        3 => transfer.due(),
+        4 => transfer.due() + 1,
+        5 => transfer.due().saturating_sub(1),
+        6 => {
+            let lengths = segments(&transfer.segments).map(|segment| u64::from(segment.length));
+            let end: u64 = lengths.take(random.below(33)).sum();
+            (end + random.up_to(2)).saturating_sub(1)
+        }
+        7 | 8 => transfer.reached,
+        9 => random.up_to(transfer.reached),
+        10 => u64::from(random.any_size()),
+        _ => random.up_to(transfer.due()),
+    }
+}
+
+/// How many bytes: none, some pieces, up to min(R, B) and beside it, so many that the sum with the offset passes 2^32.
+fn count(random: &mut Random, transfer: &Transfer, offset: u64, m: u64) -> u64 {
+    let rest = transfer.due().saturating_sub(offset);
+    match random.below(8) {
+        0 => 0,
+        1 | 2 => random.of(&[1, m - 1, m, m + 1, 3 * m]),
+        3 => random.of(&[rest, rest, rest + 1, rest.saturating_sub(1)]),
+        4 => (1 << 32) - offset.min(1 << 32) + random.of(&[0, 1, 600]),
+        5 => u64::from(u32::MAX),
+        6 => u64::from(random.any_size()),
+        _ => random.up_to(rest),
+    }
+}
+
+/// Whether a move with pieces can be named.
+fn is_free(transfer: &Transfer) -> bool {
+    transfer.due() > 0 && transfer.current.is_empty()
+}
+
+fn has_pieces(transfer: &Transfer) -> bool {
+    !transfer.current.is_empty()
+}
+
+fn free(command: &OpenCommand) -> bool {
+    is_free(&command.data_out) || is_free(&command.data_in)
+}
+
+fn moving(command: &OpenCommand) -> bool {
+    has_pieces(&command.data_out) || has_pieces(&command.data_in)
+}
+
+/// Mostly in a direction that is free, else in one whose move has pieces left; where none is free, mostly a plan.
+pub fn name_move(random: &mut Random, channel: &Channel) -> Call {
+    if !channel.commands.iter().any(free) && !random.one_in(3) {
+        return plan(random, channel);
+    }
+    let second = random.one_in(8);
+    let command = preferred(random, channel, if second { moving } else { free });
+    let fits = if second { has_pieces } else { is_free };
+    let Some(OpenCommand { data_out, data_in, .. }) = command else {
+        return Call::Move { tag: random.of(&TAGS), direction: 0, offset: random.any_size(), count: random.any_size() };
+    };
+    let out = fits(data_out) && (!fits(data_in) || random.one_in(2)) || random.one_in(16);
+    let (transfer, direction) = if out { (data_out, 0) } else { (data_in, random.of(&[1, 1, 2, 0x100, 0x8000_0000])) };
+    let offset = offset(random, transfer);
+    let count = count(random, transfer, offset, u64::from(channel.agreement.longest_piece));
+    let [offset, count] = [offset, count].map(|number| number.min(u64::from(u32::MAX)) as u32);
+    Call::Move { tag: tag(random, chosen(command)), direction, offset, count }
+}
+
+/// Mostly in a direction whose move has pieces left; where none has, mostly a move.
 pub fn step(random: &mut Random, channel: &Channel) -> Call {
-    let command = with_plan(random, channel, true);
-    let left = |transfer: &Transfer| u64::from(transfer.required).min(transfer.length()) > u64::from(transfer.moved);
-    let only_in = command.is_some_and(|command| !left(&command.data_out) && left(&command.data_in));
+    if !channel.commands.iter().any(moving) && !random.one_in(4) {
+        return name_move(random, channel);
+    }
+    let command = preferred(random, channel, moving);
+    let only_in = command.is_some_and(|command| !has_pieces(&command.data_out) && has_pieces(&command.data_in));
     let directions = if only_in { [1, 1, 0, 2, 0x100, 0x8000_0000] } else { [0, 0, 0, 0, 1, 2] };
     let direction = random.of(&directions);
     Call::Step { tag: tag(random, chosen(command)), direction }

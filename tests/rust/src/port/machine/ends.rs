@@ -48,9 +48,9 @@ pub struct Open {
 }
 
 impl Open {
-    /// As it is listed: "tag, LUN, bytes handed out each way".
+    /// As it is listed: "tag, LUN, bytes handed out each way", h being taken for these.
     pub fn record(&self) -> [u64; 4] {
-        [self.tag, self.lun, self.pieces[0].handed, self.pieces[1].handed]
+        [self.tag, self.lun, self.pieces[0].highest, self.pieces[1].highest]
     }
 }
 

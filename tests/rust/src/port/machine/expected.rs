@@ -1,7 +1,7 @@
 //! Which refusal a call draws, and the type of the message that it writes. The model's are the reading of big-endian
 //! fields, a request's tag and LUN, and of a command its 3 (but for 16 bytes and the agreed length), 5 to 8, the lengths
 //! of its tables (9), its bad fields (10) and its segments. All else is the machine's own: 1, 4, 11, the lengths of other
-//! messages, and 22 to 30 by its counts.
+//! messages, and 22 to 32 by its counts.
 
 use super::ends::Ends;
 use super::Call;
@@ -59,8 +59,8 @@ impl Ends {
         }
     }
 
-    /// The type byte of the message that a call writes, None where it writes none. Plan, step, add and withdraw are
-    /// lent no buffer for one.
+    /// The type byte of the message that a call writes, None where it writes none. Plan, move, step, add and withdraw
+    /// are lent no buffer for one.
     pub fn message_of(&self, call: &Call, returned: u32) -> Option<u8> {
         match (call, returned) {
             (Call::Login { .. }, 0) => Some(0xc0),
@@ -88,6 +88,13 @@ impl Ends {
 
     pub fn refusal_of_step(&self, tag: u64) -> u32 {
         self.place_of(tag).map_or(24, |place| if self.open[place].planned { 0 } else { 29 })
+    }
+
+    pub fn refusal_of_move(&self, tag: u64, direction: usize, offset: u32) -> u32 {
+        match self.refusal_of_step(tag) {
+            0 => self.place_of(tag).map_or(24, |place| self.open[place].pieces[direction].refusal_of_move(offset)),
+            refusal => refusal,
+        }
     }
 
     pub fn refusal_of_finish(&self, tag: u64, status: u8, sense: usize, lent: usize) -> u32 {

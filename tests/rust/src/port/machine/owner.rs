@@ -84,16 +84,16 @@ impl<T: Target> Machine<T> {
         }
     }
 
-    /// Mostly where bytes are still to be handed out.
-    fn tag_and_direction(&mut self) -> (u64, usize) {
+    /// Mostly a direction that the test names.
+    fn tag_and_direction(&mut self, test: fn(&Pieces) -> bool) -> (u64, usize) {
         let (tag, direction) = (self.tag(), self.random.below(2));
         let any = [0, 1].into_iter().flat_map(|at| self.ends.open.iter().map(move |command| (command, at)));
-        let due: Vec<(u64, usize)> =
-            any.filter(|(command, at)| command.pieces[*at].are_due()).map(|(command, at)| (command.tag, at)).collect();
-        if due.is_empty() || self.random.one_in(5) {
+        let some: Vec<(u64, usize)> =
+            any.filter(|(command, at)| test(&command.pieces[*at])).map(|(command, at)| (command.tag, at)).collect();
+        if some.is_empty() || self.random.one_in(5) {
             (tag, direction)
         } else {
-            due[self.random.below(due.len())]
+            some[self.random.below(some.len())]
         }
     }
 
@@ -114,11 +114,35 @@ impl<T: Target> Machine<T> {
         }
     }
 
-    /// "Each command's operations in a direction are, in order, the first of those that document 01 cuts from its own
-    /// segments .. An unrefused step says done exactly when all those of its command and direction were handed out
-    /// before it."
+    /// Offset and count: mostly of a few pieces, and around min(R, B).
+    fn range(&mut self, pieces: &Pieces) -> [u32; 2] {
+        let (due, m, random) = (pieces.due(), u64::from(self.ends.login.m), &mut self.random);
+        let (below, any) = (random.up_to(due), random.any_size().into());
+        let offset = random.of(&[0, 0, below, below, below, pieces.highest, due, due.saturating_sub(1), due + 1, any]);
+        let rest = due.saturating_sub(offset);
+        let (some, any) = (1 + random.up_to(3 * m), random.any_size().into());
+        let count = random.of(&[some, some, some, 0, m, rest, rest + 1, any, u32::MAX.into(), (1 << 32) - below]);
+        [offset, count].map(|number| number.min(u32::MAX.into()) as u32)
+    }
+
+    /// "After plan, the owner names a move"; "the naming of a move as one more event".
+    pub(super) fn name_move(&mut self) {
+        let (tag, direction) = self.tag_and_direction(|pieces| pieces.due() > 0 && !pieces.are_left());
+        let place = self.ends.place_of(tag);
+        let pieces = place.map_or(Pieces::new(&[]), |place| self.ends.open[place].pieces[direction].clone());
+        let [offset, count] = self.range(&pieces);
+        let call = Call::Move { tag, direction: direction as u32, offset, count };
+        let outcome = self.counted(&call);
+        assert_eq!(outcome.returned, self.ends.refusal_of_move(tag, direction, offset), "{call:x?}");
+        if let (0, Some(place)) = (outcome.returned, place) {
+            self.ends.open[place].pieces[direction].name(offset, count);
+        }
+    }
+
+    /// "A command's operations are now the cuts of its moves in the order named." "An unrefused step says done exactly
+    /// when all those of its command and direction were handed out before it."
     pub(super) fn step(&mut self) {
-        let (tag, direction) = self.tag_and_direction();
+        let (tag, direction) = self.tag_and_direction(Pieces::are_left);
         let outcome = self.counted(&Call::Step { tag, direction: direction as u32 });
         assert_eq!(outcome.returned, self.ends.refusal_of_step(tag), "step");
         if let (0, Some(place)) = (outcome.returned, self.ends.place_of(tag)) {
@@ -140,9 +164,20 @@ impl<T: Target> Machine<T> {
         let outcome = self.counted(&Call::Finish { tag, status, sense: vec![0x70; length], buf });
         assert_eq!(outcome.returned, expected, "finish");
         if let (0, Some(place)) = (outcome.returned, self.ends.place_of(tag)) {
-            self.ends.open.remove(place);
+            let command = self.ends.open.remove(place);
+            command.pieces.iter().for_each(|pieces| self.note_moves(pieces));
             self.written(&outcome);
         }
+    }
+
+    /// What the moves of a finished command came to.
+    fn note_moves(&mut self, pieces: &Pieces) {
+        let states = [
+            (pieces.are_left(), "ended with pieces left"),
+            (pieces.highest > pieces.handed, "h above the bytes handed out"),
+            (pieces.highest < pieces.handed, "h below the bytes handed out"),
+        ];
+        states.into_iter().filter(|(is, _)| *is).for_each(|(_, state)| self.states.add(state));
     }
 
     pub(super) fn add(&mut self) {

@@ -1,17 +1,25 @@
-//! A direction's operations, cut from its segments one after the other. The segments are those that the model read; the
-//! cut is a second one, that keeps its place in the list and calls nothing of the model's.
+//! A direction's moves and their operations. The segments are those that the model read; the cut is a second one, that
+//! takes a move's bytes out of the list, keeps its place in them, and calls nothing of the model's.
 
 use crate::model::MemoryDescriptor;
 
 /// An operation's handle, address, length and offset in the buffer.
 pub type Operation = [u64; 4];
 
+/// Address, handle and length of a segment, or of a part of one.
+type Part = (u64, u64, u64);
+
 #[derive(Clone, Debug)]
 pub struct Pieces {
-    /// The segments of which bytes are left; the first one without those that were handed out.
-    left: Vec<(u64, u64, u64)>, // address, handle, length
-    /// Bytes that are still to be handed out, of min(R, B).
+    segments: Vec<Part>,
+    /// min(R, B).
     due: u64,
+    /// What is left of the current move, its last part first, and the offset in the buffer where that begins.
+    left: Vec<Part>,
+    at: u64,
+    /// h: "the highest offset handed out + 1".
+    pub highest: u64,
+    /// Bytes handed out, once or again.
     pub handed: u64,
 }
 
@@ -19,34 +27,62 @@ impl Pieces {
     /// "Unplanned: R = 0."
     pub fn new(segments: &[MemoryDescriptor]) -> Self {
         let numbers = |segment: &MemoryDescriptor| (segment.address, segment.handle.into(), segment.length.into());
-        Pieces { left: segments.iter().rev().map(numbers).collect(), due: 0, handed: 0 }
+        let segments = segments.iter().map(numbers).collect();
+        Pieces { segments, due: 0, left: Vec::new(), at: 0, highest: 0, handed: 0 }
     }
 
-    pub fn are_due(&self) -> bool {
-        self.due > 0
+    /// Whether the current move has pieces left.
+    pub fn are_left(&self) -> bool {
+        !self.left.is_empty()
     }
 
+    pub fn due(&self) -> u64 {
+        self.due
+    }
+
+    /// "Plan alone starts none."
     pub fn plan(&mut self, r: u32) {
-        let b = self.left.iter().map(|(_, _, length)| length).sum();
+        let b = self.segments.iter().map(|(_, _, length)| length).sum();
         self.due = u64::from(r).min(b);
     }
 
-    /// "The first min(R, B) bytes are cut segment by segment, zero-length segments skipped, each piece as long as
-    /// possible up to M." None where all of them were handed out.
-    pub fn next(&mut self, m: u32) -> Option<Operation> {
-        if self.due == 0 {
-            return None;
+    /// "31 offset above min(R, B); 32 the direction's earlier move still has pieces."
+    pub fn refusal_of_move(&self, offset: u32) -> u32 {
+        if u64::from(offset) > self.due {
+            31
+        } else if self.are_left() {
+            32
+        } else {
+            0
         }
+    }
+
+    /// Names a move that is not refused. "A move is trimmed at min(R, B)."
+    pub fn name(&mut self, offset: u32, count: u32) {
+        self.at = offset.into();
+        let (mut before, mut wanted) = (self.at, (self.due - self.at).min(count.into()));
+        for &(address, handle, length) in &self.segments {
+            let skipped = before.min(length);
+            let part = wanted.min(length - skipped);
+            before -= skipped;
+            wanted -= part;
+            if part > 0 {
+                self.left.insert(0, (address + skipped, handle, part));
+            }
+        }
+    }
+
+    /// The next of the operations that are cut from the current move: "segment by segment, zero-length segments
+    /// skipped, each piece as long as possible up to M". None where all of them were handed out.
+    pub fn next(&mut self, m: u32) -> Option<Operation> {
         let (address, handle, length) = self.left.pop()?;
-        let piece = [length, m.into(), self.due].into_iter().min()?;
+        let piece = length.min(m.into());
         if piece < length {
             self.left.push((address + piece, handle, length - piece));
         }
-        if piece == 0 {
-            return self.next(m);
-        }
-        let operation = [handle, address, piece, self.handed];
-        self.due -= piece;
+        let operation = [handle, address, piece, self.at];
+        self.at += piece;
+        self.highest = self.highest.max(self.at);
         self.handed += piece;
         Some(operation)
     }

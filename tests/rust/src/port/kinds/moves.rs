@@ -1,0 +1,106 @@
+//! Kinds of moves and of their pieces.
+
+use super::super::call::{Call, Outcome};
+use crate::model::channel::{OpenCommand, Transfer};
+use crate::model::segments;
+
+/// Several a call: where a move begins and ends, why one is refused, how far a piece goes.
+pub const FEATURES: [&str; 22] = [
+    "move, across a segment's end",
+    "move, all of a direction",
+    "move, at min(R, B)",
+    "move, back to what was handed out",
+    "move, both ways at once",
+    "move, count 0",
+    "move, from inside a segment",
+    "move, of some bytes",
+    "move, offset + count above 2^32 - 1",
+    "move, on from what was handed out",
+    "move, one below min(R, B)",
+    "move, past a gap",
+    "move, trimmed",
+    "refused 29, offset above 0",
+    "refused 31, far above",
+    "refused 31, one above min(R, B)",
+    "refused 31, pieces left",
+    "refused 32, in",
+    "refused 32, out",
+    "step, beyond h",
+    "step, up to h at most",
+    "step, without a piece ever",
+];
+
+/// The features of a move or a step, by the command before it.
+pub fn features(call: &Call, outcome: &Outcome, command: &OpenCommand) -> Vec<String> {
+    let sides = |direction: u32| match direction {
+        0 => [&command.data_out, &command.data_in],
+        _ => [&command.data_in, &command.data_out],
+    };
+    let kinds = match *call {
+        Call::Move { direction, offset, count, .. } => {
+            let [moved, other] = sides(direction);
+            let (start, stop) = (u64::from(offset), u64::from(offset) + u64::from(count));
+            match outcome.returned {
+                0 => of_move(moved, other, start, stop),
+                refusal => of_refusal(refusal, moved, direction == 0, start),
+            }
+        }
+        Call::Step { direction, .. } if outcome.returned == 0 => of_step(&outcome.answer, sides(direction)[0]),
+        _ => Vec::new(),
+    };
+    kinds.into_iter().filter(|(fits, _)| *fits).map(|(_, kind)| kind.into()).collect()
+}
+
+type Kinds = Vec<(bool, &'static str)>;
+
+fn of_move(moved: &Transfer, other: &Transfer, start: u64, stop: u64) -> Kinds {
+    let (due, h) = (moved.due(), moved.reached);
+    let end = stop.min(due);
+    let some = start < end;
+    vec![
+        (some && ends(moved).any(|at| start < at && at < end), "move, across a segment's end"),
+        (some && start == 0 && end == due, "move, all of a direction"),
+        (due > 0 && start == due && stop > start, "move, at min(R, B)"),
+        (some && start < h, "move, back to what was handed out"),
+        (some && !other.current.is_empty(), "move, both ways at once"),
+        (start < due && start == stop, "move, count 0"),
+        (some && start > 0 && ends(moved).all(|at| at != start), "move, from inside a segment"),
+        (some && end < due, "move, of some bytes"),
+        (some && stop > u64::from(u32::MAX), "move, offset + count above 2^32 - 1"),
+        (some && h > 0 && start == h, "move, on from what was handed out"),
+        (some && start + 1 == due, "move, one below min(R, B)"),
+        (some && start > h, "move, past a gap"),
+        (some && stop > due, "move, trimmed"),
+    ]
+}
+
+/// The segments' ends, as offsets in the buffer.
+fn ends(transfer: &Transfer) -> impl Iterator<Item = u64> + '_ {
+    let lengths = segments(&transfer.segments).map(|segment| u64::from(segment.length));
+    lengths.scan(0, |end, length| {
+        *end += length;
+        Some(*end)
+    })
+}
+
+fn of_refusal(refusal: u32, moved: &Transfer, out: bool, start: u64) -> Kinds {
+    let pieces_left = !moved.current.is_empty();
+    vec![
+        (refusal == 29 && start > 0, "refused 29, offset above 0"),
+        (refusal == 31 && start > moved.due() + 1, "refused 31, far above"),
+        (refusal == 31 && start == moved.due() + 1, "refused 31, one above min(R, B)"),
+        (refusal == 31 && pieces_left, "refused 31, pieces left"),
+        (refusal == 32 && !out, "refused 32, in"),
+        (refusal == 32 && out, "refused 32, out"),
+    ]
+}
+
+fn of_step(answer: &[u64; 8], moved: &Transfer) -> Kinds {
+    let [piece, _, _, _, length, offset, ..] = *answer;
+    let end = offset + length;
+    vec![
+        (piece == 1 && end > moved.reached, "step, beyond h"),
+        (piece == 1 && end <= moved.reached, "step, up to h at most"),
+        (piece == 0 && moved.due() > 0 && moved.reached == 0, "step, without a piece ever"),
+    ]
+}
