@@ -75,8 +75,8 @@ pub struct Record {
     pub tag: u64,
     /// Its LUN.
     pub lun: u64,
-    /// Bytes of data-out handed out.
+    /// h of data-out: the highest offset handed out + 1, 0 where nothing was.
     pub data_out: u64,
-    /// Bytes of data-in handed out.
+    /// h of data-in.
     pub data_in: u64,
 }

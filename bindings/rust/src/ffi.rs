@@ -65,6 +65,11 @@ pub fn plan(port: &mut Words, tag: u64, r_out: u32, r_in: u32) -> u32 {
     unsafe { srp_target_plan(port, tag, r_out, r_in) }
 }
 
+pub fn name_move(port: &mut Words, tag: u64, direction: u32, offset: u32, count: u32) -> u32 {
+    // SAFETY: as said at the top.
+    unsafe { srp_target_move(port, tag, direction, offset, count) }
+}
+
 pub fn step(port: &mut Words, store: &Store, tag: u64, direction: u32) -> Outcome {
     // SAFETY: as said at the top.
     answered(|answer| unsafe { srp_target_step(port, store, tag, direction, answer) })

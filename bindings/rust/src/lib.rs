@@ -2,11 +2,11 @@
 //!
 //! The library reads an initiator's messages, keeps the credit between both ends and cuts the initiator's buffers into
 //! RDMA operations. The owner has the adapter, the device server and the memory: it hands messages to a [`Port`], posts
-//! the operations and sends the messages that the port writes. Document 01, whose numbers a [`Refusal`] has, describes
-//! the calls; include/srp_target.h is the same interface in C, with what an owner has to see to.
+//! the operations and sends the messages that the port writes. Documents 01 and 02, whose numbers a [`Refusal`] has,
+//! describe the calls; include/srp_target.h is the same interface in C, with what an owner has to see to.
 //!
-//! For each SRP_CMD, [`look`] names the tables to fetch; then come [`Port::take`], [`Port::plan`], [`Port::pieces`] in
-//! each direction, and [`Port::finish`]. A refusal of [`Port::take`] that comes with a message carries it: see
+//! For each SRP_CMD, [`look`] names the tables to fetch; then come [`Port::take`], [`Port::plan`], [`Port::pieces`] for
+//! each move of its data, and [`Port::finish`]. A refusal of [`Port::take`] that comes with a message carries it: see
 //! [`TakeRefusal`].
 //!
 //! A login; then a command that reads 1,300 bytes to address 1000h, handle 7, in RDMA operations of up to 512 bytes:
@@ -39,8 +39,7 @@
 //!
 //! port.plan(tag, 0, 1300)?;
 //! let mut pieces = Vec::new();
-//! for operation in port.pieces(tag, Direction::In) {
-//!     let operation = operation?; // the owner posts it
+//! for operation in port.pieces(tag, Direction::In, 0, 1300)? { // the owner posts it
 //!     assert_eq!((operation.kind, operation.handle), (Kind::Write, 7));
 //!     pieces.push((operation.address, operation.length, operation.offset));
 //! }

@@ -13,7 +13,7 @@ pub fn checked(number: u32) -> Result<(), Refusal> {
     if number == 0 {
         return Ok(());
     }
-    Err(Refusal::try_from(number).expect("libexports.a returns document 01's refusals"))
+    Err(Refusal::try_from(number).expect("libexports.a returns the refusals that are declared"))
 }
 
 /// The message that a call wrote.

@@ -106,7 +106,7 @@ impl Port {
         }
     }
 
-    /// States once what an open command requires: R of data-out and of data-in, from its CDB.
+    /// States once what an open command requires: R of data-out and of data-in, from its CDB. It starts no move.
     ///
     /// # Errors
     /// Refused: 21 closed; 24 tag not open; 30 planned already.
@@ -114,8 +114,19 @@ impl Port {
         checked(ffi::plan(&mut self.words, tag, required_out, required_in))
     }
 
-    /// Hands out the next RDMA operation of a command in a direction, or says done by none: the first min(R, B) bytes
-    /// have been handed out.
+    /// Names a move of an open command: the bytes of a direction that [`Port::step`] hands out next, from `offset` up to
+    /// the smaller of `offset + count`, which does not wrap, and min(R, B). Moves may come in any order, overlap and be
+    /// repeated. With a count of 0, or an offset of min(R, B), a move has no bytes and is lawful.
+    ///
+    /// # Errors
+    /// Refused: 21 closed; 24 tag not open; 29 not planned; 31 `offset` above min(R, B); 32 the direction's earlier
+    /// move still has pieces.
+    pub fn name_move(&mut self, tag: u64, direction: Direction, offset: u32, count: u32) -> Result<(), Refusal> {
+        checked(ffi::name_move(&mut self.words, tag, direction.number(), offset, count))
+    }
+
+    /// Hands out the next RDMA operation of a direction's current move, or says done by none: the move has no bytes
+    /// left, or there is none.
     ///
     /// # Errors
     /// Refused: 21 closed; 24 tag not open; 29 not planned.
@@ -125,16 +136,32 @@ impl Port {
         Ok(operation(&outcome))
     }
 
-    /// The operations of a command in a direction that are still due, handed out by [`Port::step`] as the iterator is
-    /// asked for them. It ends when done, and after a refusal, which comes once. Dropped early, it leaves the rest due.
+    /// Names a move, and hands out its operations as the iterator is asked for them. One move of offset 0 and count R
+    /// is all of a direction. Dropped early, the iterator leaves the rest to [`Port::step`].
     ///
     /// # Errors
-    /// Its items, as [`Port::step`]. Refused: 21 closed; 24 tag not open; 29 not planned.
-    pub fn pieces(&mut self, tag: u64, direction: Direction) -> Pieces<'_> {
-        Pieces::new(self, tag, direction)
+    /// As [`Port::name_move`]. After that no step is refused: the iterator has the port to itself.
+    ///
+    /// # Examples
+    /// Data-in of 1,300 bytes, of which the device server has those from 512 on first:
+    /// ```
+    /// use srp_target::{Direction, Operation, Port, Refusal};
+    ///
+    /// fn read(port: &mut Port, tag: u64, mut rdma: impl FnMut(Operation)) -> Result<(), Refusal> {
+    ///     port.plan(tag, 0, 1300)?;
+    ///     port.pieces(tag, Direction::In, 512, 788)?.for_each(&mut rdma);
+    ///     port.pieces(tag, Direction::In, 0, 512)?.for_each(&mut rdma);
+    ///     Ok(())
+    /// }
+    /// ```
+    pub fn pieces(&mut self, tag: u64, direction: Direction, offset: u32, count: u32) -> Result<Pieces<'_>, Refusal> {
+        self.name_move(tag, direction, offset, count)?;
+        Ok(Pieces::new(self, tag, direction))
     }
 
-    /// Ends an open command, planned or not, with its SCSI status and sense. Returned is the SRP_RSP to be sent.
+    /// Ends an open command, planned or not, with its SCSI status and sense. Returned is the SRP_RSP to be sent, with
+    /// the residual of each direction: R above B is over by R - B; else h below B is under by B - h, h being the highest
+    /// offset handed out + 1, 0 where nothing was.
     ///
     /// # Errors
     /// Refused: 1 `buf` under 132 bytes; 21 closed; 11 sense above 96 bytes, or any with a status other than 02h; 24
@@ -197,8 +224,8 @@ impl Port {
         Ok(Counters { wanted: wanted as u32, announced: announced as u32, held: held as u32, owed: owed as i64 })
     }
 
-    /// Lists the open commands, each once, in any order. Returned is the part of `records` that was written; the others
-    /// are kept.
+    /// Lists the open commands, each once, in any order, with h of each direction. Returned is the part of `records`
+    /// that was written; the others are kept.
     ///
     /// # Errors
     /// Refused: 21 closed; 11 `records` under [`MOST_BUFFERS`](crate::MOST_BUFFERS).

@@ -1,4 +1,4 @@
-//! Document 01's refusals and their numbers; what a refused login or take gives.
+//! The refusals and their numbers; what a refused login or take gives.
 
 use core::error::Error;
 use core::fmt;
@@ -7,7 +7,7 @@ use srp_target_sys as sys;
 
 use crate::message::Message;
 
-/// Why a call is refused. The numbers are document 01's; `u32::from` and `Refusal::try_from` convert.
+/// Why a call is refused. The numbers are those of documents 01 and 02; `u32::from` and `Refusal::try_from` convert.
 #[derive(Clone, Copy, Debug, PartialEq, Eq, PartialOrd, Ord, Hash)]
 #[repr(u32)]
 pub enum Refusal {
@@ -49,15 +49,19 @@ pub enum Refusal {
     NotOwed = sys::REFUSED_NOT_OWED,
     /// 28: W would leave 1 to 16.
     Wanted = sys::REFUSED_WANTED,
-    /// 29: step before plan.
+    /// 29: move or step before plan.
     Unplanned = sys::REFUSED_UNPLANNED,
     /// 30: planned already.
     Planned = sys::REFUSED_PLANNED,
+    /// 31: a move's offset above the smaller of R and B.
+    Offset = sys::REFUSED_OFFSET,
+    /// 32: the direction's earlier move still has pieces.
+    Unfinished = sys::REFUSED_UNFINISHED,
 }
 
 impl Refusal {
     /// Every refusal, in the order of the numbers.
-    pub const ALL: [Refusal; 21] = [
+    pub const ALL: [Refusal; 23] = [
         Refusal::ShortBuffer,
         Refusal::Setting,
         Refusal::Length,
@@ -79,9 +83,11 @@ impl Refusal {
         Refusal::Wanted,
         Refusal::Unplanned,
         Refusal::Planned,
+        Refusal::Offset,
+        Refusal::Unfinished,
     ];
 
-    /// Document 01's number.
+    /// Its number.
     pub const fn number(self) -> u32 {
         self as u32
     }
@@ -109,6 +115,8 @@ impl Refusal {
             Refusal::Wanted => "W would leave 1 to 16",
             Refusal::Unplanned => "not planned",
             Refusal::Planned => "planned already",
+            Refusal::Offset => "offset of a move",
+            Refusal::Unfinished => "the earlier move has pieces left",
         }
     }
 }

@@ -84,8 +84,8 @@ fn listing() {
     take_command(&mut port, &command(9, 0, data(), data()));
     take_command(&mut port, &no_data(10));
     port.plan(9, 600, 1300).unwrap();
-    assert_eq!(port.pieces(9, Direction::Out).count(), 2);
-    assert!(matches!(port.step(9, Direction::In), Ok(Some(_))));
+    assert_eq!(port.pieces(9, Direction::Out, 0, 600).map(|pieces| pieces.count()), Ok(2));
+    assert!(port.pieces(9, Direction::In, 0, 1300).unwrap().next().is_some());
     let mut listed = port.list(&mut records).unwrap().to_vec();
     listed.sort_by_key(|record| record.tag);
     let idle = Record { tag: 10, lun: LUN, data_out: 0, data_in: 0 };

@@ -45,8 +45,8 @@ fn from_login_to_response() {
     assert!(is_untouched(&buf));
 
     port.plan(9, 0, 1300).unwrap();
-    let pieces: Result<Vec<Operation>, _> = port.pieces(9, Direction::In).collect();
-    assert_eq!(pieces.unwrap(), [write(0x1000, 512, 0), write(0x1200, 512, 512), write(0x1400, 276, 1024)]);
+    let pieces: Vec<Operation> = port.pieces(9, Direction::In, 0, 1300).unwrap().collect();
+    assert_eq!(pieces, [write(0x1000, 512, 0), write(0x1200, 512, 512), write(0x1400, 276, 1024)]);
 
     let message = port.finish(9, 0x00, &[], &mut buf).unwrap();
     assert_eq!(message, RESPONSE);

@@ -95,7 +95,8 @@ fn is_closed(port: &mut Port) {
     assert_eq!(port.take(&no_data(1), Tables::NONE, &mut buf), Err(TakeRefusal::Unaltered(closed)));
     assert_eq!(port.plan(1, 0, 0), Err(closed));
     assert_eq!(port.step(1, Direction::Out), Err(closed));
-    assert!(port.pieces(1, Direction::In).eq([Err(closed)]));
+    assert_eq!(port.name_move(1, Direction::In, 0, 0), Err(closed));
+    assert_eq!(port.pieces(1, Direction::In, 0, 0).err(), Some(closed));
     assert_eq!(port.finish(1, 0, &[0; 97], &mut buf), Err(closed));
     assert_eq!(port.add(0), Err(closed));
     assert_eq!(port.withdraw(0), Err(closed));

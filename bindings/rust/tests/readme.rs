@@ -45,7 +45,7 @@ fn owner(adapter: &Adapter, settings: &Settings, own: &[u8; 16], login: &[u8], m
     match port.take(msg, Tables { data_out: &data_out, data_in: &data_in }, &mut buf) {
         Ok(Taken::Command { tag, .. }) => {
             port.plan(tag, 0, required_in)?;
-            for operation in port.pieces(tag, Direction::In) { rdma(operation?); }
+            for operation in port.pieces(tag, Direction::In, 0, required_in)? { rdma(operation); }
             send(port.finish(tag, 0x00, &[], &mut buf)?);
         }
         Ok(Taken::Task { message, .. }) => send(message),

@@ -3,7 +3,7 @@
 use srp_target::{LoginRefusal, Message, NoRefusal, Port, Refusal, TakeRefusal};
 use srp_target_sys::{PORT_WORDS, STORE_BYTES};
 
-const NUMBERED: [(u32, Refusal); 21] = [
+const NUMBERED: [(u32, Refusal); 23] = [
     (1, Refusal::ShortBuffer),
     (2, Refusal::Setting),
     (3, Refusal::Length),
@@ -25,6 +25,8 @@ const NUMBERED: [(u32, Refusal); 21] = [
     (28, Refusal::Wanted),
     (29, Refusal::Unplanned),
     (30, Refusal::Planned),
+    (31, Refusal::Offset),
+    (32, Refusal::Unfinished),
 ];
 
 #[test]
@@ -39,7 +41,7 @@ fn every_refusal_has_its_number() {
 #[test]
 fn other_numbers_are_no_refusals() {
     let others = (0..1000).chain([u32::MAX - 1, u32::MAX]).filter(|n| !NUMBERED.iter().any(|(m, _)| n == m));
-    assert_eq!(others.clone().count(), 1002 - 21);
+    assert_eq!(others.clone().count(), 1002 - 23);
     others.for_each(|number| assert_eq!(Refusal::try_from(number), Err(NoRefusal(number))));
 }
 

@@ -118,6 +118,6 @@ fn without_a_message_nothing_is_altered() {
     let taken = port.take(&msg, Tables { data_in: &list, ..Tables::NONE }, &mut buf);
     assert_eq!(taken, Ok(Taken::Command { tag: 9, lun: LUN, cdb: &msg[32..48] }));
     port.plan(9, 0, 1300).unwrap();
-    let pieces: Vec<_> = port.pieces(9, Direction::In).map(|p| p.map(|p| (p.handle, p.address, p.length))).collect();
-    assert_eq!(pieces, [Ok((7, 0x1000, 512)), Ok((7, 0x1200, 488)), Ok((8, 0x8000, 300))]);
+    let pieces = port.pieces(9, Direction::In, 0, 1300).unwrap().map(|p| (p.handle, p.address, p.length));
+    assert!(pieces.eq([(7, 0x1000, 512), (7, 0x1200, 488), (8, 0x8000, 300)]));
 }

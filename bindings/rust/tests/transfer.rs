@@ -1,9 +1,9 @@
-//! Plan, step and the pieces of both directions; finish.
+//! Plan, moves, step and the pieces of both directions; finish.
 
 mod messages;
 
 use messages::*;
-use srp_target::{Direction, Kind, Message, Operation, Port, Refusal, Tables, Taken, SENSE_BYTES};
+use srp_target::{Direction, Kind, Message, Operation, Port, Record, Refusal, Tables, Taken, SENSE_BYTES};
 
 /// Data-out: 3000h, handle 5, 600 bytes. Data-in: a table in the message, the segments of P2.
 fn both_ways(tag: u64) -> Vec<u8> {
@@ -20,8 +20,9 @@ fn write(handle: u32, address: u64, length: u32, offset: u32) -> Operation {
     Operation { kind: Kind::Write, handle, address, length, offset }
 }
 
-fn all(port: &mut Port, tag: u64, direction: Direction) -> Vec<Operation> {
-    port.pieces(tag, direction).map(|piece| piece.expect("no refusal")).collect()
+/// The pieces of a move of a direction's first bytes.
+fn first(port: &mut Port, tag: u64, direction: Direction, count: u32) -> Vec<Operation> {
+    port.pieces(tag, direction, 0, count).expect("no refusal").collect()
 }
 
 /// Flags, status and both residuals of a response.
@@ -34,11 +35,13 @@ fn both_directions() {
     let mut port = open_port();
     take_command(&mut port, &both_ways(9));
     port.plan(9, 600, 700).unwrap();
+    assert_eq!(port.step(9, Direction::In), Ok(None), "plan alone starts no move");
+    assert_eq!(port.name_move(9, Direction::In, 0, 700), Ok(()));
     assert_eq!(port.step(9, Direction::In), Ok(Some(write(6, 0x3000, 512, 0))));
-    assert_eq!(all(&mut port, 9, Direction::Out), [read(5, 0x3000, 512, 0), read(5, 0x3200, 88, 512)]);
-    assert_eq!(all(&mut port, 9, Direction::In), [write(6, 0x3200, 88, 512), write(8, 0x5000, 100, 600)]);
-    assert_eq!(port.step(9, Direction::In), Ok(None));
-    assert_eq!(all(&mut port, 9, Direction::Out), []);
+    assert_eq!(first(&mut port, 9, Direction::Out, 600), [read(5, 0x3000, 512, 0), read(5, 0x3200, 88, 512)]);
+    assert_eq!(port.step(9, Direction::In), Ok(Some(write(6, 0x3200, 88, 512))));
+    assert_eq!(port.step(9, Direction::In), Ok(Some(write(8, 0x5000, 100, 600))));
+    assert_eq!((port.step(9, Direction::In), port.step(9, Direction::Out)), (Ok(None), Ok(None)));
     let mut buf = lent();
     assert_eq!(outcome(port.finish(9, 0, &[], &mut buf).unwrap()), (0, 0, [0; 4], [0; 4]));
 }
@@ -54,8 +57,8 @@ fn tables_fetched_for_both_directions() {
     let taken = port.take(&msg, Tables { data_out: &out, data_in: &inn }, &mut buf);
     assert_eq!(taken, Ok(Taken::Command { tag: 9, lun: LUN, cdb: &msg[32..48] }));
     port.plan(9, 10, 20).unwrap();
-    assert_eq!(all(&mut port, 9, Direction::Out), [read(1, 0x100, 10, 0)]);
-    assert_eq!(all(&mut port, 9, Direction::In), [write(2, 0x200, 20, 0)]);
+    assert_eq!(first(&mut port, 9, Direction::Out, 10), [read(1, 0x100, 10, 0)]);
+    assert_eq!(first(&mut port, 9, Direction::In, 20), [write(2, 0x200, 20, 0)]);
 }
 
 /// R of each direction in its place: P3's last piece of 50 and under 50 in, P4's over 100 out.
@@ -64,50 +67,85 @@ fn residuals() {
     let mut port = open_port();
     take_command(&mut port, &both_ways(9));
     port.plan(9, 700, 650).unwrap();
-    assert_eq!(all(&mut port, 9, Direction::Out).len(), 2);
-    assert_eq!(all(&mut port, 9, Direction::In).last(), Some(&write(8, 0x5000, 50, 600)));
+    assert_eq!(first(&mut port, 9, Direction::Out, 700).len(), 2);
+    assert_eq!(first(&mut port, 9, Direction::In, 650).last(), Some(&write(8, 0x5000, 50, 600)));
     let mut buf = lent();
     let message = port.finish(9, 0, &[], &mut buf).unwrap();
     assert_eq!(outcome(message), (0b10_0100, 0, [0, 0, 0, 100], [0, 0, 0, 50]));
 }
 
-/// An iterator that is dropped leaves the rest due, and other commands' pieces are their own.
+/// The end before the start, with M counted from each move's offset. The listing and the residual take h.
 #[test]
-fn pieces_go_on_where_they_stopped() {
+fn moves_in_any_order() {
+    let mut port = open_port();
+    take_command(&mut port, &both_ways(9));
+    port.plan(9, 600, 700).unwrap();
+    let mut moved = |offset, count| port.pieces(9, Direction::In, offset, count).unwrap().collect::<Vec<Operation>>();
+    assert_eq!(moved(550, 100), [write(6, 0x3226, 50, 550), write(8, 0x5000, 50, 600)]);
+    assert_eq!(moved(20, 530), [write(6, 0x3014, 512, 20), write(6, 0x3214, 18, 532)]);
+    assert_eq!(moved(20, 1), [write(6, 0x3014, 1, 20)], "once more");
+    assert_eq!((moved(20, 0), moved(700, 1)), (vec![], vec![]));
+    assert_eq!(port.list(&mut [Record::default(); 16]).unwrap()[0].data_in, 650);
+    let mut buf = lent();
+    let message = port.finish(9, 0, &[], &mut buf).unwrap();
+    assert_eq!(outcome(message), (0b10_1000, 0, [0, 0, 2, 88], [0, 0, 0, 50]), "under 600 out, 50 in");
+}
+
+/// Trimmed at min(R, B); the sum of offset and count does not wrap.
+#[test]
+fn a_move_past_the_end() {
+    let mut port = open_port();
+    take_command(&mut port, &p1(9));
+    port.plan(9, 0, 1200).unwrap();
+    let mut moved =
+        |offset, count| port.pieces(9, Direction::In, offset, count).map(|pieces| pieces.collect::<Vec<_>>());
+    assert_eq!(moved(1000, u32::MAX), Ok(vec![write(7, 0x13e8, 200, 1000)]));
+    assert_eq!(moved(1199, 2), Ok(vec![write(7, 0x14af, 1, 1199)]));
+    assert_eq!((moved(1200, 2), moved(1201, 0)), (Ok(vec![]), Err(Refusal::Offset)));
+}
+
+/// An iterator that is dropped leaves the rest to step, and until then no other move of that direction is named. Other
+/// commands' pieces are their own.
+#[test]
+fn a_move_goes_on_where_it_stopped() {
     let mut port = open_port();
     take_command(&mut port, &p1(9));
     take_command(&mut port, &p1(10));
     port.plan(9, 0, 1300).unwrap();
     port.plan(10, 0, 600).unwrap();
-    assert_eq!(port.pieces(9, Direction::In).next(), Some(Ok(write(7, 0x1000, 512, 0))));
-    assert_eq!(all(&mut port, 10, Direction::In), [write(7, 0x1000, 512, 0), write(7, 0x1200, 88, 512)]);
-    let mut pieces = port.pieces(9, Direction::In);
-    assert_eq!(pieces.next(), Some(Ok(write(7, 0x1200, 512, 512))));
-    assert_eq!(pieces.next(), Some(Ok(write(7, 0x1400, 276, 1024))));
+    assert_eq!(port.pieces(9, Direction::In, 0, 1300).unwrap().next(), Some(write(7, 0x1000, 512, 0)));
+    assert_eq!(first(&mut port, 10, Direction::In, 600), [write(7, 0x1000, 512, 0), write(7, 0x1200, 88, 512)]);
+    assert_eq!(port.pieces(9, Direction::In, 512, 1).err(), Some(Refusal::Unfinished));
+    assert_eq!(port.name_move(9, Direction::In, 1300, 0), Err(Refusal::Unfinished));
+    assert_eq!(port.name_move(9, Direction::In, 1301, 0), Err(Refusal::Offset));
+    assert_eq!(port.name_move(9, Direction::Out, 0, 1), Ok(()), "the other direction");
+    assert_eq!(port.step(9, Direction::In), Ok(Some(write(7, 0x1200, 512, 512))));
+    assert_eq!(port.step(9, Direction::In), Ok(Some(write(7, 0x1400, 276, 1024))));
+    let mut pieces = port.pieces(9, Direction::In, 1024, 276).unwrap();
+    assert_eq!(pieces.next(), Some(write(7, 0x1400, 276, 1024)));
     assert_eq!((pieces.next(), pieces.next()), (None, None));
 }
 
 #[test]
-fn pieces_of_an_aborted_command_are_refused_24() {
+fn a_move_of_an_aborted_command_is_refused_24() {
     let mut port = open_port();
     take_command(&mut port, &p1(9));
     port.plan(9, 0, 1300).unwrap();
-    assert!(matches!(port.pieces(9, Direction::In).next(), Some(Ok(_))));
+    assert!(port.pieces(9, Direction::In, 0, 1300).unwrap().next().is_some());
     abort(&mut port, 9);
-    let mut pieces = port.pieces(9, Direction::In);
-    assert_eq!(pieces.next(), Some(Err(Refusal::TagNotOpen)));
-    assert_eq!((pieces.next(), pieces.next()), (None, None));
+    assert_eq!(port.step(9, Direction::In), Err(Refusal::TagNotOpen));
+    assert_eq!(port.pieces(9, Direction::In, 0, 1300).err(), Some(Refusal::TagNotOpen));
     assert_eq!(port.finish(9, 0, &[], &mut lent()), Err(Refusal::TagNotOpen));
 }
 
 #[test]
-fn pieces_without_a_plan_are_refused_29() {
+fn a_move_without_a_plan_is_refused_29() {
     let mut port = open_port();
     take_command(&mut port, &p1(9));
-    let items: Vec<_> = port.pieces(9, Direction::In).take(3).collect();
-    assert_eq!(items, [Err(Refusal::Unplanned)]);
+    assert_eq!(port.pieces(9, Direction::In, 1, 0).err(), Some(Refusal::Unplanned));
+    assert_eq!(port.step(9, Direction::In), Err(Refusal::Unplanned));
     port.plan(9, 0, 1300).unwrap();
-    assert_eq!(all(&mut port, 9, Direction::In).len(), 3);
+    assert_eq!(first(&mut port, 9, Direction::In, 1300).len(), 3);
 }
 
 #[test]
@@ -117,7 +155,7 @@ fn plan_is_refused_24_and_30() {
     take_command(&mut port, &p1(9));
     assert_eq!(port.plan(9, 0, 1300), Ok(()));
     assert_eq!(port.plan(9, 0, 1), Err(Refusal::Planned));
-    assert_eq!(all(&mut port, 9, Direction::In).len(), 3);
+    assert_eq!(first(&mut port, 9, Direction::In, 1300).len(), 3);
 }
 
 #[test]
