@@ -21,6 +21,7 @@ pub enum Batch {
     Login(Vec<[u8; 64]>),
     Take(Vec<Message>),
     Plan { tags: Vec<u64>, required: u32 },
+    Move { tags: Vec<u64>, direction: u32, offset: u32, count: u32 },
     Step { tags: Vec<u64>, direction: u32 },
     Finish { tags: Vec<u64>, status: u8, sense: Vec<u8> },
     Add(u32),
@@ -65,7 +66,8 @@ impl Batch {
         match self {
             Batch::Login(messages) => messages.len(),
             Batch::Take(messages) => messages.len(),
-            Batch::Plan { tags, .. } | Batch::Step { tags, .. } | Batch::Finish { tags, .. } => tags.len(),
+            Batch::Plan { tags, .. } | Batch::Move { tags, .. } => tags.len(),
+            Batch::Step { tags, .. } | Batch::Finish { tags, .. } => tags.len(),
             Batch::Look(messages) => messages.len(),
             Batch::Cut { lists, .. } => lists.len(),
             Batch::Counters(calls) | Batch::List(calls) => *calls,
@@ -85,6 +87,9 @@ impl Batch {
             Batch::Plan { tags, required } => {
                 each(ports, tags, after, |lent, tag| unsafe { (side.plan)(lent.port, *tag, *required, *required) })
             }
+            Batch::Move { tags, direction, offset, count } => each(ports, tags, after, |lent, tag| unsafe {
+                (side.name_move)(lent.port, *tag, *direction, *offset, *count)
+            }),
             Batch::Step { tags, direction } => each(ports, tags, after, |lent, tag| unsafe {
                 (side.step)(lent.port, &*lent.store, *tag, *direction, &mut *lent.answer)
             }),

@@ -149,14 +149,29 @@ fn plan_case() -> Case {
     with_commands("plan", timed)
 }
 
+fn move_case(name: &str, tag: u64) -> Case {
+    let before = vec![take_all(direct), Batch::Plan { tags: tags(), required: 1300 }];
+    let timed = Batch::Move { tags: vec![tag], direction: IN, offset: 0, count: 1300 };
+    case(&format!("move, {name} of 16 commands"), before, timed, vec![finish_all(tags())])
+}
+
+/// A move that starts far from the last one.
+fn far_move_case() -> Case {
+    let required = 32 * SEGMENT;
+    let before = vec![take_all(|tag| all_copied(32, tag)), Batch::Plan { tags: tags(), required }];
+    let timed = Batch::Move { tags: tags(), direction: IN, offset: required - 1, count: 1 };
+    case("move, last byte of 32 segments, 16 commands open", before, timed, vec![finish_all(tags())])
+}
+
 fn counted(segments: u32) -> String {
     format!("{segments} segment{}", if segments == 1 { "" } else { "s" })
 }
 
 fn step_case(which: &str, count: u32) -> Case {
     let step = || Batch::Step { tags: tags(), direction: IN };
-    let mut before = vec![take_all(|tag| all_copied(count, tag))];
-    before.push(Batch::Plan { tags: tags(), required: SEGMENT * count });
+    let required = SEGMENT * count;
+    let mut before = vec![take_all(|tag| all_copied(count, tag)), Batch::Plan { tags: tags(), required }];
+    before.push(Batch::Move { tags: tags(), direction: IN, offset: 0, count: required });
     let handed = if which == "first" { 0 } else { PIECES * count - 1 };
     before.extend((0..handed).map(|_| step()));
     let series = format!("step, {which} piece");
@@ -210,6 +225,9 @@ pub fn cases() -> Vec<Case> {
         take_case("fetched table of 32 entries, 16 copies", |tag| fetched(16, tag)),
         task_case(),
         plan_case(),
+        move_case("oldest", 0x100),
+        move_case("newest", 0x10f),
+        far_move_case(),
     ];
     cases.extend(by_segments(step_case));
     cases.extend([

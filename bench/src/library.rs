@@ -17,6 +17,7 @@ pub static LIBRARY: Side = Side {
     login: srp_target_login,
     take: srp_target_take,
     plan: srp_target_plan,
+    name_move: srp_target_move,
     step: srp_target_step,
     finish: srp_target_finish,
     add: srp_target_add,

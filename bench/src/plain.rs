@@ -87,6 +87,20 @@ pub unsafe extern "C" fn plain_plan(port: *mut Words, tag: u64, required_out: u3
     number(port.plan(tag, required_out, required_in))
 }
 
+fn direction_of(word: u32) -> Direction {
+    if word == 0 {
+        Direction::Out
+    } else {
+        Direction::In
+    }
+}
+
+#[inline(never)]
+pub unsafe extern "C" fn plain_move(port: *mut Words, tag: u64, direction: u32, offset: u32, count: u32) -> u32 {
+    let port = unsafe { &mut *port.cast::<Port>() };
+    number(port.name_move(tag, direction_of(direction), offset, count))
+}
+
 #[inline(never)]
 pub unsafe extern "C" fn plain_step(
     port: *mut Words,
@@ -96,8 +110,8 @@ pub unsafe extern "C" fn plain_step(
     answer: *mut Answer,
 ) -> u32 {
     let port = unsafe { &mut *port.cast::<Port>() };
-    let (direction, operation) = if direction == 0 { (Direction::Out, 1) } else { (Direction::In, 2) };
-    let outcome = port.step(tag, direction);
+    let operation = if direction == 0 { 1 } else { 2 };
+    let outcome = port.step(tag, direction_of(direction));
     let words = match &outcome {
         Ok(Some(p)) => [1, operation, p.handle.into(), p.address, p.length.into(), p.offset.into()],
         _ => [0; 6],

@@ -1,5 +1,5 @@
-//! The target port in plain Rust: document 01's calls on a port, as one would write them for a firmware, with fixed
-//! arrays, no heap and no unsafe code. What the library's speed is measured by; shares nothing with it.
+//! The target port in plain Rust: the calls of documents 01 and 02 on a port, as one would write them for a firmware,
+//! with fixed arrays, no heap and no unsafe code. What the library's speed is measured by; shares nothing with it.
 
 mod credit;
 mod login;
@@ -77,7 +77,19 @@ impl Port {
         Ok(())
     }
 
-    /// The next piece of a direction, or None: done.
+    /// Names a move of a direction, which the next steps hand out.
+    pub fn name_move(&mut self, tag: u64, direction: Direction, offset: u32, count: u32) -> Result<(), Refusal> {
+        let channel = self.channel.as_mut().ok_or(Refusal::Closed)?;
+        let slot = channel.slot(tag)?;
+        let command = channel.commands[slot].as_mut().ok_or(Refusal::TagNotOpen)?;
+        if !command.planned {
+            return Err(Refusal::Unplanned);
+        }
+        let list = &self.lists[slot][direction as usize];
+        command.transfers[direction as usize].name_move(list, offset, count)
+    }
+
+    /// The next piece of a direction's current move, or None: done.
     pub fn step(&mut self, tag: u64, direction: Direction) -> Result<Option<Piece>, Refusal> {
         let channel = self.channel.as_mut().ok_or(Refusal::Closed)?;
         let slot = channel.slot(tag)?;
@@ -104,7 +116,7 @@ impl Port {
         Ok(message::response(buf, solnt, channel.delta(), tag, status, residuals, sense))
     }
 
-    /// Writes a record of tag, LUN, and bytes handed out each way for each open command; gives their number.
+    /// Writes a record of tag, LUN, and h of each direction for each open command; gives their number.
     pub fn list(&self, records: &mut [u64]) -> Result<usize, Refusal> {
         let channel = self.channel.as_ref().ok_or(Refusal::Closed)?;
         if records.len() < 4 * MAX_BUFFERS {
@@ -114,7 +126,7 @@ impl Port {
         let mut count = 0;
         for (record, command) in records.chunks_exact_mut(4).zip(open) {
             let [out, inn] = command.transfers;
-            record.copy_from_slice(&[command.tag, command.lun, out.moved.into(), inn.moved.into()]);
+            record.copy_from_slice(&[command.tag, command.lun, out.reached.into(), inn.reached.into()]);
             count += 1;
         }
         Ok(count)

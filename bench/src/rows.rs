@@ -1,4 +1,4 @@
-//! The plain port against the rows of tests/rows/base.rows, made elsewhere; read and judged as by tests/rust.
+//! The plain port against the rows of tests/rows, made elsewhere; read and judged as by tests/rust.
 
 use srp_target_sys::{Store, Words, STORE_BYTES};
 use srp_tests::port::call::{Call, Outcome, Target, UNWRITTEN};
@@ -32,6 +32,7 @@ impl Plain {
                 (PLAIN.take)(port, store, msg, msg_len, out, out_len, inn, in_len, buf, buf_len, answer)
             }
             Call::Plan { tag, r_out, r_in } => (PLAIN.plan)(port, *tag, *r_out, *r_in),
+            Call::Move { tag, direction, offset, count } => (PLAIN.name_move)(port, *tag, *direction, *offset, *count),
             Call::Step { tag, direction } => (PLAIN.step)(port, store, *tag, *direction, answer),
             Call::Finish { tag, status, .. } => (PLAIN.finish)(port, *tag, *status, msg, msg_len, buf, buf_len, answer),
             Call::Add { k } => (PLAIN.add)(port, *k),
@@ -44,10 +45,18 @@ impl Plain {
     }
 }
 
+fn closed_port() -> Plain {
+    Plain { port: (PLAIN.new_port)(), store: Box::new([0; STORE_BYTES]) }
+}
+
 #[test]
 fn port_rows() {
-    let mut plain = Plain { port: (PLAIN.new_port)(), store: Box::new([0; STORE_BYTES]) };
-    port::rows::run(&mut plain, "the plain port");
+    port::rows::run_base(&mut closed_port(), "the plain port");
+}
+
+#[test]
+fn move_rows() {
+    port::rows::run_job_1(&mut closed_port(), "the plain port");
 }
 
 #[test]

@@ -21,6 +21,7 @@ pub type Take = unsafe extern "C" fn(
     *mut Answer,
 ) -> u32;
 pub type Plan = unsafe extern "C" fn(*mut Words, u64, u32, u32) -> u32;
+pub type Move = unsafe extern "C" fn(*mut Words, u64, u32, u32, u32) -> u32;
 pub type Step = unsafe extern "C" fn(*mut Words, *const Store, u64, u32, *mut Answer) -> u32;
 pub type Finish = unsafe extern "C" fn(*mut Words, u64, u8, *const u8, usize, *mut u8, usize, *mut Answer) -> u32;
 pub type Buffers = unsafe extern "C" fn(*mut Words, u32) -> u32;
@@ -38,6 +39,7 @@ pub struct Side {
     pub login: Login,
     pub take: Take,
     pub plan: Plan,
+    pub name_move: Move,
     pub step: Step,
     pub finish: Finish,
     pub add: Buffers,
@@ -65,6 +67,7 @@ pub static PLAIN: Side = Side {
     login: plain::plain_login,
     take: plain::plain_take,
     plan: plain::plain_plan,
+    name_move: plain::plain_move,
     step: plain::plain_step,
     finish: plain::plain_finish,
     add: plain::plain_add,

@@ -1,4 +1,4 @@
-//! Document 01's refusals, and which of them hang up.
+//! The refusals, and which of them hang up.
 
 #[derive(Clone, Copy, Debug, PartialEq, Eq)]
 #[repr(u32)]
@@ -24,6 +24,8 @@ pub enum Refusal {
     Wanted = 28,
     Unplanned = 29,
     Planned = 30,
+    Offset = 31,
+    Unfinished = 32,
 }
 
 /// A refusal of take, and how many bytes were written with it.

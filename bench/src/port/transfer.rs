@@ -1,7 +1,8 @@
-//! One direction of a command: its segments, and how far they were handed out.
+//! One direction of a command: its segments, its current move, and how far they were handed out.
 
 use super::message::Residual;
 use super::request::{u32_at, u64_at};
+use super::Refusal;
 
 #[derive(Clone, Copy)]
 pub enum Direction {
@@ -34,9 +35,12 @@ pub struct Transfer {
     length: u32,
     /// What the SCSI command requires, R; 0 until planned.
     pub required: u32,
-    /// Bytes handed out.
-    pub moved: u32,
-    /// The segment at hand, and how many of its bytes were handed out.
+    /// The highest offset handed out + 1, h.
+    pub reached: u32,
+    /// What is left of the current move.
+    at: u32,
+    end: u32,
+    /// The segment at hand, and the place in it of the next byte.
     segment: usize,
     within: u32,
 }
@@ -67,6 +71,18 @@ impl SegmentList {
         }
         Some(sum)
     }
+
+    /// The segment that has the byte at an offset, and the byte's place in it. Any where no segment has it.
+    fn place(&self, offset: u32) -> (usize, u32) {
+        let mut within = offset;
+        for (segment, Segment { length, .. }) in self.0.iter().enumerate() {
+            if within < *length {
+                return (segment, within);
+            }
+            within -= length;
+        }
+        (0, 0)
+    }
 }
 
 impl Transfer {
@@ -76,12 +92,27 @@ impl Transfer {
         if total.is_some_and(|total| total != length) {
             return None;
         }
-        Some(Transfer { length, required: 0, moved: 0, segment: 0, within: 0 })
+        Some(Transfer { length, required: 0, reached: 0, at: 0, end: 0, segment: 0, within: 0 })
     }
 
-    /// The next piece, or None: done.
+    /// Begins a move of `count` bytes from `offset` on, trimmed at min(R, B).
+    pub fn name_move(&mut self, list: &SegmentList, offset: u32, count: u32) -> Result<(), Refusal> {
+        let due = self.required.min(self.length);
+        if offset > due {
+            return Err(Refusal::Offset);
+        }
+        if self.at < self.end {
+            return Err(Refusal::Unfinished);
+        }
+        self.at = offset;
+        self.end = offset.saturating_add(count).min(due);
+        (self.segment, self.within) = list.place(offset);
+        Ok(())
+    }
+
+    /// The next piece of the current move, or None: done.
     pub fn next_piece(&mut self, list: &SegmentList, max_piece: u32) -> Option<Piece> {
-        let left = self.required.min(self.length) - self.moved;
+        let left = self.end - self.at;
         if left == 0 {
             return None;
         }
@@ -93,17 +124,18 @@ impl Transfer {
         let segment = list.0[self.segment];
         let length = (segment.length - self.within).min(left).min(max_piece);
         let address = segment.address + u64::from(self.within);
-        let piece = Piece { handle: segment.handle, address, length, offset: self.moved };
+        let piece = Piece { handle: segment.handle, address, length, offset: self.at };
         self.within += length;
-        self.moved += length;
+        self.at += length;
+        self.reached = self.reached.max(self.at);
         Some(piece)
     }
 
     pub fn residual(&self) -> Residual {
         if self.required > self.length {
             Residual::Over(self.required - self.length)
-        } else if self.moved < self.length {
-            Residual::Under(self.length - self.moved)
+        } else if self.reached < self.length {
+            Residual::Under(self.length - self.reached)
         } else {
             Residual::None
         }
@@ -114,7 +146,7 @@ impl Transfer {
 mod tests {
     use super::*;
 
-    /// A transfer of segments with these lengths, at 4096, 8192 and so on.
+    /// A transfer of segments with these lengths, at 4096, 8192 and so on, with a move of all that is required.
     fn transfer(lengths: &[u32], required: u32) -> (SegmentList, Transfer) {
         let mut bytes = Vec::new();
         for (at, length) in lengths.iter().enumerate() {
@@ -124,7 +156,9 @@ mod tests {
         }
         let mut list = SegmentList::EMPTY;
         let transfer = Transfer::new(&mut list, &bytes, None).expect("no bad field");
-        (list, Transfer { required, ..transfer })
+        let mut transfer = Transfer { required, ..transfer };
+        transfer.name_move(&list, 0, required).expect("a move");
+        (list, transfer)
     }
 
     #[test]
@@ -136,6 +170,26 @@ mod tests {
         assert_eq!(next(), Some((24576, 100, 600)));
         assert_eq!(next(), None);
         assert_eq!(next(), None);
+    }
+
+    #[test]
+    fn moves_from_inside_a_segment() {
+        let (list, mut transfer) = transfer(&[0, 600, 0, 100], 650);
+        assert_eq!(transfer.name_move(&list, 0, 1), Err(Refusal::Unfinished));
+        while transfer.next_piece(&list, 512).is_some() {}
+        assert_eq!(transfer.name_move(&list, 651, 0), Err(Refusal::Offset));
+        for (offset, count, expected) in [
+            (599, u32::MAX, vec![(8192 + 599, 1, 599), (16384, 50, 600)]),
+            (50, 513, vec![(8192 + 50, 512, 50), (8192 + 562, 1, 562)]),
+            (600, 1, vec![(16384, 1, 600)]),
+            (650, 9, vec![]),
+        ] {
+            assert_eq!(transfer.name_move(&list, offset, count), Ok(()));
+            let pieces = std::iter::from_fn(|| transfer.next_piece(&list, 512));
+            let pieces: Vec<_> = pieces.map(|piece| (piece.address, piece.length, piece.offset)).collect();
+            assert_eq!(pieces, expected, "{count} bytes from {offset} on");
+        }
+        assert_eq!((transfer.reached, transfer.residual()), (650, Residual::Under(50)));
     }
 
     #[test]
