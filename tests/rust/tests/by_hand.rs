@@ -225,6 +225,9 @@ fn p3_and_p4_residuals() {
     }
     assert_eq!([taken.step(OUT), taken.step(IN)], [read(0x5000, 50, 600), write(0x5000, 100, 600)]);
     assert_eq!([taken.step(OUT), taken.step(IN)], [DONE_STEP; 2]);
+    assert_eq!([taken.name(OUT, 650, 50), taken.name(OUT, 651, 0)], [0, 31], "R is below B");
+    assert_eq!([taken.name(IN, 700, 100), taken.name(IN, 701, 0)], [0, 31], "B is below R");
+    assert_eq!([taken.step(OUT), taken.step(IN)], [DONE_STEP; 2]);
     assert_eq!(taken.finish(), (0b01_1000, [0, 0, 0, 50, 0, 0, 0, 100]), "DOUNDER by 50, DIOVER by 100");
 }
 
