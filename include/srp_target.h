@@ -37,10 +37,10 @@
  *   - For a command taken: srp_target_plan; then for each part of its data, in the order in which the device has them,
  *     srp_target_move, and srp_target_step in that direction until done, each piece posted as the RDMA operation that
  *     the answer names; then srp_target_finish. One move of offset 0 and count R is all of a direction.
- *   - The port does not know EMDP (mode page 02h, byte 12 bit 7). While it is 0, the moves of a command are named in
- *     rising order.
+ *   - The port does not know EMDP (mode page 02h, byte 12 bit 7). While it is 0, each move in a direction starts at or
+ *     behind the end of the one before it.
  *   - Data-out: RDMA Reads complete in any order. Wait for each Read's completion before its data are used. The port
- *     counts pieces handed out, not completions.
+ *     knows of pieces handed out, not of completions.
  *   - Data-in: post the RDMA Writes before the response is sent, on the same channel. The initiator then has the data
  *     when it has the response.
  *   - Once the channel is closed, its open commands are dropped and get no response. Operations already posted for

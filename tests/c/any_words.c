@@ -38,7 +38,7 @@ enum call { PLAN, MOVE, STEP_OUT, STEP_IN, FINISH, ADD, GRANT, WITHDRAW, LIST, C
 #define BIT(n)        ((uint64_t)1 << (n))
 #define WITH_A_LOGOUT (BIT(3) | BIT(4) | BIT(5) | BIT(6) | BIT(7) | BIT(8) | BIT(22) | BIT(23) | BIT(25))
 
-/* Of each call what it is lent to write, and its refusals in document 01; no argument here draws 1, 9 or 11. */
+/* Of each call what it is lent to write, and its refusals in the papers; no argument here draws 1, 9 or 11. */
 static const struct {
     const char *name;
     uint64_t writes, refusals;

@@ -4,15 +4,9 @@
 
 enum { N = 3, M = 512, TAG = 0x1234, DOOVER = 0x04, DOUNDER = 0x08, DIOVER = 0x10, DIUNDER = 0x20 };
 
-/* Both ways direct: out 1000h/1,300 with handle 7, in 5000h/700 with handle 9. */
-static const uint8_t both[32] = {
-    0, 0, 0, 0, 0, 0, 0x10, 0, 0, 0, 0, 7, 0, 0, 0x05, 0x14,
-    0, 0, 0, 0, 0, 0, 0x50, 0, 0, 0, 0, 9, 0, 0, 0x02, 0xbc,
-};
-
 static void planned_alone(uint64_t tag, uint32_t r_out, uint32_t r_in)
 {
-    taken("both ways", command_with(tag, 0, 0x11, 0, 0, BYTES(both)));
+    taken("both ways", command_both_ways(tag, 0));
     plan("plan", 0, tag, r_out, r_in);
 }
 
@@ -102,7 +96,7 @@ static void used_again(void)
     move("unfinished", 0, TAG, 0, 0, 1300);
     piece("unfinished", TAG, 0, 7, 0x1000, 512, 0);
     finished("unfinished", TAG, 1, (struct residuals){DOUNDER, 788, 0});
-    taken("the tag again", command_with(TAG, 0, 0x11, 0, 0, BYTES(both)));
+    taken("the tag again", command_both_ways(TAG, 0));
     move("29, the tag again", SRP_REFUSED_UNPLANNED, TAG, 0, 0, 0);
     finished("unplanned", TAG, 1, (struct residuals){DOUNDER | DIUNDER, 1300, 700});
     again("after the end");

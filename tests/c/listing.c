@@ -4,12 +4,6 @@
 
 enum { M = 512 };
 
-/* Out 1000h/1,300 with handle 7, in 5000h/700 with handle 9. */
-static const uint8_t both[32] = {
-    0, 0, 0, 0, 0, 0, 0x10, 0, 0, 0, 0, 7, 0, 0, 0x05, 0x14,
-    0, 0, 0, 0, 0, 0, 0x50, 0, 0, 0, 0, 9, 0, 0, 0x02, 0xbc,
-};
-
 /* Tag, LUN, h out and in are four other numbers: shows an exchange of two of them. 65 words: the rest stays. */
 static void records(void)
 {
@@ -17,7 +11,7 @@ static void records(void)
                                                            {3, 0xfedcba9876543210}};
     opened(4, M);
     list("none open", 0, SRP_LIST_WORDS, 0, NULL);
-    taken("both ways", command_with(0x8000000000000001, 0, 0x11, 0, 0, BYTES(both)));
+    taken("both ways", command_both_ways(0x8000000000000001, 0));
     planned("plan", 0x8000000000000001, 1300, 700);
     piece("out", 0x8000000000000001, 0, 7, 0x1000, 512, 0);
     piece("out", 0x8000000000000001, 0, 7, 0x1200, 512, 512);

@@ -62,6 +62,15 @@ struct bytes command_with(uint64_t tag, uint8_t bits, uint8_t formats, uint8_t o
     return (struct bytes){m, 48 + descriptors.len};
 }
 
+struct bytes command_both_ways(uint64_t tag, uint8_t bits)
+{
+    static const uint8_t both[32] = {
+        0, 0, 0, 0, 0, 0, 0x10, 0, 0, 0, 0, 7, 0, 0, 0x05, 0x14,
+        0, 0, 0, 0, 0, 0, 0x50, 0, 0, 0, 0, 9, 0, 0, 0x02, 0xbc,
+    };
+    return command_with(tag, bits, 0x11, 0, 0, BYTES(both));
+}
+
 struct bytes task(uint64_t tag, uint64_t lun, uint8_t bits, uint8_t function, uint64_t managed)
 {
     uint8_t *m = to(0x01, bits, tag);

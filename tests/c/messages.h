@@ -27,6 +27,8 @@ struct bytes login_request(uint64_t tag, uint32_t length, uint16_t formats, uint
 struct bytes command(uint64_t tag, uint64_t lun, uint8_t bits);
 struct bytes command_with(uint64_t tag, uint8_t bits, uint8_t formats, uint8_t out_count, uint8_t in_count,
                           struct bytes descriptors);
+/* Both ways direct, whose lengths are unlike: out 1000h/1,300 with handle 7, in 5000h/700 with handle 9. */
+struct bytes command_both_ways(uint64_t tag, uint8_t bits);
 struct bytes task(uint64_t tag, uint64_t lun, uint8_t bits, uint8_t function, uint64_t managed);
 struct bytes initiator_logout(uint64_t tag);
 struct bytes credit_response(uint64_t tag);

@@ -4,16 +4,10 @@
 
 enum { N = 3, M = 512, TAG = 0x1234, DOUNDER = 0x08, DIOVER = 0x10, DIUNDER = 0x20 };
 
-/* Both ways direct: out 1000h/1,300 with handle 7, in 5000h/700 with handle 9. */
-static const uint8_t both[32] = {
-    0, 0, 0, 0, 0, 0, 0x10, 0, 0, 0, 0, 7, 0, 0, 0x05, 0x14,
-    0, 0, 0, 0, 0, 0, 0x50, 0, 0, 0, 0, 9, 0, 0, 0x02, 0xbc,
-};
-
 static void both_open(uint32_t r_out, uint32_t r_in)
 {
     opened(N, M);
-    taken("both ways", command_with(TAG, 0, 0x11, 0, 0, BYTES(both)));
+    taken("both ways", command_both_ways(TAG, 0));
     plan("plan", 0, TAG, r_out, r_in);
 }
 
@@ -184,7 +178,7 @@ static void no_buffer(void)
 static void unplanned(void)
 {
     opened(N, M);
-    taken("both ways", command_with(TAG, 0, 0x11, 0, 0, BYTES(both)));
+    taken("both ways", command_both_ways(TAG, 0));
     move("move 29", SRP_REFUSED_UNPLANNED, TAG, 0, 0, 0);
     move("move 29, in", SRP_REFUSED_UNPLANNED, TAG, 1, 0, 1);
     move("move 29 before 31", SRP_REFUSED_UNPLANNED, TAG, 0, 0xffffffff, 1);

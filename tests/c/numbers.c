@@ -1,5 +1,5 @@
 /*
- * The header's numbers are document 01's and those of the C interface. SRP_PORT_WORDS is the library's own: each login
+ * The header's numbers are the papers' and those of the C interface. SRP_PORT_WORDS is the library's own: each login
  * of the driver asks for it.
  */
 #include "srp_target.h"

@@ -46,7 +46,7 @@ static size_t fetch(const uint8_t *named, uint8_t *table)
 static void owner(const uint8_t own[16], const uint8_t *login, size_t login_len, const uint8_t *msg, size_t msg_len)
 {
     static const uint32_t settings[SRP_SETTINGS] = {4, 512, 1364, 1, 1};
-    const uint32_t agreed = 1364, formats = 6, required_in = 1300;
+    const uint32_t agreed = 1364, formats = 6, required_out = 0, required_in = 1300;
     /* README.md: */
     static uint64_t port[SRP_PORT_WORDS]; static uint8_t store[SRP_STORE_BYTES]; uint64_t a[8];
     uint8_t buf[SRP_MESSAGE_BYTES], named[SRP_ANSWER_BYTES] = {0}, out[SRP_TABLE_BYTES], in[SRP_TABLE_BYTES];
@@ -58,9 +58,11 @@ static void owner(const uint8_t own[16], const uint8_t *login, size_t login_len,
     uint32_t refusal = srp_target_take(port, store, msg, msg_len, out, out_len, in, in_len, buf, sizeof buf, a);
     if (a[0]) send(buf, a[0]);                       /* an answer, also with a refusal; SRP_T_LOGOUT: then disconnect */
     if (refusal == 0 && a[1] == SRP_KIND_COMMAND) {  /* tag a[2], LUN a[3], CDB at msg + a[4], a[5] bytes */
-        uint64_t tag = a[2]; srp_target_plan(port, tag, 0, required_in);
-        srp_target_move(port, tag, SRP_DIRECTION_IN, 0, required_in);   /* all of it; or in parts, in any order */
-        while (srp_target_step(port, store, tag, SRP_DIRECTION_IN, a) == 0 && a[0]) rdma(a[1], a[2], a[3], a[4], a[5]);
+        uint64_t tag = a[2]; uint32_t required[2] = {required_out, required_in};
+        srp_target_plan(port, tag, required[SRP_DIRECTION_OUT], required[SRP_DIRECTION_IN]);
+        for (uint32_t way = SRP_DIRECTION_OUT; way <= SRP_DIRECTION_IN; way++) {
+            srp_target_move(port, tag, way, 0, required[way]);          /* all of it; or in parts, in any order */
+            while (srp_target_step(port, store, tag, way, a) == 0 && a[0]) rdma(a[1], a[2], a[3], a[4], a[5]); }
         if (srp_target_finish(port, tag, 0x00, NULL, 0, buf, sizeof buf, a) == 0) send(buf, a[0]); }
     /* end */
 }

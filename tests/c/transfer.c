@@ -4,16 +4,10 @@
 
 enum { N = 3, M = 512, TAG = 0x1234 };
 
-/* Both ways direct: out 1000h/1,300 with handle 7, in 5000h/700 with handle 9. */
-static const uint8_t both[32] = {
-    0, 0, 0, 0, 0, 0, 0x10, 0, 0, 0, 0, 7, 0, 0, 0x05, 0x14,
-    0, 0, 0, 0, 0, 0, 0x50, 0, 0, 0, 0, 9, 0, 0, 0x02, 0xbc,
-};
-
 static void both_open(void)
 {
     opened(N, M);
-    taken("both ways", command_with(TAG, 0, 0x11, 0, 0, BYTES(both)));
+    taken("both ways", command_both_ways(TAG, 0));
 }
 
 /* R 650 out, 90 in; M 512. Exchanged, it would give

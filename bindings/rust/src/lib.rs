@@ -39,9 +39,11 @@
 //!
 //! port.plan(tag, 0, 1300)?;
 //! let mut pieces = Vec::new();
-//! for operation in port.pieces(tag, Direction::In, 0, 1300)? { // the owner posts it
-//!     assert_eq!((operation.kind, operation.handle), (Kind::Write, 7));
-//!     pieces.push((operation.address, operation.length, operation.offset));
+//! for (way, required) in [(Direction::Out, 0), (Direction::In, 1300)] {
+//!     for operation in port.pieces(tag, way, 0, required)? { // the owner posts it
+//!         assert_eq!((operation.kind, operation.handle), (Kind::Write, 7));
+//!         pieces.push((operation.address, operation.length, operation.offset));
+//!     }
 //! }
 //! assert_eq!(pieces, [(0x1000, 512, 0), (0x1200, 512, 512), (0x1400, 276, 1024)]);
 //!

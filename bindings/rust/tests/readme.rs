@@ -23,7 +23,7 @@ fn table() -> [u8; 16] {
 
 #[rustfmt::skip]
 fn owner(adapter: &Adapter, settings: &Settings, own: &[u8; 16], login: &[u8], msg: &[u8]) -> Result<(), Refusal> {
-    let (agreed, formats, required_in) = (1364, BOTH_FORMATS, 1300);
+    let (agreed, formats, required_out, required_in) = (1364, BOTH_FORMATS, 0, 1300);
     let send = |message: Message| adapter.sent.borrow_mut().push(message.to_vec());
     let rdma = |operation| adapter.posted.borrow_mut().push(operation);
     let fetch = |named: Option<Fetch>| {
@@ -44,8 +44,10 @@ fn owner(adapter: &Adapter, settings: &Settings, own: &[u8; 16], login: &[u8], m
     };
     match port.take(msg, Tables { data_out: &data_out, data_in: &data_in }, &mut buf) {
         Ok(Taken::Command { tag, .. }) => {
-            port.plan(tag, 0, required_in)?;
-            for operation in port.pieces(tag, Direction::In, 0, required_in)? { rdma(operation); }
+            port.plan(tag, required_out, required_in)?;
+            for (way, required) in [(Direction::Out, required_out), (Direction::In, required_in)] {
+                for operation in port.pieces(tag, way, 0, required)? { rdma(operation); } // all of it; or in parts, in any order
+            }
             send(port.finish(tag, 0x00, &[], &mut buf)?);
         }
         Ok(Taken::Task { message, .. }) => send(message),

@@ -24,7 +24,7 @@ const LOGOUT: u64 = 4;
 
 const ALL_BITS: u64 = 18446744073709551615;
 
-// Document 01's number of a refusal.
+// The papers' number of a refusal.
 pub fn number_of(refusal: Refusal) -> u32
     ensures { λ r. ⌜ r ≡ numberOf refusal ⌝ }
 {

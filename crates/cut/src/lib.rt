@@ -1,4 +1,4 @@
-// The next piece of a direction, from its memory descriptors as bytes, and the cut with its refusals.
+// The next piece of a move, from its direction's memory descriptors as bytes, and the cut with its refusals.
 use srp::Cut;
 use srp::Piece;
 use srp::Refusal;

@@ -34,7 +34,7 @@ use Rattle.demand.specs.Replies.{replyBy, loggedIn}
 
 -- ── one record for every call
 
--- of a call with these checks, in document 01's order: what it does where none hits, and what each refusal leaves
+-- of a call with these checks, in the papers' order: what it does where none hits, and what each refusal leaves
 pub record Judgement (checks : List Check) (n : ℕ) (Performs : Type 0) (Leaves : Refusal → Type 0) : Type 0 where
   -- refused with f exactly if f is the first of the checks that hits
   pub refuses : (f : Refusal) → (n ≡ numberOf f) ↔ (firstOf checks ≡ some f)

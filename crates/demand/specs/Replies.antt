@@ -22,7 +22,7 @@ replyBy said n w = refusedOr (refusalNumbered n) (said w)
 
 -- ── the words of each call
 
--- plan, finish, add, withdraw, grant, close: none but the length of the message
+-- plan, move, finish, add, withdraw, grant, close: none but the length of the message
 abbrev pub performed : List ℕ → Reply
 performed w = Performed
 

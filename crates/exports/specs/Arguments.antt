@@ -24,7 +24,7 @@ settingsIn n =
 abbrev pub directionIn : ℕ → Direction
 directionIn n = cond (eqb n 0) Out In
 
--- a record in words: tag, LUN, bytes handed out, bytes handed in
+-- a record in words: tag, LUN, h of data-out, h of data-in
 abbrev pub recordSize : ℕ
 recordSize = 4
 

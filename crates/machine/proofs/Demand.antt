@@ -47,11 +47,11 @@ meanwhile false a b f = f a b
 
 module _ (L : Login) {S : Type 0} (view : S → Port) (Call : S → Machine → Event → Reply → List (List ℕ) → S → Type 0) (meets : Meets L view Call) (cut : Lawful (ruleOf (L .terms))) where
   from : (es : List Event) (s : S) (m : Machine) (run : Run L view Call s m es) → Ok L m (view s) → Fair L view Call s m es run → Demand L view Call s m es run
-  from [] s m run h f = now h
+  from [] s m run h f = now h cut
   from (e ∷ es) s m run h f =
       let k : Obeys L m (actionOf L e) _ =
       subst (λ (o : Outcome). Obeys L m (actionOf L e) o) (meets s m e (run .reply) (run .wrote) (run .left) (run .made)) (obeys L cut m (view s) h e (f .0)) in (
-        now h,
+        now h cut,
         k .then,
         meanwhile (closes L m e (run .reply) (run .wrote)) (k .keep) (f .1) (λ a b. from es (run .left) (after L m e (run .reply) (run .wrote)) (run .rest) a b),
       )

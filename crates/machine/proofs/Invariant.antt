@@ -15,18 +15,19 @@ use Rattle.srp.specs.Bytes.{typeOf}
 use Rattle.srp.specs.Refusals.{firstOf}
 use Rattle.srp.specs.Lists.{find, All, isSome}
 use Rattle.srp.specs.Both.{Each, each}
-use Rattle.srp.specs.Credit.{withSides, Open, Port, owed, due, withCredit, withHeld, withWanted, withUnanswered}
+use Rattle.srp.specs.Credit.{withSides, ruleOf, Open, Port, owed, due, withCredit, withHeld, withWanted, withUnanswered}
 use Rattle.srp.specs.declared.Terms.{Terms}
 use Rattle.srp.specs.Writing.{answer}
 use Rattle.srp.specs.Take.{Outcome, silent, answering, hasTag, isOpen}
 use Rattle.srp.specs.Calls.{recordOf}
 use Rattle.machine.specs.Machine.{deltaOf, deltas, requests, Track, shownAs, Wire, Work, Machine, four, lack, unused, wantedBy, tracked, requestsHeld, withWire, withWork, withBuffers, withQueue, joined, join, saysLogout, Login}
 use Rattle.machine.specs.Actions.{Action}
-use Rattle.machine.specs.Demand.{Until, Distinct, InOrder, Sum, ByLack, Lift, Now, Then}
+use Rattle.machine.specs.Demand.{Until, Distinct, InOrder, CutAsNamed, Sum, ByLack, Lift, Now, Then}
 use Rattle.srp.specs.declared.Refusal.{Refusal}
 use Rattle.srp.specs.declared.Reply.{Reply}
 use Rattle.srp.specs.declared.Reply.the-variants.{Refused}
-use Rattle.machine.proofs.Moves.{sideIn, Steady}
+use Rattle.machine.proofs.Moves.{sideIn, Steady, each-cut}
+use Rattle.srp.proofs.CutLaws.{Lawful}
 use Rattle.srp.proofs.ListLaws.{find-map, all-weaken}
 use Rattle.machine.proofs.Deltas.{Carries, answer-carries}
 
@@ -103,8 +104,8 @@ module _ {L : Login} {m : Machine} {p : Port} (h : Ok L m p) where
   wanted-same = omega (arith, h .wanted)
 
   -- what demand 3 says of the moments between events
-  pub now : Now L m p
-  now =
+  pub now : Lawful (ruleOf (L .terms)) → Now L m p
+  now cut =
       record {
         sum = sum;
         reports = rw (h .live, wanted-same, h .credit, open-held);
@@ -113,6 +114,7 @@ module _ {L : Login} {m : Machine} {p : Port} (h : Ok L m p) where
         listed = ap (map recordOf) (h .work .commands) ∙ shown-map (L .terms) (m .work .tracks);
         distinct = h .work .distinct;
         in-order = all-weaken (Sound (L .terms)) (InOrder (L .terms)) (λ t s. (s .steady .0 .order, s .steady .1 .order)) (m .work .tracks) (h .work .sound);
+        moves = all-weaken (Sound (L .terms)) (CutAsNamed (L .terms)) (λ t s. (each-cut (L .terms) cut (t .sides .out) (s .steady .0), each-cut (L .terms) cut (t .sides .inn) (s .steady .1))) (m .work .tracks) (h .work .sound);
       }
 
 -- ── what a call writes

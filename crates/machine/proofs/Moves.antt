@@ -11,6 +11,7 @@ use lib.Dec.{ltb}
 use lib.ListN.{length, take, drop, getElem?, length-append, length-take}
 use lib.Seq.{take-append-le, drop-at}
 use borrow.Author.Tests.{lt-ltb, le-ltb}
+use Rattle.srp.specs.Lists.{All}
 use Rattle.srp.specs.Descriptors.{Segment, sumOf, reachable}
 use Rattle.srp.specs.Cutting.{bytesIn, trimmed, highest, cutsOf, cuts, next}
 use Rattle.srp.specs.Credit.{Side, ruleOf}
@@ -18,11 +19,12 @@ use Rattle.srp.specs.declared.Terms.{Terms}
 use Rattle.srp.specs.Calls.{moving, handing, hasPieces, nextIn}
 use Rattle.machine.specs.Machine.{Move, Progress, movableIn, fresh, needing, withMove, withOperation}
 use Rattle.machine.specs.Events.{cutsOfAll, wholeOf, piecesLeft}
-use Rattle.machine.specs.Demand.{Prefix}
+use Rattle.machine.specs.Demand.{Prefix, EachCut}
 use Rattle.srp.specs.declared.Piece.{Piece}
 use Rattle.srp.proofs.CutLaws.{Lawful, unrolls, stops, next-at, take-more, drop-more, first-left, some-below, none-above, done-iff}
 use Rattle.srp.proofs.Pieces.{piece-fits, Fits}
-use Rattle.srp.proofs.Moves.{move-bytes}
+use Rattle.srp.proofs.Moves.{move-bytes, moves-cut}
+use Rattle.srp.proofs.ListLaws.{all-snoc, all-weaken}
 
 -- the end of the move named last, 0 where none was
 abbrev pub endOf : List Move → ℕ
@@ -47,12 +49,13 @@ sideIn T g =
     }
 
 -- the operations are the first of the moves' cuts; those left are the cuts of what is left of the move named last, which ends by min(R, B); no segment
--- passes 2^64
+-- passes 2^64; every move ends by B
 pub record Steady (T : Terms) (g : Progress) : Type 0 where
   pub order : Prefix T g
   pub left : leftOf T g ≡ cutsOf (ruleOf T) (atOf T g) (endOf (g .moves)) (g .segs)
   pub ends : endOf (g .moves) ≤ movableIn g
   pub reach : reachable (g .segs) ≡ true
+  pub bounded : All (λ m. m .to ≤ sumOf (g .segs)) (g .moves)
 
 -- ── lists
 
@@ -69,6 +72,10 @@ highest-snoc : (ps : List Piece) (p : Piece) → highest (ps ++ (p ∷ [])) ≡ 
 highest-snoc [] p = omega arith
 highest-snoc (x ∷ ps) p = omega (arith, highest-snoc ps p)
 
+-- the cuts of each move
+pub each-cut : (T : Terms) → Lawful (ruleOf T) → (g : Progress) → Steady T g → EachCut T g
+each-cut T cut g s = all-weaken _ _ (λ m e. moves-cut (T .maximum) (m .from) (m .to) (g .segs) (omega (arith, cut 0 1 (omega arith))) e) (g .moves) (s .bounded)
+
 -- one move, "offset 0, count R", has the cuts of document 01
 pub one-move : (T : Terms) (R : ℕ) (ss : List Segment) → wholeOf T (withMove 0 R (needing R (fresh ss))) ≡ cuts (ruleOf T) R ss
 one-move T R ss =
@@ -78,10 +85,10 @@ one-move T R ss =
 -- ── a command that is new, and its plan
 
 pub new-steady : (T : Terms) (ss : List Segment) → reachable ss ≡ true → Steady T (fresh ss)
-new-steady T ss r = record { order = refl; left = sym (stops (ruleOf T) 0 0 0 ss (done-iff (ruleOf T) 0 0 ss (omega arith) .1 (omega arith))); ends = omega arith; reach = r }
+new-steady T ss r = record { order = refl; left = sym (stops (ruleOf T) 0 0 0 ss (done-iff (ruleOf T) 0 0 ss (omega arith) .1 (omega arith))); ends = omega arith; reach = r; bounded = tt }
 
 pub plan-steady : (T : Terms) (r : ℕ) (g : Progress) → Steady T g → g .moves ≡ [] → Steady T (needing r g)
-plan-steady T r g s e = record { order = s .order; left = s .left; ends = rw e (omega arith); reach = s .reach }
+plan-steady T r g s e = record { order = s .order; left = s .left; ends = rw e (omega arith); reach = s .reach; bounded = s .bounded }
 
 module _ (T : Terms) (cut : Lawful (ruleOf T)) (g : Progress) (s : Steady T g) where
   ends-by : endOf (g .moves) ≤ sumOf (g .segs)
@@ -148,6 +155,7 @@ module _ (T : Terms) (cut : Lawful (ruleOf T)) (g : Progress) (s : Steady T g) w
           left = t ∙ ap (λ (k : ℕ). cutsOf (ruleOf T) k (endOf (g .moves)) (g .segs)) (sym at-next);
           ends = s .ends;
           reach = s .reach;
+          bounded = s .bounded;
         }
 
     -- and the port moves on with it
@@ -196,6 +204,7 @@ module _ (T : Terms) (cut : Lawful (ruleOf T)) (g : Progress) (s : Steady T g) w
           left = left-new ∙ (λ i. cutsOf (ruleOf T) (sym at-new i) (sym end-new i) (g .segs));
           ends = rw end-new (omega arith);
           reach = s .reach;
+          bounded = all-snoc (λ x. x .to ≤ sumOf (g .segs)) (g .moves) (record { from = offset; to = to }) (s .bounded) (omega arith);
         }
 
     pub move-side : moving offset count (sideIn T g) ≡ sideIn T new

@@ -1,4 +1,5 @@
--- Plan, step, finish, add, withdraw and grant, sending and delivery do what demand 3 says of them; steps hand out a command's own cuts in order.
+-- Plan, move, step, finish, add, withdraw and grant, sending and delivery do what demand 3 says of them; steps hand out the cuts of a command's own moves in
+-- order.
 -- Assumes nothing.
 use mathlib.Core.Path.{_≡_, refl, ap, sym, _∙_, subst}
 use mathlib.Core.Bool.{Bool, true, false, cond, true≢false, or-true}

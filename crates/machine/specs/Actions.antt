@@ -19,7 +19,7 @@ pub record Action : Type 1 where
   pub allowed : Machine → Type 0
   -- the call that it makes on the port
   pub call : Port → Machine → Outcome
-  -- document 01's checks of that call, by the machine's own counts; 21 is not among them, since closing ends the list
+  -- the papers' checks of that call, by the machine's own counts; 21 is not among them, since closing ends the list
   pub checks : Machine → List Check
   -- the machine after it, by the call's reply, before what was written joins the queue
   pub effect : Machine → Reply → Machine

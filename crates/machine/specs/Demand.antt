@@ -13,7 +13,9 @@ use Rattle.srp.specs.Bytes.{typeOf}
 use Rattle.srp.specs.Refusals.{firstOf}
 use Rattle.srp.specs.Lists.{find, All, isSome}
 use Rattle.srp.specs.Both.{Each}
-use Rattle.srp.specs.Credit.{Port, owed}
+use Rattle.srp.specs.Cutting.{cutsOf}
+use Rattle.srp.specs.Moves.{CutAsMove}
+use Rattle.srp.specs.Credit.{Port, ruleOf, owed}
 use Rattle.srp.specs.declared.Terms.{Terms}
 use Rattle.srp.specs.Take.{hasTag}
 use Rattle.srp.specs.Calls.{listing, listDef, countersDef}
@@ -47,6 +49,13 @@ Prefix T g = g .operations ≡ take (length (g .operations)) (wholeOf T g)
 abbrev pub InOrder : Terms → Track → Type 0
 InOrder T t = Each (Prefix T) (t .sides)
 
+-- the cuts of each move that was named: 1 to M long, as long as possible, inside one segment, consecutive, the move's bytes, once
+abbrev pub EachCut : Terms → Progress → Type 0
+EachCut T g = All (λ m. CutAsMove (T .maximum) (m .from) (m .to) (g .segs) (cutsOf (ruleOf T) (m .from) (m .to) (g .segs))) (g .moves)
+
+abbrev pub CutAsNamed : Terms → Track → Type 0
+CutAsNamed T t = Each (EachCut T) (t .sides)
+
 module _ (L : Login) where
   -- "limit + requests on the way + requests held + deltas on the way + owed = N + added - withdrawn", in the integers
   abbrev pub Sum : Machine → ℤ → Type 0
@@ -76,6 +85,7 @@ module _ (L : Login) where
     pub listed : listing p ≡ map shownAs (m .work .tracks)
     pub distinct : Distinct (m .work .tracks)
     pub in-order : All (InOrder (L .terms)) (m .work .tracks)
+    pub moves : All (CutAsNamed (L .terms)) (m .work .tracks)
 
   -- what holds of an event whose call gave the reply r and wrote ss
   pub record Then (m : Machine) (a : Action) (r : Reply) (ss : List (List ℕ)) : Type 0 where

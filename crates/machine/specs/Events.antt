@@ -1,4 +1,4 @@
--- Document 01, "Credit": the events of demand 3, each in one definition (specs/Actions.antt has what an event is).
+-- Document 01, "Credit", and document 02, job 1: the events of demand 3, each in one definition (specs/Actions.antt has what an event is).
 use mathlib.Core.Path.{_≡_}
 use mathlib.Core.Logic.{_↔_}
 use mathlib.Core.Bool.{Bool, true, false, cond, not, _&&_, _||_}
@@ -152,7 +152,7 @@ planning tag out inn =
       answer = anything;
     }
 
--- "those that document 01 cuts from its own segments": "A command's operations are now the cuts of its moves in the order named"
+-- "those that document 01 cuts from its own segments": "A command's operations are now the cuts of its moves in the order named, and demand 3 is read so"
 abbrev pub cutsOfAll : Rule → List Segment → List Move → List Piece
 cutsOfAll rule ss [] = []
 cutsOfAll rule ss (m ∷ ms) = cutsOf rule (m .from) (m .to) ss ++ cutsOfAll rule ss ms
@@ -160,11 +160,12 @@ cutsOfAll rule ss (m ∷ ms) = cutsOf rule (m .from) (m .to) ss ++ cutsOfAll rul
 abbrev pub wholeOf : Terms → Progress → List Piece
 wholeOf T g = cutsOfAll (ruleOf T) (g .segs) (g .moves)
 
--- by what was named and handed out: "offset above min(R, B)"; not all cuts of the moves named are among the operations
+-- 31, by R and the segments
 abbrev pub isBeyond : Direction → ℕ → Option Track → Bool
 isBeyond d offset none = false
 isBeyond d offset (some t) = ltb (movableIn (of d (t .sides))) offset
 
+-- 32, by what was named and handed out: the moves have more cuts than there were operations
 abbrev pub piecesLeft : Terms → Progress → Bool
 piecesLeft T g = ltb (length (g .operations)) (length (wholeOf T g))
 

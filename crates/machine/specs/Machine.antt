@@ -1,6 +1,6 @@
--- Document 01, "Credit", from "The two-ended machine" on, with the moves of document 02, job 1: the initiator, two queues and the port, fed the events'
--- arguments, the calls' replies and the messages written, as bytes. Of the port's state the machine is given nothing here, and D alone where specs/Demand.antt states the sum.
--- What each event does to it is specs/Events.antt.
+-- Document 01, "Credit", from "The two-ended machine" on, and document 02, job 1: the initiator, two queues and the port, fed the events' arguments, the
+-- calls' replies and the messages written, as bytes. Of the port's state the machine is given nothing here, and D alone where specs/Demand.antt states
+-- the sum. What each event does to it is specs/Events.antt.
 use mathlib.Core.Bool.{Bool, true, false, cond, _||_}
 use mathlib.Core.List.{List, [], _∷_, _++_}
 use mathlib.Core.Option.{Option}

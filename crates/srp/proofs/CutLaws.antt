@@ -207,7 +207,7 @@ pieces-move rule from to ss m = pieces-from (length (cutsOf rule from to ss)) ru
 pub pieces-all : (rule : Rule) (R : ℕ) (ss : List Segment) → Lawful rule → pieces (length (cuts rule R ss)) rule 0 (min R (sumOf ss)) ss ≡ cuts rule R ss
 pieces-all rule R ss m = pieces-move rule 0 (min R (sumOf ss)) ss m
 
--- ── done, and a piece, of any count of bytes handed out
+-- ── done, and a piece, at any offset
 
 -- no piece is left just where all that is to be cut came before
 pub none-iff : (rule : Rule) (o from to : ℕ) (ss : List Segment) → to ≤ sumOf ss → (nextFrom rule o from to ss ≡ none) ↔ (to ≤ from)

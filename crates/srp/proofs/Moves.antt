@@ -4,22 +4,25 @@ use mathlib.Core.Path.{_≡_, refl, ap, sym, _∙_}
 use mathlib.Core.Logic.{_⊎_, inl, inr, ⊎-elim}
 use mathlib.Core.Bool.{Bool, true, false}
 use mathlib.Core.List.{List, [], _∷_, _++_, append-assoc, append-nil}
-use mathlib.Core.Option.{some}
+use mathlib.Core.Option.{Option, none, some}
 use Prim.Native.Nat.{ℕ, zero, suc, _+_, _-_, _≤_, min, max}
 use native.Mathlib.Nat.{suc-add, zero-add, add-zero, sub-zero, zero-sub, add-assoc, not-suc-le-zero}
 use native.Mathlib.Omega.{arith}
 use lib.Dec.{ltb}
 use lib.ListN.{length, take, drop, getElem?}
 use lib.Seq.{take-append-add, take-at, take-nil, drop-append-add, drop-append-le, drop-nil}
-use borrow.Author.Tests.{ltb-true, ltb-false}
-use Rattle.srp.specs.Lists.{All}
+use borrow.Author.Tests.{lt-ltb, le-ltb, ltb-true, ltb-false}
+use Rattle.srp.specs.Lists.{All, isSome}
 use Rattle.srp.specs.Descriptors.{Segment, sumOf}
 use Rattle.srp.specs.Cutting.{Rule, upTo, bytesIn, highest, trimmed, cutSegment, cutsFrom, cutsOf, cuts}
 use Rattle.srp.specs.Moves.{InSegments, Consecutive, run, bytesOfSegments, bytesOfPieces, MovesCut, OwnList, EndsAt, HighestIs, HighestOfOwn}
+use Rattle.srp.specs.Credit.{ruleOf}
+use Rattle.srp.specs.Calls.{hasPieces, nextIn}
+use Rattle.srp.specs.Ranges.{HasPieces}
 use Rattle.srp.specs.declared.Piece.{Piece}
 use Rattle.srp.proofs.ListLaws.{all-weaken}
-use Rattle.srp.proofs.CutLaws.{Lawful, up-to, cutSegment-bytes, next-at, cutsFrom-bytes}
-use Rattle.srp.proofs.Pieces.{piece-fits}
+use Rattle.srp.proofs.CutLaws.{Lawful, up-to, done-iff, cutSegment-bytes, next-at, cutsFrom-bytes}
+use Rattle.srp.proofs.Pieces.{piece-fits, as-long}
 
 -- ── all the pieces
 
@@ -33,10 +36,6 @@ move-fits rule from to ss m =
     all-at _ (cutsOf rule from to ss) λ k p e.
     let f = piece-fits rule 0 (from + bytesIn (take k (cutsOf rule from to ss))) to ss p m (sym (next-at rule 0 from to ss k m) ∙ e) in
     (f .some, f .ruled, f .within)
-
-move-short : (M from to : ℕ) (ss : List Segment) → 1 ≤ M → All (λ p. p .len ≤ M) (cutsOf (upTo M) from to ss)
-move-short M from to ss m =
-    all-weaken _ (λ p. p .len ≤ M) (λ p h. omega (arith, h .1 .1)) (cutsOf (upTo M) from to ss) (move-fits (upTo M) from to ss (up-to M m))
 
 consecutive-append : (o : ℕ) (p q : List Piece) → Consecutive o p → Consecutive (o + bytesIn p) q → Consecutive o (p ++ q)
 consecutive-append o [] q a b = rw add-zero at b
@@ -59,14 +58,6 @@ cutsFrom-consecutive rule o from to (s ∷ ss) m =
 -- a move's pieces follow each other from its offset on
 pub move-consecutive : (rule : Rule) (from to : ℕ) (ss : List Segment) → Lawful rule → Consecutive from (cutsOf rule from to ss)
 move-consecutive rule from to ss m = rw zero-add at (cutsFrom-consecutive rule 0 from to ss m)
-
--- of pieces that follow each other from offset 0 on h is their bytes: with one move from 0 the residual and the listing are document 01's
-high-consecutive : (o : ℕ) (ps : List Piece) → Consecutive o ps → max o (highest ps) ≡ o + bytesIn ps
-high-consecutive o [] c = omega arith
-high-consecutive o (p ∷ ps) c = omega (arith, c .0, high-consecutive (o + p .len) ps (c .1))
-
-pub high-bytes : HighestOfOwn
-high-bytes ps c = omega (arith, high-consecutive 0 ps c)
 
 -- and have as many bytes as the move, where that ends by B
 pub move-bytes : (rule : Rule) (from to : ℕ) (ss : List Segment) → Lawful rule → to ≤ sumOf ss → bytesIn (cutsOf rule from to ss) ≡ to - from
@@ -170,6 +161,7 @@ moves-cut M from to ss m h =
     let fit = move-fits rule from to ss (up-to M m) in
     record {
       sizes = all-weaken _ _ (λ p x. (x .0, omega (arith, x .1 .1))) (cutsOf rule from to ss) fit;
+      longest = all-at _ (cutsOf rule from to ss) λ k p e. as-long M 0 (from + bytesIn (take k (cutsOf rule from to ss))) to ss p m (sym (next-at rule 0 from to ss k (up-to M m)) ∙ e);
       inside = all-weaken _ _ (λ p x. x .2) (cutsOf rule from to ss) fit;
       consecutive = move-consecutive rule from to ss (up-to M m);
       bytes = move-bytes rule from to ss (up-to M m) h;
@@ -182,6 +174,14 @@ own-list rule R ss =
     ap (λ (to : ℕ). cutsOf rule 0 to ss) e
 
 -- ── h
+
+-- of pieces that follow each other from offset 0 on h is their bytes: with one move from 0 the residual and the listing are document 01's
+high-consecutive : (o : ℕ) (ps : List Piece) → Consecutive o ps → max o (highest ps) ≡ o + bytesIn ps
+high-consecutive o [] c = omega arith
+high-consecutive o (p ∷ ps) c = omega (arith, c .0, high-consecutive (o + p .len) ps (c .1))
+
+pub high-bytes : HighestOfOwn
+high-bytes ps c = omega (arith, high-consecutive 0 ps c)
 
 pub highest-is : HighestIs
 highest-is ps = record { above = below ps (highest ps) (omega arith); met = ends ps }
@@ -197,3 +197,18 @@ highest-is ps = record { above = below ps (highest ps) (omega arith); met = ends
         later : EndsAt ps (highest ps) → (b : Bool) → ltb (p .offset + p .len) (highest ps) ≡ b → (((p ∷ ps) ≡ []) × (highest (p ∷ ps) ≡ 0)) ⊎ EndsAt (p ∷ ps) (highest (p ∷ ps))
         later e true q = inr (suc (e .0), e .1, e .2, omega (arith, e .3, ltb-true (p .offset + p .len) (highest ps) q))
         later e false q = inr (0, p, refl, omega (arith, ltb-false (p .offset + p .len) (highest ps) q))
+
+-- ── 32
+
+-- a direction's move has pieces left just where step has one to hand out
+pub has-pieces : HasPieces
+has-pieces T s m r = go (nextIn T s) refl
+  where
+    ends : s .transfer .end ≤ sumOf (s .extent .segs)
+    ends = omega (arith, r .end, r .extent .sum)
+
+    go : (v : Option Piece) → nextIn T s ≡ v → hasPieces s ≡ isSome v
+    go none e = le-ltb (s .transfer .at) (s .transfer .end) (done-iff (ruleOf T) (s .transfer .at) (s .transfer .end) (s .extent .segs) ends .0 e)
+    go (some o) e =
+        let f = piece-fits (ruleOf T) 0 (s .transfer .at) (s .transfer .end) (s .extent .segs) o (up-to (T .maximum) m) e in
+        lt-ltb (s .transfer .at) (s .transfer .end) (omega (arith, f .some, f .upto))

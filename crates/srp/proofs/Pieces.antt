@@ -9,14 +9,14 @@ use Prim.Native.Nat.{ℕ, _+_, _-_, _^_, _≤_, _<_, min}
 use native.Mathlib.Nat.{mod-eq-of-lt}
 use native.Mathlib.Omega.{arith}
 use lib.Dec.{ltb, leb}
-use borrow.Author.Tests.{ltb-true, ltb-false, leb-true}
+use borrow.Author.Tests.{ltb-true, ltb-false, leb-true, leb-false}
 use Rattle.srp.specs.Descriptors.{Segment, reachable}
-use Rattle.srp.specs.Cutting.{Rule, piece, nextFrom, next}
-use Rattle.srp.specs.Moves.{Inside, InSegments}
+use Rattle.srp.specs.Cutting.{Rule, upTo, piece, nextFrom, next}
+use Rattle.srp.specs.Moves.{Inside, InSegments, EndsSegment, AsLong}
 use Rattle.srp.specs.Calls.{wrapped}
 use Rattle.srp.specs.declared.Piece.{Piece}
 use Rattle.srp.proofs.FieldLaws.{both}
-use Rattle.srp.proofs.CutLaws.{Lawful}
+use Rattle.srp.proofs.CutLaws.{Lawful, up-to}
 
 -- so it has only bytes of that segment
 pub inside-bounds : {o : ℕ} {p : Piece} {s : Segment} → Inside o p s → (s .address ≤ p .address) × (p .address + p .len ≤ s .address + s .len)
@@ -66,6 +66,44 @@ piece-fits rule o from to (s ∷ ss) p m e = go (ltb from n) refl e (λ f. piece
         → Fits rule o from to (s ∷ ss) p
     go true q f ih = subst (Fits rule o from to (s ∷ ss)) (Option·some-injective _ p f) (first (ltb-true from n q))
     go false q f ih = later (ltb-false from n q) (ih f)
+
+-- by document 01's rule every piece is M long, or ends where the bytes or its segment do
+pub as-long : (M o from to : ℕ) (ss : List Segment) (p : Piece) → 1 ≤ M → nextFrom (upTo M) o from to ss ≡ some p
+    → AsLong M o to ss p
+as-long M o from to [] p m e = absurd (Option·none-ne-some p e)
+as-long M o from to (s ∷ ss) p m e = go (ltb from n) refl e (λ f. as-long M (o + n) (from - n) (to - n) ss p m f)
+  where
+    n : ℕ
+    n = min (s .len) to
+
+    l : ℕ
+    l = min M (n - from)
+
+    this : from < n → AsLong M o to (s ∷ ss) (piece (s .address + from) (s .handle) l (o + from))
+    this h = short (leb M (n - from)) refl (leb (s .len) to) refl
+      where
+        short : (a : Bool) → leb M (n - from) ≡ a → (b : Bool) → leb (s .len) to ≡ b
+            → AsLong M o to (s ∷ ss) (piece (s .address + from) (s .handle) l (o + from))
+        short true x b y = inl (omega (arith, leb-true M (n - from) x))
+        short false x true y = inr (inr (inl (omega (arith, leb-false M (n - from) x, leb-true (s .len) to y))))
+        short false x false y = inr (inl (omega (arith, leb-false M (n - from) x, leb-false (s .len) to y)))
+
+    later : n ≤ from → nextFrom (upTo M) (o + n) (from - n) (to - n) ss ≡ some p → AsLong M (o + n) (to - n) ss p → AsLong M o to (s ∷ ss) p
+    later h f ih =
+        let fits = piece-fits (upTo M) (o + n) (from - n) (to - n) ss p (up-to M m) f in
+        let whole : o + n ≡ o + s .len = omega (arith, fits .some, fits .upto) in
+        ⊎-elim (λ (x : p .len ≡ M). inl x)
+        (λ (x : (p .offset + p .len ≡ o + n + (to - n)) ⊎ EndsSegment (o + n) p ss).
+        inr (⊎-elim (λ (y : p .offset + p .len ≡ o + n + (to - n)). inl (omega (arith, fits .some, fits .upto)))
+        (λ (y : EndsSegment (o + n) p ss). inr (inr (subst (λ (k : ℕ). EndsSegment k p ss) whole y))) x))
+        ih
+
+    go : (b : Bool) → ltb from n ≡ b
+        → cond b (some (piece (s .address + from) (s .handle) l (o + from))) (nextFrom (upTo M) (o + n) (from - n) (to - n) ss) ≡ some p
+        → (nextFrom (upTo M) (o + n) (from - n) (to - n) ss ≡ some p → AsLong M (o + n) (to - n) ss p)
+        → AsLong M o to (s ∷ ss) p
+    go true w f ih = subst (AsLong M o to (s ∷ ss)) (Option·some-injective _ p f) (this (ltb-true from n w))
+    go false w f ih = later (ltb-false from n w) f (ih f)
 
 -- ── where the segments end by 2^64
 

@@ -12,7 +12,7 @@ use Rattle.srp.specs.Lists.{find, change, without, Rearranged}
 use Rattle.srp.specs.Refusals.{Check, firstOf, short}
 use Rattle.srp.specs.Cutting.{piece, next, trimmed}
 use Rattle.srp.specs.Both.{of, along}
-use Rattle.srp.specs.Credit.{Side, withTransfer, movable, Held, onSide, Open, ruleOf, Port, closedPort, owed, due, withHeld, withWanted, withUnanswered, withSides}
+use Rattle.srp.specs.Credit.{Side, withTransfer, withRequired, withCurrent, movable, Held, onSide, Open, ruleOf, Port, closedPort, owed, due, withHeld, withWanted, withUnanswered, withSides}
 use Rattle.srp.specs.declared.Terms.{Terms}
 use Rattle.srp.specs.Writing.{residualOf, Response, response, creditRequest, targetLogout, solicited}
 use Rattle.srp.specs.Take.{Outcome, silent, answering, closed, hasTag, isOpen}
@@ -39,8 +39,7 @@ isPlanned none = false
 isPlanned (some c) = c .planned
 
 abbrev pub requiring : ℕ → Side → Side
-requiring r s =
-    withTransfer s (record { required = r; highest = s .transfer .highest; at = s .transfer .at; end = s .transfer .end })
+requiring r s = withTransfer s (withRequired r (s .transfer))
 
 abbrev pub planned : ℕ → ℕ → Open → Open
 planned out inn c = withSides c true (along requiring (record { out = out; inn = inn }) (c .sides))
@@ -57,20 +56,16 @@ planDef p tag out inn = unless (firstOf (planChecks p tag)) p (planOutcome p tag
 
 -- ── move
 
--- the direction with another h, and what is left of its current move
-abbrev pub going : Side → (h at end : ℕ) → Side
-going s h at end = withTransfer s (record { required = s .transfer .required; highest = h; at = at; end = end })
-
--- the move named is the current one
+-- the move named is the current one; h stays
 abbrev pub moving : ℕ → ℕ → Side → Side
-moving offset count s = going s (s .transfer .highest) offset (trimmed offset count (movable s))
+moving offset count s = withTransfer s (withCurrent (s .transfer .highest) offset (trimmed offset count (movable s)) (s .transfer))
 
 -- "31 offset above min(R, B)"
 abbrev pub beyond : Direction → ℕ → Option Open → Bool
 beyond d offset none = false
 beyond d offset (some c) = ltb (movable (of d (c .sides))) offset
 
--- "32 the direction's earlier move still has pieces"
+-- "32 the direction's earlier move still has pieces": just where step would hand one out (`HasPieces`, specs/Ranges.antt)
 abbrev pub hasPieces : Side → Bool
 hasPieces s = ltb (s .transfer .at) (s .transfer .end)
 
@@ -105,7 +100,8 @@ kindOf In = Write
 
 -- n bytes more of the current move are handed out
 abbrev pub handing : ℕ → Side → Side
-handing n s = going s (max (s .transfer .highest) (s .transfer .at + n)) (s .transfer .at + n) (s .transfer .end)
+handing n s =
+    let to : ℕ = s .transfer .at + n in withTransfer s (withCurrent (max (s .transfer .highest) to) to (s .transfer .end) (s .transfer))
 
 -- the next piece of a direction's current move
 abbrev pub nextIn : Terms → Side → Option Piece

@@ -30,6 +30,13 @@ withTransfer s g = record { extent = s .extent; transfer = g }
 abbrev pub unmoved : Transfer
 unmoved = record { required = 0; highest = 0; at = 0; end = 0 }
 
+-- with another R; with another h and another current move
+abbrev pub withRequired : ℕ → Transfer → Transfer
+withRequired r t = record { required = r; highest = t .highest; at = t .at; end = t .end }
+
+abbrev pub withCurrent : (highest at end : ℕ) → Transfer → Transfer
+withCurrent highest at end t = record { required = t .required; highest = highest; at = at; end = end }
+
 -- min(R, B)
 abbrev pub movable : Side → ℕ
 movable s = min (s .transfer .required) (s .extent .total)

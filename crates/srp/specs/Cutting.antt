@@ -61,7 +61,7 @@ cutsOf rule from to ss = cutsFrom rule 0 from to ss
 abbrev pub cuts : Rule → ℕ → List Segment → List Piece
 cuts rule R ss = cutsOf rule 0 (min R (sumOf ss)) ss
 
--- "A move is trimmed at min(R, B)", here `most`
+-- where a move ends: "A move is trimmed at min(R, B)", here `most`
 abbrev pub trimmed : (offset count most : ℕ) → ℕ
 trimmed offset count most = min (offset + count) most
 

@@ -24,6 +24,15 @@ abbrev pub InSegments : ℕ → Piece → List Segment → Type 0
 InSegments o p [] = ⊥
 InSegments o p (s ∷ ss) = Inside o p s ⊎ InSegments (o + s .len) p ss
 
+-- it ends where one of the segments does
+abbrev pub EndsSegment : ℕ → Piece → List Segment → Type 0
+EndsSegment o p [] = ⊥
+EndsSegment o p (s ∷ ss) = (p .offset + p .len ≡ o + s .len) ⊎ EndsSegment (o + s .len) p ss
+
+-- it is M long, or ends where the move does, `to` bytes behind the first of the segments, or where its segment does
+abbrev pub AsLong : (M o to : ℕ) → List Segment → Piece → Type 0
+AsLong M o to ss p = (p .len ≡ M) ⊎ (p .offset + p .len ≡ o + to) ⊎ EndsSegment o p ss
+
 -- each piece starts where the one before it ends
 abbrev pub Consecutive : ℕ → List Piece → Type 0
 Consecutive o [] = Unit {0}
@@ -44,9 +53,11 @@ bytesOfPieces (p ∷ ps) = run (p .handle) (p .address) (p .len) ++ bytesOfPiece
 
 -- ── the cuts of a move
 
--- 1 to M long, each inside one segment, one behind the other from the move's offset on, and together the move's bytes, in order, once
+-- 1 to M long, "each piece as long as possible", each inside one segment, one behind the other from the move's offset on, and together the move's bytes, in
+-- order, once
 pub record CutAsMove (M from to : ℕ) (ss : List Segment) (ps : List Piece) : Type 0 where
   pub sizes : All (λ p. (1 ≤ p .len) × (p .len ≤ M)) ps
+  pub longest : All (λ p. AsLong M 0 to ss p) ps
   pub inside : All (λ p. InSegments 0 p ss) ps
   pub consecutive : Consecutive from ps
   pub bytes : bytesIn ps ≡ to - from
@@ -62,11 +73,11 @@ OwnList = (rule : Rule) (R : ℕ) (ss : List Segment) → cuts rule R ss ≡ cut
 
 -- ── h
 
--- one of the pieces ends at h: its last byte has the offset h - 1
+-- one of the pieces ends at h: as each has a byte, its last one has the offset h - 1
 abbrev pub EndsAt : List Piece → ℕ → Type 0
 EndsAt ps h = (k : ℕ) × (p : Piece) × (getElem? ps k ≡ some p) × (p .offset + p .len ≡ h)
 
--- no byte handed out has the offset h or a higher one, and the last byte of a piece has h - 1; 0 where nothing was handed out
+-- no byte handed out has the offset h or a higher one, and a piece ends there; 0 where nothing was handed out
 pub record IsHighest (ps : List Piece) (h : ℕ) : Type 0 where
   pub above : All (λ p. p .offset + p .len ≤ h) ps
   pub met : ((ps ≡ []) × (h ≡ 0)) ⊎ EndsAt ps h

@@ -108,7 +108,7 @@ fetchLine = 0x66 ∷ 0x65 ∷ 0x74 ∷ 0x63 ∷ 0x68 ∷ 0x0a ∷ []
 abbrev pub noTables : Tables
 noTables = record { out = []; inn = [] }
 
--- "M = 512, R = B"
+-- "M = 512, R = B"; "one move each way, offset 0, count R"
 abbrev pub wholeCuts : List Segment → List Piece
 wholeCuts ss = cuts (upTo 512) (sumOf ss) ss
 

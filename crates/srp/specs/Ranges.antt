@@ -7,14 +7,15 @@ use Prim.Native.Nat.{ℕ, _+_, _^_, _≤_, _<_}
 use lib.ListN.{length}
 use Rattle.srp.specs.Limits.{mostBuffers, largestPiece}
 use Rattle.srp.specs.Messages.{tag}
-use Rattle.srp.specs.Lists.{All}
+use Rattle.srp.specs.Lists.{All, isSome}
 use Rattle.srp.specs.Descriptors.{sumOf, reachable}
 use Rattle.srp.specs.Both.{Each}
 use Rattle.srp.specs.Credit.{Extent, Side, movable, Open, Port, closedPort}
 use Rattle.srp.specs.Take.{Tables, takeDef}
-use Rattle.srp.specs.Calls.{planDef, moveDef, stepDef, finishDef, addDef, withdrawDef, grantDef, closeDef}
+use Rattle.srp.specs.Calls.{hasPieces, nextIn, planDef, moveDef, stepDef, finishDef, addDef, withdrawDef, grantDef, closeDef}
 use Rattle.srp.specs.Login.{loginDef}
 use Rattle.srp.specs.declared.Settings.{Settings}
+use Rattle.srp.specs.declared.Terms.{Terms}
 use Rattle.srp.specs.declared.Direction.{Direction}
 use Rattle.srp.specs.Bytes.{Bytes}
 
@@ -31,6 +32,10 @@ pub record SideRanges (s : Side) : Type 0 where
   pub at : s .transfer .at ≤ s .transfer .end
   pub end : s .transfer .end ≤ movable s
   pub required : s .transfer .required < 2 ^ 32
+
+-- of such a direction, 32 is drawn just where step has a piece to hand out
+abbrev pub HasPieces : Type 0
+HasPieces = (T : Terms) (s : Side) → 1 ≤ T .maximum → SideRanges s → hasPieces s ≡ isSome (nextIn T s)
 
 -- an open command: its tag has 8 bytes, and R is 0 until it is planned
 pub record OpenRanges (c : Open) : Type 0 where

@@ -1,5 +1,5 @@
--- Document 01, "From the message or the caller" and "From what went before": the refusals' numbers, what take does at each, and which check
--- comes first.
+-- Document 01, "From the message or the caller" and "From what went before", and document 02, job 1: the refusals' numbers, what take does at each, and
+-- which check comes first.
 use mathlib.Core.Bool.{Bool, cond}
 use mathlib.Core.List.{List, [], _∷_}
 use mathlib.Core.Option.{Option, none, some}
@@ -47,6 +47,7 @@ entry NotOwed = (27, altersNothing)
 entry Wanted = (28, altersNothing)
 entry Unplanned = (29, altersNothing)
 entry Planned = (30, altersNothing)
+-- from document 02
 entry Offset = (31, altersNothing)
 entry Unfinished = (32, altersNothing)
 

@@ -15,7 +15,7 @@ use Rattle.srp.specs.Login.{loginDef}
 use Rattle.srp.specs.declared.Settings.{Settings}
 use Rattle.srp.specs.Outside.{CReturn, lookInC, cutInC, cutlist, noTables}
 use Rattle.srp.specs.declared.Direction.{Direction}
-use Rattle.srp.specs.declared.Direction.the-variants.{In}
+use Rattle.srp.specs.declared.Direction.the-variants.{Out, In}
 use Rattle.srp.specs.declared.Kind.{Kind}
 use Rattle.srp.specs.declared.Kind.the-variants.{Read, Write}
 use Rattle.srp.specs.declared.Record.{Record}
@@ -28,7 +28,7 @@ pub data Act : Type 0 where
   logs-in : Settings → ℕ → List ℕ → Act
   takes : ℕ → List ℕ → Tables → Act
   plans : ℕ → ℕ → ℕ → Act
-  moves : ℕ → Direction → ℕ → ℕ → Act
+  names : ℕ → Direction → ℕ → ℕ → Act
   steps : ℕ → Direction → Act
   finishes : ℕ → ℕ → ℕ → List ℕ → Act
   adds : ℕ → Act
@@ -104,7 +104,7 @@ abbrev pub act : Port → Act → Outcome × Seen
 act p (logs-in c room s) = called (loginDef c own room s)
 act p (takes room s t) = called (takeDef p room s t)
 act p (plans tag out inn) = called (planDef p tag out inn)
-act p (moves tag d offset count) = called (moveDef p tag d offset count)
+act p (names tag d offset count) = called (moveDef p tag d offset count)
 act p (steps tag d) = called (stepDef p tag d)
 act p (finishes room tag status sense) = called (finishDef p room tag status sense)
 act p (adds k) = called (addDef p k)
@@ -202,9 +202,9 @@ with-table s table = takes 132 s (record { out = []; inn = table })
 abbrev pub finish : ℕ → Act
 finish tag = finishes 132 tag 0 []
 
--- a plan of command 9 with R each way, and the whole of data-in as one move
+-- a plan of command 9 with data-in alone, and "one move each way, offset 0, count R"
 abbrev pub plans-in : ℕ → List Act
-plans-in r = plans 9 0 r ∷ moves 9 In 0 r ∷ []
+plans-in r = plans 9 0 r ∷ names 9 Out 0 0 ∷ names 9 In 0 r ∷ []
 
 abbrev pub steps-in : ℕ → List Act
 steps-in zero = []

@@ -1,9 +1,9 @@
 // The types that the definitions of specs/ share with the code: what is refused, what a message says, what a call answers.
-// Document 01's numbers and values for each case stand in specs/Refusals.antt and specs/Answers.antt. A field `inn` is data-in's: `in` is a keyword.
+// The papers' numbers and values for each case stand in specs/Refusals.antt and specs/Answers.antt. A field `inn` is data-in's: `in` is a keyword.
 
 pub mod limits;
 
-// Why a call is refused, in the order of document 01's numbers.
+// Why a call is refused, in the order of the papers' numbers.
 pub enum Refusal {
     ShortBuffer,
     Setting,

@@ -69,7 +69,7 @@ pub fn drop_commands(s: &mut [u64], first: usize, which: Ending)
         let r = commands::load_request(s, i);
         if !ended(which, r) {
             if kept < i {
-                commands::move_slot(s, i, kept);
+                commands::shift_slot(s, i, kept);
             }
             kept += 1;
         }

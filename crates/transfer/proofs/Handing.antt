@@ -49,8 +49,8 @@ module _ {l : List ℕ} {tag i : ℕ} (F : FoundAt l tag i) (live : headOf l .li
     read-side : (st : List ℕ) → of d (here st .sides) ≡ sideOf st (placeAt d (getD (slots l) i noSlot .place)) p
     read-side st = side-read st (getD (slots l) i noSlot) d (P .whole) refl
 
-    same-limit : (st : List ℕ) {b : Bool} → ltb (min (p .transfer .required) (p .total)) offset ≡ b → ltb (movable (of d (here st .sides))) offset ≡ b
-    same-limit st e = ap (λ (s : Side). ltb (movable s) offset) (read-side st) ∙ e
+    same-bound : (st : List ℕ) {b : Bool} → ltb (min (p .transfer .required) (p .total)) offset ≡ b → ltb (movable (of d (here st .sides))) offset ≡ b
+    same-bound st e = ap (λ (s : Side). ltb (movable s) offset) (read-side st) ∙ e
 
     same-pieces : (st : List ℕ) {b : Bool} → ltb (p .transfer .at) (p .transfer .end) ≡ b → hasPieces (of d (here st .sides)) ≡ b
     same-pieces st e = ap (λ (s : Side). hasPieces s) (read-side st) ∙ e
@@ -58,12 +58,12 @@ module _ {l : List ℕ} {tag i : ℕ} (F : FoundAt l tag i) (live : headOf l .li
     -- 31
     pub too-far : min (p .transfer .required) (p .total) < offset → Names l l tag d offset count (Refused Offset)
     too-far e st =
-        replies-by (move-beyond (view l st) tag d offset count (open-view st) (here st) (found-first F live st) planned (same-limit st (lt-ltb (min (p .transfer .required) (p .total)) offset e)))
+        replies-by (move-beyond (view l st) tag d offset count (open-view st) (here st) (found-first F live st) planned (same-bound st (lt-ltb (min (p .transfer .required) (p .total)) offset e)))
         (refused l st Offset)
 
     module _ (low : offset ≤ min (p .transfer .required) (p .total)) where
       within : (st : List ℕ) → ltb (movable (of d (here st .sides))) offset ≡ false
-      within st = same-limit st (le-ltb (min (p .transfer .required) (p .total)) offset low)
+      within st = same-bound st (le-ltb (min (p .transfer .required) (p .total)) offset low)
 
       -- 32
       pub under-way : p .transfer .at < p .transfer .end → Names l l tag d offset count (Refused Unfinished)

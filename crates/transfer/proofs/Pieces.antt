@@ -99,9 +99,9 @@ module _ (n : Option Piece) {r : Cut} (is : r ≡ nextWrapped n) where
       go none q = let z : _≡_ {A = ℕ} 0 1 = cc in let y : ⊥ = omega arith in absurd y
       go (some o) q = (o, refl, (cc))
 
--- ── the bytes handed out
+-- ── the move's next byte
 
--- with the next piece the move's next byte stays in 32 bits
+-- behind the next piece it stays in 32 bits
 pub next-fits : (l st : List ℕ) (T : Terms) (at : ℕ) (p : Part) {r : Cut} (m : Piece) → T ≡ headOf l .terms → p .transfer .end < 2 ^ 32
     → r ≡ nextWrapped (nextIn T (sideOf st at p)) → r ≡ CutPiece m → p .transfer .at + m .len < 2 ^ 32
 next-fits l st T at p m settled small is f =

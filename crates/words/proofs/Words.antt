@@ -1,4 +1,4 @@
--- Single words of a port written: what the head says then, and what a slot says; and a slot's words moved to another.
+-- Single words of a port written: what the head says then, and what a slot says; and a slot's words shifted to another.
 -- Assumes nothing.
 use mathlib.Core.Path.{_≡_, refl, sym, _∙_, ap, subst}
 use mathlib.Core.Bool.{Bool}
@@ -118,7 +118,7 @@ module _ (l : List ℕ) (long : length l ≡ portWords) (i : ℕ) (h : i < mostS
       said Out = ap (λ (r : List ℕ). slotOf (set (set (set r (partAt Out + 3) n) (partAt Out + 4) at) (partAt Out + 5) end)) whole ∙ simp (mod-eq-of-lt bn, mod-eq-of-lt ba, mod-eq-of-lt be)
       said In = ap (λ (r : List ℕ). slotOf (set (set (set r (partAt In + 3) n) (partAt In + 4) at) (partAt In + 5) end)) whole ∙ simp (mod-eq-of-lt bn, mod-eq-of-lt ba, mod-eq-of-lt be)
 
--- ── a slot's words moved to another
+-- ── a slot's words shifted to another
 
 -- lists that agree in their first usedWords words say the same command
 slot-same : (r r′ : List ℕ) → take usedWords r′ ≡ take usedWords r → slotOf r′ ≡ slotOf r
@@ -130,20 +130,20 @@ abbrev mixed : List ℕ → ℕ → ℕ → ℕ → List ℕ
 mixed l k i j = paste (region l i) 0 (region l k) j
 
 -- the words l′ are l but for the first j words of slot i, which are those of slot k
-pub record Moving (l l′ : List ℕ) (k i j : ℕ) : Type 0 where
+pub record Shifting (l l′ : List ℕ) (k i j : ℕ) : Type 0 where
   pub turn : j ≤ usedWords
   pub same-long : length l′ ≡ length l
   pub only : OnlySlot l l′ i (mixed l k i j)
 
 module _ (l : List ℕ) (long : length l ≡ portWords) (k i : ℕ) (h : k < mostSlots) (g : i < k) where
   -- before the first word
-  pub move-start : Moving l l k i 0
-  move-start = record { turn = omega arith; same-long = refl; only = unwritten l i }
+  pub shift-start : Shifting l l k i 0
+  shift-start = record { turn = omega arith; same-long = refl; only = unwritten l i }
 
   -- one word more
-  pub move-more : (l′ : List ℕ) (j : ℕ) → Moving l l′ k i j → j < usedWords
-      → Moving l (set l′ (slotAt i + j) (getD l′ (slotAt k + j) 0)) k i (j + 1)
-  move-more l′ j C q =
+  pub shift-more : (l′ : List ℕ) (j : ℕ) → Shifting l l′ k i j → j < usedWords
+      → Shifting l (set l′ (slotAt i + j) (getD l′ (slotAt k + j) 0)) k i (j + 1)
+  shift-more l′ j C q =
       let x : ℕ = getD l′ (slotAt k + j) 0 in
       let said : x ≡ getD (region l k) j 0 =
       sym (word-at l′ k j (omega arith)) ∙ ap (λ (r : List ℕ). getD r j 0) (C .only .others k (λ e. omega arith)) in
@@ -159,8 +159,8 @@ module _ (l : List ℕ) (long : length l ≡ portWords) (k i : ℕ) (h : k < mos
       }
 
   -- all that are used: the slot has the command
-  pub moved : (l′ : List ℕ) (j : ℕ) → Moving l l′ k i j → usedWords ≤ j → SlotChanged l l′ i (λ _. getD (slots l) k noSlot)
-  moved l′ j C q =
+  pub shifted : (l′ : List ℕ) (j : ℕ) → Shifting l l′ k i j → usedWords ≤ j → SlotChanged l l′ i (λ _. getD (slots l) k noSlot)
+  shifted l′ j C q =
       let e : j ≡ usedWords = omega (arith, C .turn) in
       let O : OnlySlot l l′ i (mixed l k i usedWords) = subst (λ (n : ℕ). OnlySlot l l′ i (mixed l k i n)) e (C .only) in
       let same : take usedWords (mixed l k i usedWords) ≡ take usedWords (region l k) = take-paste (region l i) 0 (region l k) usedWords (omega arith) (omega (arith, slot-long l long k h)) in

@@ -8,7 +8,7 @@ use lib.ListN.{take, drop, getD}
 use Rattle.srp.specs.Limits.{mostCopies}
 use Rattle.srp.specs.Bytes.{bit}
 use Rattle.srp.specs.Both.{Both, of, alter, along}
-use Rattle.srp.specs.Credit.{unmoved}
+use Rattle.srp.specs.Credit.{unmoved, withRequired, withCurrent}
 use Rattle.srp.specs.declared.Direction.{Direction}
 use Rattle.srp.specs.declared.Direction.the-variants.{Out, In}
 use Rattle.srp.specs.declared.Request.{Request}
@@ -138,15 +138,11 @@ abbrev pub partWith : Part → Transfer → Part
 partWith p t = record { segments = p .segments; total = p .total; transfer = t }
 
 abbrev pub requiringOf : ℕ → Part → Part
-requiringOf r p =
-    partWith p (record { required = r; highest = p .transfer .highest; at = p .transfer .at; end = p .transfer .end })
+requiringOf r p = partWith p (withRequired r (p .transfer))
 
 abbrev pub plannedSlot : ℕ → ℕ → Slot → Slot
 plannedSlot out inn c = withParts c true (along requiringOf (record { out = out; inn = inn }) (partsOf c))
 
-abbrev pub movingOf : ℕ → ℕ → ℕ → Part → Part
-movingOf h at end p = partWith p (record { required = p .transfer .required; highest = h; at = at; end = end })
-
 -- a slot with another h and another current move of a direction
 abbrev pub movedSlot : Direction → ℕ → ℕ → ℕ → Slot → Slot
-movedSlot d h at end c = withParts c (c .planned) (alter d (movingOf h at end) (partsOf c))
+movedSlot d h at end c = withParts c (c .planned) (alter d (λ p. partWith p (withCurrent h at end (p .transfer))) (partsOf c))

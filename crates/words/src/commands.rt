@@ -18,7 +18,7 @@ ghost use Rattle.words.specs.Head.{SlotChanged};
 // Words of a slot: the request's four, whether a plan was stated, the place, and those of each direction.
 const PLANNED: usize = 4;
 
-const AT: usize = 5;
+const PLACE_AT: usize = 5;
 
 const OUT: usize = 6;
 
@@ -88,7 +88,7 @@ fn slot_of(r: &[u64]) -> Slot
     Slot {
         request: request,
         planned: r[PLANNED] % 2 == 1,
-        place: (r[AT] % PLACES) as u8,
+        place: (r[PLACE_AT] % PLACES) as u8,
         out: out,
         inn: inn,
     }
@@ -159,7 +159,7 @@ pub fn load_place(s: &[u64], i: usize) -> u8
     requires { ⌜ i < mostSlots ⌝ }
     ensures { λ r. ⌜ (r ≡ getD (slots (now (s .entry))) i noSlot .place) × (r < mostSlots) ⌝ }
 {
-    (s[SLOT * i + HEAD + AT] % PLACES) as u8
+    (s[SLOT * i + HEAD + PLACE_AT] % PLACES) as u8
 }
 
 // Where the words of a direction stand in a slot.
@@ -194,7 +194,7 @@ pub fn save(s: &mut [u64], i: usize, c: Slot)
 }
 
 // The command in slot `from` put into slot `to` before it.
-pub fn move_slot(s: &mut [u64], from: usize, to: usize)
+pub fn shift_slot(s: &mut [u64], from: usize, to: usize)
     requires { ⌜ length (now s) ≡ portWords ⌝ }
     requires { ⌜ from < mostSlots ⌝ }
     requires { ⌜ to < from ⌝ }

@@ -11,7 +11,7 @@ use Rattle.state.proofs.drop_commands.Reads as reads
 use Rattle.state.proofs.drop_commands.Lts as lts
 use Rattle.state.proofs.ended.Reads as ended-reads
 use Rattle.words.proofs.commands.load_request.Reads as load-request-reads
-use Rattle.words.proofs.commands.move_slot.Reads as move-slot-reads
+use Rattle.words.proofs.commands.shift_slot.Reads as shift-slot-reads
 use Rattle.words.proofs.get_head.Reads as get-head-reads
 use Rattle.words.proofs.set_counts.Reads as set-counts-reads
 
@@ -44,8 +44,8 @@ ended-requires c κs =
     search needs
 
 -- src/lib.rt:72:17
-move-slot-requires : tie.Need-move-slot-requires Inv-loop μ-loop
-move-slot-requires c κs =
+shift-slot-requires : tie.Need-shift-slot-requires Inv-loop μ-loop
+shift-slot-requires c κs =
     search needs
 
 -- src/lib.rt:74:13
@@ -105,7 +105,7 @@ drop-commands-spec =
     loop-holds
     load-request-requires
     ended-requires
-    move-slot-requires
+    shift-slot-requires
     add-kept
     add-i
     loop-less
