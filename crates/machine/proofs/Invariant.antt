@@ -138,7 +138,7 @@ pub record Obeys (L : Login) (m : Machine) (a : Action) (o : Outcome) : Type 0 w
   pub keep : Until (a .closes m (o .reply) || saysLogout (o .wrote)) (Ok L (join (a .effect m (o .reply)) (o .wrote)) (o .port))
 
 pub obeying : {L : Login} (m : Machine) (a : Action) (o : Outcome) → Fine L (a .effect m (o .reply)) (a .closes m (o .reply)) o → map typeOf (o .wrote) ≡ a .writes m (o .reply)
-    → ((f : Refusal) → (o .reply ≡ Refused f) ↔ (firstOf (a .checks m) ≡ some f)) → a .answer m (o .reply) → Obeys L m a o
+    → ((f : Refusal) → (o .reply ≡ Refused f) ↔ (firstOf (a .checks m) ≡ some f)) → a .answer m (o .reply) (o .wrote) → Obeys L m a o
 obeying m a o f w r s = record { then = record { lift = f .lift; wrote = w; refuses = r; answer = s }; keep = f .keep }
 
 pub nothing-lifts : {L : Login} (m : Machine) → Lift L m []

@@ -4,7 +4,7 @@
 use mathlib.Core.Path.{_≡_, refl, ap, sym, _∙_, subst}
 use mathlib.Core.Bool.{Bool, true, false, cond, true≢false, or-true}
 use mathlib.Core.List.{List, [], _∷_, _++_, map}
-use mathlib.Core.Option.{Option, none, some, Option·map, Option·none-ne-some}
+use mathlib.Core.Option.{Option, none, some, Option·map, Option·none-ne-some, Option·some-injective}
 use Prim.Native.Nat.{ℕ, _+_, _-_, _≤_}
 use native.Mathlib.Omega.{arith}
 use lib.Dec.{ltb}
@@ -18,7 +18,7 @@ use Rattle.srp.specs.Requests.{isRequest}
 use Rattle.srp.specs.Both.{of}
 use Rattle.srp.specs.Credit.{Side, movable, withSides, onSide, Open, ruleOf, Port, due, withHeld}
 use Rattle.srp.specs.declared.Terms.{Terms}
-use Rattle.srp.specs.Writing.{creditRequest}
+use Rattle.srp.specs.Writing.{response, creditRequest}
 use Rattle.srp.specs.Take.{Outcome, silent, answering, hasTag, isOpen}
 use Rattle.srp.specs.Calls.{unless, isPlanned, planned, planChecks, planDef, moving, beyond, hasPieces, unfinished, moveChecks, moveDef, kindOf, handing, nextIn, nextOf, wrapped, handOut, stepChecks, stepDef, finalOf, finalResponse, finishChecks, finishDef, addChecks, addDef, withdrawChecks, withdrawDef, grantChecks, grantDef}
 use Rattle.srp.specs.Answers.{refusalIn}
@@ -104,7 +104,7 @@ module _ {L : Login} {m : Machine} {p : Port} (h : Ok L m p) where
   record Unrefused (c : Owners) (x : Outcome) : Type 0 where
     fine : Fine L (c .effect m (x .reply)) false x
     wrote : map typeOf (x .wrote) ≡ c .writes
-    answer : c .answer m (x .reply)
+    answer : c .answer m (x .reply) (x .wrote)
 
   -- a call that its first check v refuses, and that otherwise comes to x
   owned : (c : Owners) (v : Option Refusal) (x : Outcome) → v ≡ firstOf (c .checks m) → refusalIn (x .reply) ≡ none
@@ -160,6 +160,10 @@ module _ {L : Login} {m : Machine} {p : Port} (h : Ok L m p) where
         answer = tt;
       }
 
+  -- the port's command is the machine's
+  found : (tag : ℕ) (t : Track) → tracked m tag ≡ some t → find (hasTag tag) (p .held) ≡ some (openIn (L .terms) t)
+  found tag t f = find-same h tag ∙ ap (Option·map (openIn (L .terms))) f
+
   pub finish-obeys : (room tag st : ℕ) (se : List ℕ) → Obeys L m (byOwner (finishing room tag st se)) (finishDef p room tag st se)
   finish-obeys room tag st se =
       owned (finishing room tag st se) (firstOf (finishChecks p room tag st se)) _ (rw (h .live, open-same h tag)) refl λ z.
@@ -171,7 +175,7 @@ module _ {L : Login} {m : Machine} {p : Port} (h : Ok L m p) where
         sound = all-without (Sound (L .terms)) (hasTag tag) (m .work .tracks) (h .work .sound);
         distinct = distinct-without (hasTag tag) (m .work .tracks) (h .work .distinct);
       }) in
-      ends (find (hasTag tag) (p .held)) is-open o
+      ends (find (hasTag tag) (p .held)) refl is-open o
     where
       p′ : Port
       p′ = withHeld p (p .announced) (without (hasTag tag) (p .held))
@@ -179,13 +183,14 @@ module _ {L : Login} {m : Machine} {p : Port} (h : Ok L m p) where
       w : Work
       w = finishing room tag st se .effect m Performed .work
 
-      ends : (c : Option Open) → isSome c ≡ true → Ok L (withWork m w) p′ → Unrefused (finishing room tag st se) (answering p′ Performed (finalResponse c st se))
-      ends none e o = absurd (true≢false (sym e))
-      ends (some c) e o = record { fine = responds o Performed (finalResponse (some c) st se) (response-carries (finalOf c st se (due p′)) (few o)); wrote = refl; answer = tt }
-
-  -- the port's command is the machine's
-  found : (tag : ℕ) (t : Track) → tracked m tag ≡ some t → find (hasTag tag) (p .held) ≡ some (openIn (L .terms) t)
-  found tag t f = find-same h tag ∙ ap (Option·map (openIn (L .terms))) f
+      ends : (c : Option Open) → find (hasTag tag) (p .held) ≡ c → isSome c ≡ true → Ok L (withWork m w) p′ → Unrefused (finishing room tag st se) (answering p′ Performed (finalResponse c st se))
+      ends none f e o = absurd (true≢false (sym e))
+      ends (some c) f e o =
+          record {
+            fine = responds o Performed (finalResponse (some c) st se) (response-carries (finalOf c st se (due p′)) (few o));
+            wrote = refl;
+            answer = λ t g. (due p′, ap (λ (x : Open). response (finalOf x st se (due p′)) ∷ []) (Option·some-injective c (openIn (L .terms) t) (sym f ∙ found tag t g)));
+          }
 
   plan-same : (tag : ℕ) → isPlanned (find (hasTag tag) (p .held)) ≡ isPlanned (tracked m tag)
   plan-same tag = ap isPlanned (find-same h tag) ∙ by-case (tracked m tag)

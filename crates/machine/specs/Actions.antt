@@ -27,15 +27,15 @@ pub record Action : Type 1 where
   pub writes : Machine → Reply → List ℕ
   -- whether the channel is closed by what was taken
   pub closes : Machine → Reply → Bool
-  -- what demand 3 asks of the reply
-  pub answer : Machine → Reply → Type 0
+  -- what demand 3 asks of the reply and of the messages written
+  pub answer : Machine → Reply → List (List ℕ) → Type 0
 
 -- where nothing is said
 abbrev pub always : Machine → Type 0
 always m = Unit {0}
 
-abbrev pub anything : Machine → Reply → Type 0
-anything m r = Unit {0}
+abbrev pub anything : Machine → Reply → List (List ℕ) → Type 0
+anything m r ss = Unit {0}
 
 -- the one or the other, by whether a call was refused
 abbrev pub unlessRefused : {A : Type 0} → Option Refusal → A → A → A
@@ -60,14 +60,14 @@ between allowed effect =
       answer = anything;
     }
 
--- a call of the owner's; its effect, what it writes and what is asked of its reply are those of a call that is not refused:
+-- a call of the owner's; its effect, what it writes and what is asked of that and of its reply are those of a call that is not refused:
 -- "Else a call, refused or not, changes none of this"
 pub record Owners : Type 1 where
   pub call : Port → Outcome
   pub checks : Machine → List Check
   pub effect : Machine → Reply → Machine
   pub writes : List ℕ
-  pub answer : Machine → Reply → Type 0
+  pub answer : Machine → Reply → List (List ℕ) → Type 0
 
 abbrev pub byOwner : Owners → Action
 byOwner o =
@@ -78,5 +78,5 @@ byOwner o =
       effect = λ m r. unlessRefused (refusalIn r) m (o .effect m r);
       writes = λ m r. unlessRefused (refusalIn r) [] (o .writes);
       closes = λ m r. false;
-      answer = λ m r. refusalIn r ≡ none → o .answer m r;
+      answer = λ m r ss. refusalIn r ≡ none → o .answer m r ss;
     }

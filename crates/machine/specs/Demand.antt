@@ -94,7 +94,7 @@ module _ (L : Login) where
     pub wrote : map typeOf ss ≡ a .writes m r
     -- "Calls are refused just where document 01 has it"
     pub refuses : (f : Refusal) → (r ≡ Refused f) ↔ (firstOf (a .checks m) ≡ some f)
-    pub answer : a .answer m r
+    pub answer : a .answer m r ss
 
   -- S is what the code keeps of a port, and Call s m e r ss s′ says that the event's call, made on s, gave r, wrote ss and left s′
   module _ {S : Type 0} (view : S → Port) (Call : S → Machine → Event → Reply → List (List ℕ) → S → Type 0) where

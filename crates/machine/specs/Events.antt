@@ -17,11 +17,12 @@ use Rattle.srp.specs.Cutting.{Rule, cutsOf}
 use Rattle.srp.specs.Descriptors.{Segment}
 use Rattle.srp.specs.Credit.{onSide, ruleOf}
 use Rattle.srp.specs.declared.Terms.{Terms}
+use Rattle.srp.specs.Writing.{response}
 use Rattle.srp.specs.Take.{silent, hasTag, Tables, tablesFit, fieldsFit, aborted, takeDef}
 use Rattle.srp.specs.Calls.{isPlanned, kindOf, badSense, planDef, moveDef, stepDef, finishDef, addDef, withdrawDef, grantDef}
 use Rattle.srp.specs.Answers.{refusalIn, operationIn}
 use Rattle.machine.specs.Actions.{Action, always, anything, atFront, between, Owners, byOwner}
-use Rattle.machine.specs.Machine.{deltaOf, Move, Progress, movableIn, Track, newTrack, plannedFor, withMove, withOperation, Machine, lack, unused, wantedBy, tracked, withWire, withWork, withBuffers, withQueue, withTracks, tookRequest, saysLogout, join, Login, read}
+use Rattle.machine.specs.Machine.{deltaOf, Move, Progress, movableIn, Track, finalBy, newTrack, plannedFor, withMove, withOperation, Machine, lack, unused, wantedBy, tracked, withWire, withWork, withBuffers, withQueue, withTracks, tookRequest, saysLogout, join, Login, read}
 use Rattle.srp.specs.declared.Refusal.{Refusal}
 use Rattle.srp.specs.declared.Refusal.the-variants.{TableLength, Fields, Argument, NoCredit, TagOpen, TagNotOpen, CreditResponse, Unanswered, NotOwed, Wanted, Unplanned, Planned, Offset, Unfinished}
 use Rattle.srp.specs.declared.Direction.{Direction}
@@ -137,7 +138,7 @@ taking L room t =
       effect = λ m r. atFront (m .wire .toPort) m (λ s ss. frontEffect s ss t (read L s) m (refusalIn r));
       writes = λ m r. atFront (m .wire .toPort) [] (λ s ss. frontWrites s ss t (read L s) (refusalIn r));
       closes = λ m r. atFront (m .wire .toPort) false (λ s ss. frontCloses s ss t (read L s) (refusalIn r));
-      answer = λ m r. r ≡ Refused NoCredit → ⊥;
+      answer = λ m r ss. r ≡ Refused NoCredit → ⊥;
     }
 
 -- ── the owner's calls
@@ -207,10 +208,10 @@ stepping L tag d =
       checks = λ m. (not (isSome (tracked m tag)), TagNotOpen) ∷ (not (isPlanned (tracked m tag)), Unplanned) ∷ [];
       effect = λ m r. elim (operationIn r) [ none ↦ m | some o ↦ withTracks m (change (hasTag tag) (onSide d (withOperation o)) (m .work .tracks)) ];
       writes = [];
-      answer = λ m r. (t : Track) → tracked m tag ≡ some t → Right (L .terms) d (of d (t .sides)) r;
+      answer = λ m r ss. (t : Track) → tracked m tag ≡ some t → Right (L .terms) d (of d (t .sides)) r;
     }
 
--- "Unrefused, finish ends its command"
+-- "Unrefused, finish ends its command"; its response has the residuals by the machine's own counts, and the delta that the lift asks for
 abbrev pub finishing : ℕ → ℕ → ℕ → List ℕ → Owners
 finishing room tag status sense =
     record {
@@ -219,7 +220,7 @@ finishing room tag status sense =
       effect = λ m r.
           withWork m (record { tracks = without (hasTag tag) (m .work .tracks); taken = m .work .taken; ended = m .work .ended + 1 });
       writes = rsp .code ∷ [];
-      answer = anything;
+      answer = λ m r ss. (t : Track) → tracked m tag ≡ some t → (delta : ℕ) × (ss ≡ response (finalBy t status sense delta) ∷ []);
     }
 
 -- "add k gives added + k"

@@ -3,7 +3,7 @@
 -- the sum. What each event does to it is specs/Events.antt.
 use mathlib.Core.Bool.{Bool, true, false, cond, _||_}
 use mathlib.Core.List.{List, [], _∷_, _++_}
-use mathlib.Core.Option.{Option}
+use mathlib.Core.Option.{Option, none}
 use Prim.Native.Nat.{ℕ, _+_, _-_, min}
 use lib.Dec.{eqb}
 use Rattle.srp.specs.Bytes.{get, typeOf}
@@ -15,10 +15,12 @@ use Rattle.srp.specs.Requests.{isRequest, readMessage}
 use Rattle.srp.specs.Cutting.{trimmed, highest}
 use Rattle.srp.specs.Credit.{Held, withSides}
 use Rattle.srp.specs.declared.Terms.{Terms}
+use Rattle.srp.specs.Writing.{residual, Response, solicited}
 use Rattle.srp.specs.Take.{hasTag, Tables, newlyHeld}
 use Rattle.srp.specs.Login.{termsOf}
 use Rattle.srp.specs.declared.Settings.{Settings}
 use Rattle.srp.specs.declared.Piece.{Piece}
+use Rattle.srp.specs.declared.Residual.{Residual}
 use Rattle.srp.specs.declared.Command.{Command}
 use Rattle.srp.specs.declared.Message.{Message}
 use Rattle.srp.specs.declared.Record.{Record}
@@ -95,6 +97,24 @@ withMove offset count g =
 
 abbrev pub withOperation : Piece → Progress → Progress
 withOperation o g = record { segs = g .segs; required = g .required; moves = g .moves; operations = g .operations ++ (o ∷ []) }
+
+-- "Residual per direction", by the machine's own R, B and h
+abbrev pub residualIn : Progress → Residual
+residualIn g = residual (g .required) (sumOf (g .segs)) (highest (g .operations))
+
+-- the response that ends it
+abbrev pub finalBy : Track → ℕ → List ℕ → ℕ → Response
+finalBy t status sense delta =
+    record {
+      solnt = solicited (t .request) status;
+      delta = delta;
+      tag = t .request .tag;
+      status = status;
+      out = residualIn (t .sides .out);
+      inn = residualIn (t .sides .inn);
+      code = none;
+      sense = sense;
+    }
 
 -- the listing's record of it, with h
 abbrev pub shownAs : Track → Record

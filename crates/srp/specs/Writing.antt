@@ -16,11 +16,11 @@ use Rattle.srp.specs.declared.Residual.the-variants.{Even, Over, Under}
 
 -- "Residual per direction: R > B: over, R - B. Else moved < B: under, B - moved, moved being the bytes handed out (unplanned: R = 0). Else no flag,
 -- count 0", and h for the bytes handed out
+abbrev pub residual : (R B moved : ℕ) → Residual
+residual R B moved = cond (ltb B R) (Over (R - B)) (cond (ltb moved B) (Under (B - moved)) Even)
+
 abbrev pub residualOf : Side → Residual
-residualOf s =
-    let B : ℕ = s .extent .total in
-    cond (ltb B (s .transfer .required)) (Over (s .transfer .required - B))
-    (cond (ltb (s .transfer .highest) B) (Under (B - s .transfer .highest)) Even)
+residualOf s = residual (s .transfer .required) (s .extent .total) (s .transfer .highest)
 
 abbrev pub isOver : Residual → Bool
 isOver Even = false
