@@ -13,6 +13,12 @@ fn buffer(random: &mut Random) -> Vec<u8> {
     vec![0x5b; if random.one_in(2) { 132 } else { length }]
 }
 
+/// Of an SRP_RSP each way: "18 flags; .. 20-23 out residual; 24-27 in residual", "2 DOOVER, 3 DOUNDER, 4 DIOVER, 5 DIUNDER".
+fn residuals_in(message: &[u8]) -> [(u8, u64); 2] {
+    let count = |at: usize| message[at..at + 4].iter().fold(0, |count, &byte| count << 8 | u64::from(byte));
+    [(message[18] >> 2 & 0b11, count(20)), (message[18] >> 4 & 0b11, count(24))]
+}
+
 impl<T: Target> Machine<T> {
     /// "Take gets that queue's front, with any tables. On refusals 1 and 9 the message stays there, else it leaves."
     pub(super) fn take(&mut self) -> Channel {
@@ -165,6 +171,8 @@ impl<T: Target> Machine<T> {
         assert_eq!(outcome.returned, expected, "finish");
         if let (0, Some(place)) = (outcome.returned, self.ends.place_of(tag)) {
             let command = self.ends.open.remove(place);
+            let residuals = residuals_in(outcome.message());
+            assert_eq!(residuals, [0, 1].map(|at| command.pieces[at].residual()), "the residuals");
             command.pieces.iter().for_each(|pieces| self.note_moves(pieces));
             self.written(&outcome);
         }

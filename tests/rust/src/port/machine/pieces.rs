@@ -12,6 +12,8 @@ type Part = (u64, u64, u64);
 #[derive(Clone, Debug)]
 pub struct Pieces {
     segments: Vec<Part>,
+    /// R.
+    required: u64,
     /// min(R, B).
     due: u64,
     /// What is left of the current move, its last part first, and the offset in the buffer where that begins.
@@ -28,7 +30,7 @@ impl Pieces {
     pub fn new(segments: &[MemoryDescriptor]) -> Self {
         let numbers = |segment: &MemoryDescriptor| (segment.address, segment.handle.into(), segment.length.into());
         let segments = segments.iter().map(numbers).collect();
-        Pieces { segments, due: 0, left: Vec::new(), at: 0, highest: 0, handed: 0 }
+        Pieces { segments, required: 0, due: 0, left: Vec::new(), at: 0, highest: 0, handed: 0 }
     }
 
     /// Whether the current move has pieces left.
@@ -42,8 +44,26 @@ impl Pieces {
 
     /// "Plan alone starts none."
     pub fn plan(&mut self, r: u32) {
-        let b = self.segments.iter().map(|(_, _, length)| length).sum();
-        self.due = u64::from(r).min(b);
+        self.required = r.into();
+        self.due = self.required.min(self.buffer());
+    }
+
+    /// B.
+    fn buffer(&self) -> u64 {
+        self.segments.iter().map(|(_, _, length)| length).sum()
+    }
+
+    /// Its flags, over the lower one, and its count: "R > B: over, R - B. Else moved < B: under, B - moved", with h for
+    /// what moved. "Else no flag, count 0".
+    pub fn residual(&self) -> (u8, u64) {
+        let b = self.buffer();
+        if self.required > b {
+            (0b01, self.required - b)
+        } else if self.highest < b {
+            (0b10, b - self.highest)
+        } else {
+            (0, 0)
+        }
     }
 
     /// "31 offset above min(R, B); 32 the direction's earlier move still has pieces."
