@@ -11,6 +11,7 @@ pub use checks::length_is;
 pub use checks::type_of;
 pub use descriptors::fetched_length;
 pub use descriptors::segment_list;
+pub use descriptors::size;
 use shape::Shape;
 use shape::Shaped;
 use srp::Command;

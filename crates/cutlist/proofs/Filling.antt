@@ -18,7 +18,8 @@ use Rattle.srp.proofs.CutLaws.{Lawful, up-to, done-iff, pieces-all}
 use Rattle.srp.proofs.Pieces.{Fits, piece-fits, wrapped-same}
 use Rattle.srp.proofs.Moves.{cuts-bytes}
 use Rattle.cut.specs.Walk.{nextWrapped}
-use Rattle.cutlist.specs.Lines.{Appends, maximum, rule, linesFrom, Fills}
+use Rattle.text.specs.Appending.{Appends}
+use Rattle.cutlist.specs.Lines.{maximum, rule, linesFrom, Fills}
 
 -- ── as many pieces as bytes are enough
 

@@ -9,12 +9,6 @@ use Rattle.srp.specs.Outside.{operationLines}
 use Rattle.srp.specs.declared.Kind.{Kind}
 use Rattle.cutlist.specs.declared.output.Filled.{Filled}
 
--- behind the first `at` bytes of a text stands what was added, up to `end`
-pub record Appends (before : List ℕ) (at : ℕ) (added after : List ℕ) (end : ℕ) : Type 0 where
-  pub long : end ≡ at + length added
-  pub room : end ≤ length after
-  pub text : take end after ≡ take at before ++ added
-
 -- a letter, handle, address and length of an operation, a space or the line's end behind each
 abbrev pub longestLine : ℕ
 longestLine = 2 + 9 + 17 + 4

@@ -1,7 +1,7 @@
 // cutlist: reads one SRP_CMD from standard input and prints the RDMA operations that move its data, out before in.
 // Both formats agreed, messages of up to 1,364 bytes, M = 512, R = B. What is printed is `cutlist` of crate srp's specs/Outside.antt.
+mod lines;
 mod output;
-mod text;
 
 use libc::STDIN_FILENO;
 use libc::STDOUT_FILENO;
@@ -43,7 +43,7 @@ fn print<'a>(msg: &'a [u8]) {
 
 fn print_refusal(refusal: Refusal) {
     let mut line = [0u8; 16];
-    let n = text::put_refusal(&mut line, refusal);
+    let n = lines::put_refusal(&mut line, refusal);
     io::write_all(STDOUT_FILENO, &line[..n]);
 }
 

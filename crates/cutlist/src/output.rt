@@ -1,5 +1,5 @@
 // What a message comes to: a refusal, a table to fetch, or the operations of both directions; and their lines, as many as a text holds.
-use crate::text;
+use crate::lines;
 use cut::Total;
 use srp::Command;
 use srp::Cut;
@@ -102,7 +102,7 @@ pub fn fill(text: &mut [u8], list: &[u8], kind: Kind, from: u32, to: u32) -> Fil
         let Cut::CutPiece(p) = cut::next_piece(list, MAXIMUM, next, to) else {
             return Filled { len: end, from: to };
         };
-        end = text::put_operation(&mut *text, end, kind, p);
+        end = lines::put_operation(&mut *text, end, kind, p);
         next = next + p.len;
     }
     Filled {

@@ -2,8 +2,9 @@
 use Prim.Native.Nat.{ℕ}
 use denote.Ref.{now}
 use Rattle.take.specs.Taking.{tables}
-use Rattle.demand.specs.Posts.{Slice, LoginPost, TakePost, PlanPost, MovePost, StepPost, FinishPost, AddPost, WithdrawPost, GrantPost, ClosePost, CountersPost, ListPost, LookPost, CutPost}
-use Rattle.demand.specs.Judgement.{JudgesTake, JudgesLogin, JudgesPlan, JudgesMove, JudgesStep, JudgesFinish, JudgesAdd, JudgesWithdraw, JudgesGrant, JudgesClose, JudgesCounters, JudgesList, JudgesLook, JudgesCut}
+use Rattle.exports.specs.Arguments.{wayIn}
+use Rattle.demand.specs.Posts.{Slice, LoginPost, TakePost, PlanPost, MovePost, StepPost, FinishPost, AddPost, WithdrawPost, GrantPost, ClosePost, CountersPost, ListPost, LookPost, CutPost, TracePost}
+use Rattle.demand.specs.Judgement.{JudgesTake, JudgesLogin, JudgesPlan, JudgesMove, JudgesStep, JudgesFinish, JudgesAdd, JudgesWithdraw, JudgesGrant, JudgesClose, JudgesCounters, JudgesList, JudgesLook, JudgesCut, JudgesTrace}
 
 pub record Demand1InC : Type 0 where
   pub login : (p q c id m b d w v : Slice) (n : ℕ) → LoginPost p q c id m b d w v n → JudgesLogin (now b) (now q) (now d) (now c) (now id) (now m) n (now v)
@@ -22,3 +23,4 @@ pub record Demand1InC : Type 0 where
   pub list : (p before after w v : Slice) (n : ℕ) → ListPost p before after w v n → JudgesList (now p) (now before) (now after) n (now v)
   pub look : (m b d : Slice) (agreed formats n : ℕ) → LookPost m b d agreed formats n → JudgesLook agreed formats (now m) (now b) (now d) n
   pub cut : (l b d : Slice) (M R handed n : ℕ) → CutPost l b d M R handed n → JudgesCut (now l) M R handed (now b) (now d) n
+  pub trace : (m b d : Slice) (direction n : ℕ) → TracePost m b d direction n → JudgesTrace (wayIn direction) (now m) (now b) (now d) n

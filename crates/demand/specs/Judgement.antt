@@ -29,6 +29,8 @@ use Rattle.srp.specs.declared.Reply.the-variants.{Done, Accepted, Rejected}
 use Rattle.answer.specs.Words.{answerWords}
 use Rattle.words.specs.View.{view, closedWords}
 use Rattle.take.specs.Taking.{Stores}
+use Rattle.page.specs.Page.{traceLine, traceChecks}
+use Rattle.page.specs.declared.Way.{Way}
 use Rattle.exports.specs.Arguments.{recordSize, allWords, settingsIn, directionIn}
 use Rattle.demand.specs.Replies.{replyBy, loggedIn}
 
@@ -187,3 +189,8 @@ JudgesCut list M R handed b b′ n =
     Judgement (shortAnswer (length b) ∷ cutChecks list M R handed) n
     (b′ ≡ placed (cutAnswer (cutOutcome list M R handed) .wrote) b)
     (λ f. b′ ≡ b)
+
+-- ── trace
+
+abbrev pub JudgesTrace : Way → (s b b′ : List ℕ) (n : ℕ) → Type 0
+JudgesTrace w s b b′ n = Judgement (traceChecks (length b)) n (b′ ≡ placed (traceLine w s ∷ []) b) (λ f. b′ ≡ b)

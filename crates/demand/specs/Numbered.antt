@@ -1,5 +1,5 @@
 -- Document 01: "For each case of an enum answer, a definition gives this paper's number and values. The promises use that definition". The definition is
--- `returned` and `valuesOf` (crate srp, specs/Answers.antt), of look and the cut `lookAnswer` and `cutAnswer` (specs/Outside.antt).
+-- `returned` and `valuesOf` (crate srp, specs/Answers.antt), of look and the cut `lookAnswer` and `cutAnswer` (specs/Outside.antt), of trace `traceInC` (crate page, specs/Page.antt).
 use mathlib.Core.Path.{_≡_}
 use mathlib.Core.List.{List, _++_}
 use Prim.Native.Nat.{ℕ, _/_}
@@ -24,7 +24,8 @@ use Rattle.words.specs.View.{view}
 use Rattle.take.specs.Taking.{tables}
 use Rattle.report.specs.Reports.{WritesListing}
 use Rattle.report.specs.declared.Listing.{Listing}
-use Rattle.exports.specs.Arguments.{recordSize, settingsIn, directionIn}
+use Rattle.page.specs.Page.{traceInC}
+use Rattle.exports.specs.Arguments.{recordSize, settingsIn, directionIn, wayIn}
 use Rattle.exports.specs.Answered.{Answered}
 use Rattle.login.proofs.login.Reads as login-call
 use Rattle.take.proofs.take.Reads as take-call
@@ -38,7 +39,7 @@ use Rattle.credit.proofs.grant.Reads as grant-call
 use Rattle.close.proofs.close.Reads as close-call
 use Rattle.report.proofs.counters.Reads as counters-call
 use Rattle.report.proofs.list.Reads as list-call
-use Rattle.demand.specs.Posts.{Slice, LoginPost, TakePost, PlanPost, MovePost, StepPost, FinishPost, AddPost, WithdrawPost, GrantPost, ClosePost, CountersPost, ListPost, LookPost, CutPost}
+use Rattle.demand.specs.Posts.{Slice, LoginPost, TakePost, PlanPost, MovePost, StepPost, FinishPost, AddPost, WithdrawPost, GrantPost, ClosePost, CountersPost, ListPost, LookPost, CutPost, TracePost}
 
 -- of a call by value: the reply r has the number and the values of the outcome
 pub record SaysAs (r : Reply) (o : Outcome) : Type 0 where
@@ -94,7 +95,7 @@ pub record EachSays : Type 0 where
       → WritesListing (now p) before after r
       → SaysAs r (listDef (view (now p) st) (length before))
 
--- ── each C function: plan, move, add and withdraw have a number and no values; look's and the cut's values are their 32 bytes
+-- ── each C function: plan, move, add and withdraw have a number and no values; look's and the cut's values are their 32 bytes, trace's its line
 
 pub record EachCounts : Type 0 where
   pub login : (p q c id m b d w v : Slice) (n : ℕ) → LoginPost p q c id m b d w v n → CountsAs n (now v) (loginDef (settingsIn (now c)) (now id) (length (now b)) (now m))
@@ -116,3 +117,4 @@ pub record EachCounts : Type 0 where
       → CountsAs n (now v) (listDef (view (now p) st) (length (now before) / recordSize))
   pub look : (m b d : Slice) (agreed formats n : ℕ) → LookPost m b d agreed formats n → Answered n (now b) (now d) (inBuffer (length (now b)) (lookAnswer (lookDef agreed formats (now m))))
   pub cut : (l b d : Slice) (M R handed n : ℕ) → CutPost l b d M R handed n → Answered n (now b) (now d) (inBuffer (length (now b)) (cutAnswer (cutDef (now l) M R handed)))
+  pub trace : (m b d : Slice) (direction n : ℕ) → TracePost m b d direction n → Answered n (now b) (now d) (traceInC (wayIn direction) (now m) (length (now b)))

@@ -19,6 +19,7 @@ use Rattle.exports.proofs.port.srp_target_counters.Reads as counters-in-c
 use Rattle.exports.proofs.port.srp_target_list.Reads as list-in-c
 use Rattle.exports.proofs.srp_look.Reads as look-in-c
 use Rattle.exports.proofs.srp_cut.Reads as cut-in-c
+use Rattle.exports.proofs.srp_trace.Reads as trace-in-c
 
 -- lent memory, as a function is given it and leaves it
 abbrev pub Slice : Type 0
@@ -71,3 +72,6 @@ LookPost m b d agreed formats n = (κs : Lfts 2) × look-in-c.Post κs (m, (agre
 -- l is the list of memory descriptors
 abbrev pub CutPost : (l b d : Slice) (M R handed n : ℕ) → Type 0
 CutPost l b d M R handed n = (κs : Lfts 2) × cut-in-c.Post κs (l, (M, (R, (handed, (b, tt))))) n (l, (M, (R, (handed, (d, tt)))))
+
+abbrev pub TracePost : (m b d : Slice) (direction n : ℕ) → Type 0
+TracePost m b d direction n = (κs : Lfts 2) × trace-in-c.Post κs (m, (direction, (b, tt))) n (m, (direction, (d, tt)))

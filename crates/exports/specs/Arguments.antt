@@ -8,6 +8,8 @@ use Rattle.srp.specs.declared.Direction.{Direction}
 use Rattle.srp.specs.declared.Direction.the-variants.{Out, In}
 use Rattle.srp.specs.declared.Record.{Record}
 use Rattle.srp.specs.declared.Settings.{Settings}
+use Rattle.page.specs.declared.Way.{Way}
+use Rattle.page.specs.declared.Way.the-variants.{Towards, From}
 
 -- N, M, X, indirect (0 no, else yes), solicited (0 no, else yes)
 abbrev pub settingsIn : List ℕ → Settings
@@ -23,6 +25,10 @@ settingsIn n =
 -- 0 out, else in
 abbrev pub directionIn : ℕ → Direction
 directionIn n = cond (eqb n 0) Out In
+
+-- a message's: 0 towards the port, else from it
+abbrev pub wayIn : ℕ → Way
+wayIn n = cond (eqb n 0) Towards From
 
 -- a record in words: tag, LUN, h of data-out, h of data-in
 abbrev pub recordSize : ℕ

@@ -1,7 +1,8 @@
-// The calls for callers in C, as include/srp_target.h declares them; those on a port are in port.rt. Look and the cut return 0 or the refusal's
-// number, and write their answer's 32 bytes into the lent buffer. A refusal leaves the buffer as it was; every byte past the 32 is kept.
+// The calls for callers in C, as include/srp_target.h declares them; those on a port are in port.rt. Look, the cut and trace return 0 or the refusal's
+// number, and write their answer's 32 bytes, or the line's 81, into the lent buffer. A refusal leaves the buffer as it was; every byte past those is kept.
 pub mod port;
 
+use page::Way;
 use srp::Cut;
 use srp::Fetch;
 use srp::Look;
@@ -18,7 +19,9 @@ ghost use Rattle.srp.specs.Limits.{answerSize};
 ghost use Rattle.srp.specs.Bytes.{bytesOf, zeros};
 ghost use Rattle.srp.specs.Writing.{placed};
 ghost use Rattle.srp.specs.Outside.{descriptorBytes, fetchBytes, lookInC, cutInC};
+ghost use Rattle.page.specs.Page.{traceInC};
 ghost use Rattle.exports.specs.Answered.{Answered, withDescriptor, withFetch, Blank};
+ghost use Rattle.exports.specs.Arguments.{wayIn};
 
 const ANSWER: usize = 32;
 
@@ -99,4 +102,22 @@ pub extern "C" fn srp_cut(list: &[u8], m: u32, r: u32, handed: u32, buf: &mut [u
             0
         }
     }
+}
+
+fn way_of(n: u32) -> Way
+    ensures { λ w. ⌜ w ≡ wayIn n ⌝ }
+{
+    if n == 0 {
+        Way::Towards
+    } else {
+        Way::From
+    }
+}
+
+#[no_mangle]
+pub extern "C" fn srp_trace(msg: &[u8], direction: u32, buf: &mut [u8]) -> u32
+    ensures { λ r. ⌜ Answered r (now (buf .entry)) (now (buf .exit)) (traceInC (wayIn direction) (now (msg .entry)) (length (now (buf .entry)))) ⌝ }
+{
+    let reply = page::trace(msg, way_of(direction), buf);
+    answer::returned(reply)
 }

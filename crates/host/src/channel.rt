@@ -9,6 +9,7 @@ use crate::paper::TSK_MGMT;
 use crate::queue;
 use crate::queue::QUEUE;
 use crate::show;
+use page::Way;
 
 // A request takes one off the limit.
 fn costs(msg: &[u8]) -> bool {
@@ -24,7 +25,7 @@ fn costs(msg: &[u8]) -> bool {
 
 // A message is sent: it joins the queue to the port, and the limit after that is answered.
 pub fn submit(to_port: &mut [u8; QUEUE], msg: &[u8], limit: u64) -> u64 {
-    show::message(b"-> ", msg);
+    show::message(Way::Towards, msg);
     if !queue::push(to_port, msg) {
         show::text(b"a message that the queue cannot take\n");
         return limit;
@@ -64,7 +65,7 @@ pub fn deliver(to_initiator: &mut [u8; QUEUE], limit: u64) -> u64 {
         return limit;
     }
     let msg = queue::front(to_initiator);
-    show::message(b"<- ", msg);
+    show::message(Way::From, msg);
     let now = std::num::wrapping_add_u64(limit, lift(msg));
     queue::pop(to_initiator);
     now

@@ -11,15 +11,11 @@ pub const I_LOGOUT: u8 = 0x03;
 
 pub const CRED_RSP: u8 = 0x41;
 
-pub const T_LOGOUT: u8 = 0x80;
-
 pub const CRED_REQ: u8 = 0x81;
 
 pub const LOGIN_RSP: u8 = 0xc0;
 
 pub const RSP: u8 = 0xc1;
-
-pub const LOGIN_REJ: u8 = 0xc2;
 
 // sizes: of SRP_LOGIN_REQ; of an SRP_CMD without data, behind which its descriptors stand, and of SRP_TSK_MGMT; of the shortest messages, as
 // SRP_CRED_RSP and SRP_I_LOGOUT are; of an SRP_RSP without response bytes and with them; of an identifier
@@ -32,8 +28,6 @@ pub const TSK_MGMT_SIZE: usize = 48;
 pub const SHORTEST: usize = 16;
 
 pub const RSP_SIZE: usize = 36;
-
-pub const RSP_WITH_CODE: usize = 40;
 
 pub const IDENTIFIER: usize = 16;
 
@@ -91,8 +85,6 @@ pub const ENTRIES: usize = CMD_SIZE + TABLE;
 // SRP_RSP; SRP_CRED_REQ has its delta and SRP_LOGIN_RSP its N at the same bytes, SRP_T_LOGOUT its reason
 pub const DELTA: usize = 4;
 
-pub const REASON: usize = 4;
-
 pub const FLAGS: usize = 18;
 
 pub const STATUS: usize = 19;
@@ -102,8 +94,6 @@ pub const OUT_RESIDUAL: usize = 20;
 pub const IN_RESIDUAL: usize = 24;
 
 pub const SENSE_LENGTH: usize = 28;
-
-pub const RSP_CODE: usize = 39;
 
 // statuses of a command: it ended well, or failed; the reason of an SRP_T_LOGOUT of a channel that is inactive; the tag of SRP_CRED_REQ and of the answer
 pub const GOOD: u8 = 0x00;

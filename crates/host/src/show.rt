@@ -1,30 +1,16 @@
 // What happens, a line each: messages, RDMA operations, counts.
-use crate::paper::COMMAND;
-use crate::paper::CRED_REQ;
-use crate::paper::CRED_RSP;
-use crate::paper::DELTA;
 use crate::paper::FLAGS;
-use crate::paper::I_LOGOUT;
 use crate::paper::IN_RESIDUAL;
-use crate::paper::LOGIN_REJ;
-use crate::paper::LOGIN_REQ;
-use crate::paper::LOGIN_RSP;
 use crate::paper::NOTIFICATION;
 use crate::paper::OUT_RESIDUAL;
-use crate::paper::REASON;
 use crate::paper::RSP;
-use crate::paper::RSP_CODE;
 use crate::paper::RSP_SIZE;
-use crate::paper::RSP_WITH_CODE;
-use crate::paper::RSPVALID;
 use crate::paper::SENSE_LENGTH;
-use crate::paper::SHORTEST;
 use crate::paper::SOLNT;
 use crate::paper::STATUS;
-use crate::paper::T_LOGOUT;
-use crate::paper::TAG;
-use crate::paper::TSK_MGMT;
 use libc::STDOUT_FILENO;
+use page::LINE;
+use page::Way;
 use srp::Counters;
 use srp::Fetch;
 use srp::Kind;
@@ -51,77 +37,32 @@ pub fn end() {
     text(b"\n");
 }
 
-// Which message it is, by its type.
-fn name(kind: u8) {
-    match kind {
-        LOGIN_REQ => text(b"SRP_LOGIN_REQ"),
-        TSK_MGMT => text(b"SRP_TSK_MGMT "),
-        COMMAND => text(b"SRP_CMD      "),
-        I_LOGOUT => text(b"SRP_I_LOGOUT "),
-        CRED_RSP => text(b"SRP_CRED_RSP "),
-        T_LOGOUT => text(b"SRP_T_LOGOUT "),
-        CRED_REQ => text(b"SRP_CRED_REQ "),
-        LOGIN_RSP => text(b"SRP_LOGIN_RSP"),
-        RSP => text(b"SRP_RSP      "),
-        LOGIN_REJ => text(b"SRP_LOGIN_REJ"),
-        _ => text(b"another type "),
-    }
-}
-
-// Of an SRP_RSP with response bytes, the last of them.
-fn code(msg: &[u8]) {
-    if msg.len() < RSP_WITH_CODE {
-        return;
-    }
-    if wire::read_bits(msg, FLAGS, RSPVALID, 1) == 1 {
-        hexadecimal(b", code ", wire::read8(msg, RSP_CODE) as u64, 2);
-    }
-}
-
-// The fields of an SRP_RSP.
+// Of an SRP_RSP what its line does not say.
 fn response(msg: &[u8]) {
     if msg.len() < RSP_SIZE {
         return;
     }
-    number(b", delta ", wire::read32(msg, DELTA) as u64);
+    if wire::read8(msg, 0) != RSP {
+        return;
+    }
+    hexadecimal(b"   status ", wire::read8(msg, STATUS) as u64, 2);
+    hexadecimal(b", flags ", wire::read8(msg, FLAGS) as u64, 2);
     number(
         b", solnt ",
         wire::read_bits(msg, NOTIFICATION, SOLNT, 1) as u64,
     );
-    hexadecimal(b", status ", wire::read8(msg, STATUS) as u64, 2);
-    hexadecimal(b", flags ", wire::read8(msg, FLAGS) as u64, 2);
     number(b", residuals ", wire::read32(msg, OUT_RESIDUAL) as u64);
     number(b" and ", wire::read32(msg, IN_RESIDUAL) as u64);
     number(b", sense ", wire::read32(msg, SENSE_LENGTH) as u64);
-    code(msg);
-}
-
-// What of a message is in its type's own fields.
-fn fields(msg: &[u8]) {
-    if msg.len() < SHORTEST {
-        return;
-    }
-    match wire::read8(msg, 0) {
-        T_LOGOUT => number(b", reason ", wire::read32(msg, REASON) as u64),
-        CRED_REQ => number(b", delta ", wire::read32(msg, DELTA) as u64),
-        LOGIN_RSP => number(b", buffers ", wire::read32(msg, DELTA) as u64),
-        RSP => response(msg),
-        _ => {}
-    }
-}
-
-// A message on its way: the arrow, the name, the length, the tag, its own fields.
-pub fn message(arrow: &[u8], msg: &[u8]) {
-    text(arrow);
-    if msg.len() < SHORTEST {
-        text(b"a message too short\n");
-        return;
-    }
-    name(wire::read8(msg, 0));
-    number(b" ", msg.len() as u64);
-    hexadecimal(b" bytes, tag ", wire::read64(msg, TAG), 4);
-    fields(msg);
     end();
+}
+
+// A message on its way: its trace line.
+pub fn message(way: Way, msg: &[u8]) {
+    let mut line = [0u8; LINE];
+    page::trace(msg, way, &mut line);
+    text(&line);
+    response(msg);
 }
 
 pub fn operation(kind: Kind, p: Piece) {

@@ -81,9 +81,9 @@ abbrev pub digits : ℕ → ℕ → List ℕ
 digits zero n = []
 digits (suc k) n = elim (ltb n 10) [ true ↦ (48 + n) ∷ [] | false ↦ digits k (n / 10) ++ ((48 + n % 10) ∷ []) ]
 
--- a number below 10^10
+-- a number of 64 bits
 abbrev pub decimal : ℕ → List ℕ
-decimal n = digits 10 n
+decimal n = digits 20 n
 
 -- 'R' or 'W'
 abbrev pub letter : Kind → ℕ

@@ -1,0 +1,5 @@
+pub mod Types
+pub mod Counts
+pub mod Lines
+pub mod Columns
+pub mod Rows
