@@ -1,4 +1,3 @@
-pub mod Digits
 pub mod Filling
 pub mod Buffers
 pub mod Whole

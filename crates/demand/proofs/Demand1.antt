@@ -2,8 +2,9 @@
 -- Assumes nothing.
 use denote.Ref.{now}
 use Rattle.take.specs.Taking.{tables}
+use Rattle.exports.specs.Arguments.{wayIn}
 use Rattle.demand.specs.Demand1.{Demand1InC}
-use Rattle.demand.proofs.Judges.{judges-plan, judges-move, judges-add, judges-withdraw, judges-finish, judges-grant, judges-close, judges-step, judges-counters, judges-list, judges-look, judges-cut}
+use Rattle.demand.proofs.Judges.{judges-plan, judges-move, judges-add, judges-withdraw, judges-finish, judges-grant, judges-close, judges-step, judges-counters, judges-list, judges-look, judges-cut, judges-trace}
 use Rattle.demand.proofs.JudgesTake.{judges-take}
 use Rattle.demand.proofs.JudgesLogin.{judges-login}
 
@@ -25,4 +26,5 @@ demand-1-in-c =
       list = λ p before after w v n post. judges-list (now p) (now before) (now after) n (now v) (post .1);
       look = λ m b d agreed formats n post. judges-look (now b) (now d) n agreed formats (now m) (post .1);
       cut = λ l b d M R handed n post. judges-cut (now b) (now d) n (now l) M R handed (post .1);
+      trace = λ m b d direction n post. judges-trace (now b) (now d) n (wayIn direction) (now m) (post .1);
     }

@@ -2,7 +2,7 @@
 -- Assumes nothing.
 use mathlib.Core.Path.{_≡_, refl, sym, _∙_, ap}
 use mathlib.Core.Bool.{true}
-use mathlib.Core.List.{List}
+use mathlib.Core.List.{List, [], _∷_}
 use mathlib.Core.Option.{Option, none, some}
 use Prim.Native.Nat.{ℕ, _/_, min}
 use borrow.Author.Tests.{not-false}
@@ -17,17 +17,23 @@ use Rattle.srp.specs.Take.{hasTag}
 use Rattle.srp.specs.Calls.{handOut, nextOf, planChecks, planOutcome, moveChecks, moveOutcome, stepChecks, stepOutcome, finishChecks, finishOutcome, addChecks, addOutcome, withdrawChecks, withdrawOutcome, grantChecks, grantOutcome, closeChecks, closeOutcome, countersChecks, countersOutcome, listChecks, listOutcome}
 use Rattle.srp.specs.Outside.{lookInC, lookAnswer, cutInC, cutAnswer}
 use Rattle.srp.specs.Answers.{returned}
+use Rattle.srp.specs.Writing.{placed}
+use Rattle.srp.specs.declared.Refusal.{Refusal}
+use Rattle.srp.specs.declared.Reply.{Reply}
+use Rattle.srp.specs.declared.Reply.the-variants.{Refused, Performed}
 use Rattle.srp.specs.declared.Direction.{Direction}
 use Rattle.srp.specs.declared.Piece.{Piece}
 use Rattle.srp.specs.declared.Look.the-variants.{LookRefused}
 use Rattle.srp.specs.declared.Cut.the-variants.{CutRefused}
 use Rattle.srp.proofs.Checks.{passes}
 use Rattle.words.specs.View.{view}
+use Rattle.page.specs.Page.{traceLine, traceChecks, traceInC}
+use Rattle.page.specs.declared.Way.{Way}
 use Rattle.exports.specs.Arguments.{recordSize, directionIn}
 use Rattle.exports.specs.Answered.{Answered}
 use Rattle.exports.specs.Calls.{PlanInC, MoveInC, StepInC, FinishInC, AddInC, WithdrawInC, GrantInC, CloseInC, CountersInC, ListInC}
-use Rattle.demand.specs.Judgement.{JudgesPlan, JudgesMove, JudgesStep, JudgesFinish, JudgesAdd, JudgesWithdraw, JudgesGrant, JudgesClose, JudgesCounters, JudgesList, JudgesLook, JudgesCut}
-use Rattle.demand.proofs.Judging.{not-zero, judge-answers, judge-replies, judge-numbers, judge-steps, judge-bytes}
+use Rattle.demand.specs.Judgement.{JudgesPlan, JudgesMove, JudgesStep, JudgesFinish, JudgesAdd, JudgesWithdraw, JudgesGrant, JudgesClose, JudgesCounters, JudgesList, JudgesLook, JudgesCut, JudgesTrace}
+use Rattle.demand.proofs.Judging.{numberFor, not-zero, judge, judge-answers, judge-replies, judge-numbers, judge-steps, judge-bytes}
 
 -- ── plan, move, add, withdraw
 
@@ -115,3 +121,19 @@ module _ (b b′ : List ℕ) (n : ℕ) where
       unrefused : (x : Option Piece) → cutAnswer (cutNext x) .returns ≡ 0
       unrefused none = refl
       unrefused (some o) = refl
+
+-- ── trace
+
+module _ (b b′ : List ℕ) (n : ℕ) where
+  pub judges-trace : (w : Way) (s : List ℕ) → Answered n b b′ (traceInC w s (length b)) → JudgesTrace w s b b′ n
+  judges-trace w s A =
+      judge (traceChecks (length b)) n (b′ ≡ placed (traceLine w s ∷ []) b) (λ f. b′ ≡ b) (A .number ∙ number (firstOf (traceChecks (length b))))
+      (λ e. A .buffer ∙ ap wrote e)
+      (λ f e. A .buffer ∙ ap wrote e)
+    where
+      wrote : Option Refusal → List ℕ
+      wrote x = placed (elim x as (λ _. List (List ℕ)) [ none ↦ traceLine w s ∷ [] | some f ↦ [] ]) b
+
+      number : (x : Option Refusal) → returned (elim x as (λ _. Reply) [ none ↦ Performed | some f ↦ Refused f ]) ≡ numberFor x
+      number none = refl
+      number (some f) = refl

@@ -55,4 +55,5 @@ each-counts =
       list = λ st p before after w v n post. counts (post .1 st .numbers);
       look = λ m b d agreed formats n post. post .1;
       cut = λ l b d M R handed n post. post .1;
+      trace = λ m b d direction n post. post .1;
     }

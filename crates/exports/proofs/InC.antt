@@ -2,6 +2,7 @@
 use mathlib.Core.Path.{_≡_, sym, _∙_, ap, subst}
 use mathlib.Core.List.{List, []}
 use Prim.Native.Nat.{ℕ}
+use lib.ListN.{length}
 use Rattle.srp.specs.Take.{Outcome, Tables}
 use Rattle.srp.specs.Answers.{returned, sizeOf, answerOf}
 use Rattle.srp.specs.declared.Direction.{Direction}
@@ -14,6 +15,10 @@ use Rattle.login.specs.LoggingIn.{LogsIn}
 use Rattle.srp.specs.declared.Settings.{Settings}
 use Rattle.take.specs.Taking.{Takes, Stores}
 use Rattle.transfer.specs.Stepping.{Names, Steps}
+use Rattle.srp.specs.Writing.{placed}
+use Rattle.page.specs.Page.{traceWrites, Traced, traceInC}
+use Rattle.page.specs.declared.Way.{Way}
+use Rattle.exports.specs.Answered.{Answered}
 use Rattle.exports.specs.Arguments.{directionIn}
 use Rattle.exports.specs.Calls.{Gives, InC, AnswersInC, StepsInC, RepliesInC, LogsInC, TakeInC, MoveInC, StepInC}
 
@@ -66,3 +71,12 @@ pub step-in-c : {l l′ st : List ℕ} {tag n : ℕ} {w : List ℕ} {d : Directi
 step-in-c {l} {l′} {st} {tag} {r = r} direction e S g =
     let D : Steps l l′ st tag (directionIn direction) r = subst (λ (x : Direction). Steps l l′ st tag x r) e S in
     record { steps = steps-in-c (D .replies) g; done = λ q. D .done (D .replies .reply ∙ q) }
+
+-- a trace of the way w, which is that of the number
+pub trace-in-c : {w w′ : Way} (s : List ℕ) {before after : List ℕ} {r : Reply} {n : ℕ} → w ≡ w′ → Traced w s before after r → n ≡ returned r
+    → Answered n before after (traceInC w′ s (length before))
+trace-in-c s {before} way t e =
+    record {
+      number = e ∙ ap (λ (x : Reply). returned x) (t .reply);
+      buffer = t .buffer ∙ ap (λ (x : Way). placed (traceWrites x s (length before)) before) way;
+    }

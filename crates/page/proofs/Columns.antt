@@ -7,21 +7,11 @@ use lib.ListN.{length, take, drop, length-replicate, replicate-append-replicate}
 use lib.Seq.{take-at, drop-at}
 use Rattle.srp.specs.Outside.{hex}
 use Rattle.text.proofs.Digits.{length-hex}
-use Rattle.page.specs.Page.{sign, letters, spaces, padded, countText, hexText, numberText, over, columns}
+use Rattle.page.specs.Page.{sign, letters, spaces, padded, countText, hexText, numberText, over, columns, hexColumns, numberColumns, InColumns}
 use Rattle.page.specs.declared.Entry.{Entry}
 use Rattle.page.specs.declared.Entry.the-variants.{Blank, Number}
 use Rattle.page.specs.declared.Line.{Line}
 use Rattle.page.proofs.Lines.{over-nothing, letters-long, count-long}
-
--- "16 hex digits or spaces", "8 hex digits or spaces"
-abbrev pub hexColumns : ℕ → Entry → List ℕ
-hexColumns k Blank = spaces k
-hexColumns k (Number n) = hex k n
-
--- "or spaces (50-54, right-aligned decimal, ***** above 99,999)"
-abbrev pub numberColumns : Entry → List ℕ
-numberColumns Blank = spaces 5
-numberColumns (Number n) = countText n
 
 -- ── a text, or nothing, over spaces
 
@@ -49,30 +39,18 @@ number-laid at m (Number n) = laid at 5 m (countText n) (count-long n)
 
 -- ── the line
 
-module _ (l : Line) where
-  abbrev from56 : List ℕ
-  from56 = hexColumns 8 (l .code) ++ spaces 17
-
-  abbrev from50 : List ℕ
-  from50 = numberColumns (l .number) ++ (0x20 ∷ from56)
-
-  abbrev from33 : List ℕ
-  from33 = hexColumns 16 (l .lun) ++ (0x20 ∷ from50)
-
-  abbrev from16 : List ℕ
-  from16 = hexColumns 16 (l .tag) ++ (0x20 ∷ from33)
-
-  abbrev from3 : List ℕ
-  from3 = padded 12 (letters (l .name)) ++ (0x20 ∷ from16)
-
-  pub in-columns : columns l ≡ sign (l .way) ∷ 0x20 ∷ from3
-  in-columns =
-      ap (λ (x : List ℕ). over 0 (sign (l .way) ∷ []) (over 2 (padded 12 (letters (l .name))) (over 15 (hexText 16 (l .tag)) (over 32 (hexText 16 (l .lun)) (over 49 (numberText (l .number)) x)))))
-      (hex-laid 55 8 (spaces 17) (l .code))
-      ∙ ap (λ (x : List ℕ). over 0 (sign (l .way) ∷ []) (over 2 (padded 12 (letters (l .name))) (over 15 (hexText 16 (l .tag)) (over 32 (hexText 16 (l .lun)) x))))
-      (number-laid 49 (0x20 ∷ from56) (l .number))
-      ∙ ap (λ (x : List ℕ). over 0 (sign (l .way) ∷ []) (over 2 (padded 12 (letters (l .name))) (over 15 (hexText 16 (l .tag)) x)))
-      (hex-laid 32 16 (0x20 ∷ from50) (l .lun))
-      ∙ ap (λ (x : List ℕ). over 0 (sign (l .way) ∷ []) (over 2 (padded 12 (letters (l .name))) x)) (hex-laid 15 16 (0x20 ∷ from33) (l .tag))
-      ∙ ap (over 0 (sign (l .way) ∷ [])) (laid 2 12 (0x20 ∷ from16) (padded 12 (letters (l .name))) (letters-long (l .name)))
-      ∙ laid 0 1 (0x20 ∷ from3) (sign (l .way) ∷ []) refl
+pub in-columns : InColumns
+in-columns l =
+    let mark : List ℕ = sign (l .way) ∷ [] in
+    let name : List ℕ = padded 12 (letters (l .name)) in
+    let from56 : List ℕ = hexColumns 8 (l .code) ++ spaces 17 in
+    let from50 : List ℕ = numberColumns (l .number) ++ (0x20 ∷ from56) in
+    let from33 : List ℕ = hexColumns 16 (l .lun) ++ (0x20 ∷ from50) in
+    let from16 : List ℕ = hexColumns 16 (l .tag) ++ (0x20 ∷ from33) in
+    ap (λ (x : List ℕ). over 0 mark (over 2 name (over 15 (hexText 16 (l .tag)) (over 32 (hexText 16 (l .lun)) (over 49 (numberText (l .number)) x)))))
+    (hex-laid 55 8 (spaces 17) (l .code))
+    ∙ ap (λ (x : List ℕ). over 0 mark (over 2 name (over 15 (hexText 16 (l .tag)) (over 32 (hexText 16 (l .lun)) x)))) (number-laid 49 (0x20 ∷ from56) (l .number))
+    ∙ ap (λ (x : List ℕ). over 0 mark (over 2 name (over 15 (hexText 16 (l .tag)) x))) (hex-laid 32 16 (0x20 ∷ from50) (l .lun))
+    ∙ ap (λ (x : List ℕ). over 0 mark (over 2 name x)) (hex-laid 15 16 (0x20 ∷ from33) (l .tag))
+    ∙ ap (over 0 mark) (laid 2 12 (0x20 ∷ from16) name (letters-long (l .name)))
+    ∙ laid 0 1 (0x20 ∷ (name ++ (0x20 ∷ from16))) mark refl

@@ -2,4 +2,5 @@ pub mod Types
 pub mod Counts
 pub mod Lines
 pub mod Columns
+pub mod Beginnings
 pub mod Rows

@@ -16,10 +16,10 @@ use Rattle.srp.specs.Outside.{hexDigit, hex}
 use Rattle.srp.specs.declared.Refusal.the-variants.{ShortBuffer}
 use Rattle.srp.specs.declared.Reply.the-variants.{Refused, Performed}
 use Rattle.srp.proofs.ListLaws.{all-take, all-drop, all-append}
-use Rattle.srp.proofs.Fields.{both}
+use Rattle.srp.proofs.FieldLaws.{both}
 use Rattle.text.proofs.Digits.{length-hex}
 use Rattle.page.specs.Types.{nameOf}
-use Rattle.page.specs.Page.{lineOf, sign, letters, padded, countText, hexText, numberText, over, blank, columns, lineText, traceLine, Printable, OneLine, lead, Traced}
+use Rattle.page.specs.Page.{lineOf, sign, letters, padded, countText, hexText, numberText, over, blank, columns, lineText, lineFrom, traceLine, lineLength, Traced, Printable, OneLine, EveryLine, lead}
 use Rattle.page.specs.declared.Way.{Way}
 use Rattle.page.specs.declared.Way.the-variants.{Towards, From}
 use Rattle.page.specs.declared.Name.{Name}
@@ -205,8 +205,8 @@ module _ (l : Line) where
       }
 
 -- every message of every length, either way
-pub trace-one-line : (w : Way) (s : List ℕ) → OneLine (traceLine w s)
-trace-one-line w s = one-line (lineOf w (nameOf s) s)
+pub every-line : EveryLine
+every-line w s = one-line (lineOf w (nameOf (length s) s) (length s) s)
 
 -- ── the line in a lent buffer
 
@@ -243,15 +243,15 @@ placed-line l before e₀ e₁ e₂ e₃ e₄ e₅ e₆ =
 
 -- ── the call
 
-module _ (w : Way) (s before : List ℕ) where
-  pub short : length before < 81 → Traced w s before before (Refused ShortBuffer)
-  short h = record { reply = rw (lt-ltb (length before) 81 h); buffer = rw (lt-ltb (length before) 81 h) }
+module _ (w : Way) (n : ℕ) (s before : List ℕ) where
+  -- the line of the name m, which is the message's
+  pub named : {m : Name} → m ≡ nameOf n s → {l : Line} → l ≡ lineOf w m n s → {after : List ℕ} → after ≡ placed (lineText l ∷ []) before
+      → after ≡ placed (lineFrom w n s ∷ []) before
+  named {m} em {l} el e = e ∙ ap (λ (k : Line). placed (lineText k ∷ []) before) (el ∙ ap (λ (x : Name). lineOf w x n s) em)
 
-  pub written : 81 ≤ length before → {n : Name} → n ≡ nameOf s → {l : Line} → l ≡ lineOf w n s → {after : List ℕ} → after ≡ placed (lineText l ∷ []) before
-      → Traced w s before after Performed
-  written h {n} en {l} el {after} e =
-      let f : l ≡ lineOf w (nameOf s) s = el ∙ ap (λ (m : Name). lineOf w m s) en in
-      record {
-        reply = rw (le-ltb (length before) 81 h);
-        buffer = rw (le-ltb (length before) 81 h) (e ∙ ap (λ (k : Line). placed (lineText k ∷ []) before) f);
-      }
+module _ (w : Way) (s before : List ℕ) where
+  pub short : length before < lineLength → Traced w s before before (Refused ShortBuffer)
+  short h = record { reply = rw (lt-ltb (length before) lineLength h); buffer = rw (lt-ltb (length before) lineLength h) }
+
+  pub written : lineLength ≤ length before → {after : List ℕ} → after ≡ placed (traceLine w s ∷ []) before → Traced w s before after Performed
+  written h e = record { reply = rw (le-ltb (length before) lineLength h); buffer = rw (le-ltb (length before) lineLength h) e }

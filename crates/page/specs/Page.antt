@@ -4,6 +4,7 @@ use mathlib.Core.Bool.{cond}
 use mathlib.Core.List.{List, [], _∷_, _++_}
 use mathlib.Core.Option.{none, some}
 use Prim.Native.Nat.{ℕ, _+_, _-_, _%_, _≤_}
+use Prim.Native.Char.{code}
 use lib.Dec.{ltb, eqb}
 use lib.ListN.{length, take, drop, replicate}
 use Rattle.srp.specs.Lists.{All}
@@ -17,6 +18,7 @@ use Rattle.srp.specs.Outside.{CReturn, hex, decimal}
 use Rattle.srp.specs.declared.Refusal.the-variants.{ShortBuffer}
 use Rattle.srp.specs.declared.Reply.{Reply}
 use Rattle.srp.specs.declared.Reply.the-variants.{Refused, Performed}
+use Rattle.text.specs.Codes.{codes}
 use Rattle.page.specs.Types.{mostRead, nameOf}
 use Rattle.page.specs.declared.Way.{Way}
 use Rattle.page.specs.declared.Way.the-variants.{Towards, From}
@@ -66,35 +68,24 @@ lineOf w Unknown n s = record { way = w; name = Unknown; tag = Blank; lun = Blan
 
 -- ── its texts
 
--- '>' towards the port, '<' from it
+-- "> towards the port, < from it"
 abbrev pub sign : Way → ℕ
-sign Towards = 0x3e
-sign From = 0x3c
+sign Towards = code ">"
+sign From = code "<"
 
 -- "type name without its leading SRP_"
 abbrev pub letters : Name → List ℕ
--- LOGIN_REQ
-letters LoginReq = 0x4c ∷ 0x4f ∷ 0x47 ∷ 0x49 ∷ 0x4e ∷ 0x5f ∷ 0x52 ∷ 0x45 ∷ 0x51 ∷ []
--- TSK_MGMT
-letters TskMgmt = 0x54 ∷ 0x53 ∷ 0x4b ∷ 0x5f ∷ 0x4d ∷ 0x47 ∷ 0x4d ∷ 0x54 ∷ []
--- CMD
-letters Cmd = 0x43 ∷ 0x4d ∷ 0x44 ∷ []
--- I_LOGOUT
-letters ILogout = 0x49 ∷ 0x5f ∷ 0x4c ∷ 0x4f ∷ 0x47 ∷ 0x4f ∷ 0x55 ∷ 0x54 ∷ []
--- CRED_RSP
-letters CredRsp = 0x43 ∷ 0x52 ∷ 0x45 ∷ 0x44 ∷ 0x5f ∷ 0x52 ∷ 0x53 ∷ 0x50 ∷ []
--- LOGIN_RSP
-letters LoginRsp = 0x4c ∷ 0x4f ∷ 0x47 ∷ 0x49 ∷ 0x4e ∷ 0x5f ∷ 0x52 ∷ 0x53 ∷ 0x50 ∷ []
--- LOGIN_REJ
-letters LoginRej = 0x4c ∷ 0x4f ∷ 0x47 ∷ 0x49 ∷ 0x4e ∷ 0x5f ∷ 0x52 ∷ 0x45 ∷ 0x4a ∷ []
--- RSP
-letters Rsp = 0x52 ∷ 0x53 ∷ 0x50 ∷ []
--- CRED_REQ
-letters CredReq = 0x43 ∷ 0x52 ∷ 0x45 ∷ 0x44 ∷ 0x5f ∷ 0x52 ∷ 0x45 ∷ 0x51 ∷ []
--- T_LOGOUT
-letters TLogout = 0x54 ∷ 0x5f ∷ 0x4c ∷ 0x4f ∷ 0x47 ∷ 0x4f ∷ 0x55 ∷ 0x54 ∷ []
--- UNKNOWN
-letters Unknown = 0x55 ∷ 0x4e ∷ 0x4b ∷ 0x4e ∷ 0x4f ∷ 0x57 ∷ 0x4e ∷ []
+letters LoginReq = codes "LOGIN_REQ"
+letters TskMgmt = codes "TSK_MGMT"
+letters Cmd = codes "CMD"
+letters ILogout = codes "I_LOGOUT"
+letters CredRsp = codes "CRED_RSP"
+letters LoginRsp = codes "LOGIN_RSP"
+letters LoginRej = codes "LOGIN_REJ"
+letters Rsp = codes "RSP"
+letters CredReq = codes "CRED_REQ"
+letters TLogout = codes "T_LOGOUT"
+letters Unknown = codes "UNKNOWN"
 
 abbrev pub spaces : ℕ → List ℕ
 spaces n = replicate n 0x20
@@ -109,7 +100,7 @@ aligned width t = spaces (width - length t) ++ t
 
 -- "right-aligned decimal, ***** above 99,999"
 abbrev pub countText : ℕ → List ℕ
-countText n = cond (ltb 99999 n) (replicate 5 0x2a) (aligned 5 (decimal n))
+countText n = cond (ltb 99999 n) (codes "*****") (aligned 5 (decimal n))
 
 -- a text or nothing, which leaves its columns' spaces
 abbrev pub hexText : ℕ → Entry → List ℕ

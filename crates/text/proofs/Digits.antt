@@ -6,11 +6,12 @@ use mathlib.Core.List.{List, [], _∷_, _++_, append-assoc, append-nil}
 use Prim.Native.Nat.{ℕ, zero, suc, _+_, _-_, _*_, _/_, _%_, _^_, _≤_, _<_}
 use native.Mathlib.Nat.{not-suc-le-zero, pow-suc}
 use native.Mathlib.Omega.{arith}
-use borrow.Author.Tests.{lt-ltb, le-ltb}
+use borrow.Author.Tests.{lt-ltb, le-ltb, ltb-true, ltb-false}
 use lib.Bits.{bitAnd, and-mask}
-use lib.ListN.{length, take, drop, set, length-set}
+use lib.Dec.{ltb}
+use lib.ListN.{length, take, drop, set, length-append, length-set}
 use lib.Pow.{pow-add}
-use Rattle.srp.specs.Outside.{hexDigit, hex, digits}
+use Rattle.srp.specs.Outside.{hexDigit, hex, digits, decimal}
 use Rattle.text.specs.Appending.{Appends}
 use Rattle.text.proofs.Texts.{take-stored, drop-stored, later}
 
@@ -89,3 +90,47 @@ digits-last k n h = ap (λ (b : Bool). elim b as (λ _. List ℕ) [ true ↦ (48
 
 pub digits-more : (k n : ℕ) → 10 ≤ n → digits (suc k) n ≡ digits k (n / 10) ++ ((48 + n % 10) ∷ [])
 digits-more k n h = ap (λ (b : Bool). elim b as (λ _. List ℕ) [ true ↦ (48 + n) ∷ [] | false ↦ digits k (n / 10) ++ ((48 + n % 10) ∷ []) ]) (le-ltb n 10 h)
+
+-- one digit more than a tenth of the number has, at most
+one-more : (k n j : ℕ) → length (digits k (n / 10)) ≤ j → length (digits (suc k) n) ≤ suc j
+one-more k n j h = go (ltb n 10) refl
+  where
+    go : (b : Bool) → ltb n 10 ≡ b → length (digits (suc k) n) ≤ suc j
+    go true e = rw (digits-last k n (ltb-true n 10 e)) (omega arith)
+    go false e = rw (digits-more k n (ltb-false n 10 e), length-append) (omega (arith, h))
+
+digits-few : (k n : ℕ) → length (digits k n) ≤ k
+digits-few zero n = omega arith
+digits-few (suc k) n = one-more k n k (digits-few k (n / 10))
+
+pub decimal-few : (n : ℕ) → length (decimal n) ≤ 20
+decimal-few n = digits-few 20 n
+
+-- a number below 1,000 has at most three
+pub decimal-short : (n : ℕ) → n < 1000 → length (decimal n) ≤ 3
+decimal-short n h =
+    let one : length (digits 18 (n / 10 / 10)) ≤ 1 = rw (digits-last 17 (n / 10 / 10) (omega arith)) (omega arith) in
+    one-more 19 n 2 (one-more 18 (n / 10) 1 one)
+
+-- a number below 10^k needs no more than k
+digits-enough : (k n : ℕ) → n < 10 ^ suc k → digits (suc (suc k)) n ≡ digits (suc k) n
+digits-enough zero n h =
+    let l : n < 10 = omega (arith, h) in
+    digits-last 1 n l ∙ sym (digits-last 0 n l)
+digits-enough (suc k) n h = go (ltb n 10) refl (digits-enough k (n / 10))
+  where
+    tenth : n / 10 < 10 ^ suc k
+    tenth = omega (arith, rw (pow-suc 10 (suc k)) at h)
+
+    go : (b : Bool) → ltb n 10 ≡ b → (n / 10 < 10 ^ suc k → digits (suc (suc k)) (n / 10) ≡ digits (suc k) (n / 10)) → digits (suc (suc (suc k))) n ≡ digits (suc (suc k)) n
+    go true e same = let l = ltb-true n 10 e in digits-last (suc (suc k)) n l ∙ sym (digits-last (suc k) n l)
+    go false e same =
+        let l = ltb-false n 10 e in
+        digits-more (suc (suc k)) n l ∙ ap (λ (t : List ℕ). t ++ ((48 + n % 10) ∷ [])) (same tenth) ∙ sym (digits-more (suc k) n l)
+
+-- the digits of a tenth of it, and its last
+pub one-digit : (n : ℕ) → n < 10 → (48 + n) ∷ [] ≡ decimal n
+one-digit n h = sym (digits-last 19 n h)
+
+pub more-digits : (n : ℕ) → 10 ≤ n → n < 2 ^ 64 → decimal (n / 10) ++ ((48 + n % 10) ∷ []) ≡ decimal n
+more-digits n l h = ap (λ (t : List ℕ). t ++ ((48 + n % 10) ∷ [])) (digits-enough 18 (n / 10) (omega arith)) ∙ sym (digits-more 19 n l)

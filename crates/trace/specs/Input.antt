@@ -3,9 +3,11 @@ use mathlib.Core.Bool.{Bool, cond, _&&_, _||_}
 use mathlib.Core.List.{List, [], _∷_, _++_}
 use mathlib.Core.Option.{Option, none, some}
 use Prim.Native.Nat.{ℕ, suc, _+_, _-_, _*_, _%_}
+use Prim.Native.Char.{code}
 use lib.Dec.{leb, eqb}
 use lib.ListN.{length}
 use Rattle.srp.specs.Outside.{decimal}
+use Rattle.text.specs.Codes.{codes}
 use Rattle.page.specs.Page.{traceLine}
 use Rattle.page.specs.declared.Way.the-variants.{Towards, From}
 use Rattle.trace.specs.declared.reader.Digit.{Digit}
@@ -22,7 +24,7 @@ lineFeed = 0x0a
 
 -- spaces, tabs and carriage returns count nowhere in a line
 abbrev pub isSpace : ℕ → Bool
-isSpace c = eqb c 0x20 || (eqb c 0x09 || eqb c 0x0d)
+isSpace c = eqb c (code " ") || (eqb c (code "\t") || eqb c (code "\r"))
 
 abbrev pub unspaced : List ℕ → List ℕ
 unspaced [] = []
@@ -34,14 +36,18 @@ among first last c = leb first c && leb c last
 -- a hexadecimal digit: 0 to 9, A to F, a to f
 abbrev pub digitOf : ℕ → Digit
 digitOf c =
-    cond (among 0x30 0x39 c) (Value (c - 48))
-    (cond (among 0x41 0x46 c) (Value (c - 55))
-    (cond (among 0x61 0x66 c) (Value (c - 87))
+    cond (among (code "0") (code "9") c) (Value (c - code "0"))
+    (cond (among (code "A") (code "F") c) (Value (10 + (c - code "A")))
+    (cond (among (code "a") (code "f") c) (Value (10 + (c - code "a")))
     Other))
 
 -- '#' starts a comment; '>' and '<' a message towards the port and from it
 abbrev pub contentBy : ℕ → Content
-contentBy c = cond (eqb c 0x23) Comment (cond (eqb c 0x3e) (Message Towards) (cond (eqb c 0x3c) (Message From) (Wrong NoSign)))
+contentBy c =
+    cond (eqb c (code "#")) Comment
+    (cond (eqb c (code ">")) (Message Towards)
+    (cond (eqb c (code "<")) (Message From)
+    (Wrong NoSign)))
 
 -- ── a line
 
@@ -63,16 +69,13 @@ pairs (h ∷ l ∷ vs) = (h * 16 + l) ∷ pairs vs
 
 -- what is wrong
 abbrev pub faultWords : Fault → List ℕ
--- : neither > nor < at its start
-faultWords NoSign = 0x3a ∷ 0x20 ∷ 0x6e ∷ 0x65 ∷ 0x69 ∷ 0x74 ∷ 0x68 ∷ 0x65 ∷ 0x72 ∷ 0x20 ∷ 0x3e ∷ 0x20 ∷ 0x6e ∷ 0x6f ∷ 0x72 ∷ 0x20 ∷ 0x3c ∷ 0x20 ∷ 0x61 ∷ 0x74 ∷ 0x20 ∷ 0x69 ∷ 0x74 ∷ 0x73 ∷ 0x20 ∷ 0x73 ∷ 0x74 ∷ 0x61 ∷ 0x72 ∷ 0x74 ∷ []
--- : a character that is no hexadecimal digit
-faultWords NoDigit = 0x3a ∷ 0x20 ∷ 0x61 ∷ 0x20 ∷ 0x63 ∷ 0x68 ∷ 0x61 ∷ 0x72 ∷ 0x61 ∷ 0x63 ∷ 0x74 ∷ 0x65 ∷ 0x72 ∷ 0x20 ∷ 0x74 ∷ 0x68 ∷ 0x61 ∷ 0x74 ∷ 0x20 ∷ 0x69 ∷ 0x73 ∷ 0x20 ∷ 0x6e ∷ 0x6f ∷ 0x20 ∷ 0x68 ∷ 0x65 ∷ 0x78 ∷ 0x61 ∷ 0x64 ∷ 0x65 ∷ 0x63 ∷ 0x69 ∷ 0x6d ∷ 0x61 ∷ 0x6c ∷ 0x20 ∷ 0x64 ∷ 0x69 ∷ 0x67 ∷ 0x69 ∷ 0x74 ∷ []
--- : an odd number of digits
-faultWords Odd = 0x3a ∷ 0x20 ∷ 0x61 ∷ 0x6e ∷ 0x20 ∷ 0x6f ∷ 0x64 ∷ 0x64 ∷ 0x20 ∷ 0x6e ∷ 0x75 ∷ 0x6d ∷ 0x62 ∷ 0x65 ∷ 0x72 ∷ 0x20 ∷ 0x6f ∷ 0x66 ∷ 0x20 ∷ 0x64 ∷ 0x69 ∷ 0x67 ∷ 0x69 ∷ 0x74 ∷ 0x73 ∷ []
+faultWords NoSign = codes ": neither > nor < at its start"
+faultWords NoDigit = codes ": a character that is no hexadecimal digit"
+faultWords Odd = codes ": an odd number of digits"
 
--- "line ", its number, and what is wrong
+-- with the number of the line
 abbrev pub faultLine : ℕ → Fault → List ℕ
-faultLine k f = 0x6c ∷ 0x69 ∷ 0x6e ∷ 0x65 ∷ 0x20 ∷ decimal k ++ (faultWords f ++ (lineFeed ∷ []))
+faultLine k f = codes "line " ++ (decimal k ++ (faultWords f ++ (lineFeed ∷ [])))
 
 -- line number k, whose first character says what it is, and what follows that
 abbrev pub printedBy : ℕ → Content → List ℕ → List ℕ

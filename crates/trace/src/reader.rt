@@ -82,19 +82,19 @@ fn digit_of(c: u8) -> Digit
         return Digit::Other;
     }
     if c <= b'9' {
-        return Digit::Value(c - 48);
+        return Digit::Value(c - b'0');
     }
     if c < b'A' {
         return Digit::Other;
     }
     if c <= b'F' {
-        return Digit::Value(c - 55);
+        return Digit::Value(10 + (c - b'A'));
     }
     if c < b'a' {
         return Digit::Other;
     }
     if c <= b'f' {
-        return Digit::Value(c - 87);
+        return Digit::Value(10 + (c - b'a'));
     }
     Digit::Other
 }

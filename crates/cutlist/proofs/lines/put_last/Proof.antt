@@ -1,11 +1,11 @@
--- `cutlist::text::put_last` meets its contract: the number, and the newline behind it.
+-- `cutlist::lines::put_last` meets its contract: the number, and the newline behind it.
 -- Assumes nothing.
-use Rattle.cutlist.proofs.Texts.{then}
-use Rattle.cutlist.proofs.Digits.{decimal-short}
+use Rattle.text.proofs.Texts.{then}
+use Rattle.text.proofs.Digits.{decimal-short}
 use native.Mathlib.Omega.{arith}
 use borrow.Author.Needs.{needs}
-use Rattle.cutlist.proofs.text.put_last.Statement.{statement}
-use Rattle.cutlist.proofs.text.put_last.Tie as tie
+use Rattle.cutlist.proofs.lines.put_last.Statement.{statement}
+use Rattle.cutlist.proofs.lines.put_last.Tie as tie
 
 put-decimal-requires : tie.Need-put-decimal-requires
 put-decimal-requires c κs = search needs

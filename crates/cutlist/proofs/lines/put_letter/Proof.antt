@@ -1,12 +1,12 @@
--- `cutlist::text::put_letter` meets its contract: one byte, and another behind it.
+-- `cutlist::lines::put_letter` meets its contract: one byte, and another behind it.
 -- Assumes nothing.
-use Rattle.cutlist.proofs.Texts.{then, spelt}
+use Rattle.text.proofs.Texts.{then, spelt}
 use mathlib.Core.Path.{ap}
 use mathlib.Core.List.{[], _∷_}
 use Prim.Native.Nat.{ℕ}
 use borrow.Author.Needs.{needs}
-use Rattle.cutlist.proofs.text.put_letter.Statement.{statement}
-use Rattle.cutlist.proofs.text.put_letter.Tie as tie
+use Rattle.cutlist.proofs.lines.put_letter.Statement.{statement}
+use Rattle.cutlist.proofs.lines.put_letter.Tie as tie
 
 letter-of-requires : tie.Need-letter-of-requires
 letter-of-requires c κs = search needs

@@ -16,7 +16,7 @@ returns c =
 
 read8-requires : tie.Need-read8-requires
 read8-requires c κs =
-    code-there (c .before .before .before .args .start .now) (c .before .before .before .pre) (c .before .read-bits .ensures) (c .if1 .left)
+    code-there (c .before .before .before .args .len) (c .before .before .before .args .start .now) (c .before .before .before .pre .0) (c .before .before .before .pre .1) (c .before .read-bits .ensures) (c .if1 .left)
 
 cast-t5 : tie.Need-cast-t5
 cast-t5 c = search needs

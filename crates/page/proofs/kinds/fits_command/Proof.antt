@@ -7,21 +7,21 @@ use Rattle.page.proofs.kinds.fits_command.Tie as tie
 
 returns : tie.Need-returns
 returns c =
-    short-command (c .before .before .args .start .now) (c .if1 .taken)
+    short-command (c .before .before .args .len) (c .before .before .args .start .now) (c .if1 .taken)
 
 read-bits-requires : tie.Need-read-bits-requires
 read-bits-requires c κs = search needs
 
 returns-2 : tie.Need-returns-2
 returns-2 c =
-    strange-out (c .before .before .before .before .args .start .now) (c .before .read-bits .ensures) (c .if2 .taken)
+    strange-out (c .before .before .before .before .args .len) (c .before .before .before .before .args .start .now) (c .before .read-bits .ensures) (c .if2 .taken)
 
 read-bits-requires-2 : tie.Need-read-bits-requires-2
 read-bits-requires-2 c κs = search needs
 
 returns-3 : tie.Need-returns-3
 returns-3 c =
-    strange-in (c .before .before .before .before .before .before .args .start .now) (c .before .before .before .read-bits .ensures) (c .before .before .if2 .left) (c .before .read-bits2 .ensures) (c .if3 .taken)
+    strange-in (c .before .before .before .before .before .before .args .len) (c .before .before .before .before .before .before .args .start .now) (c .before .before .before .read-bits .ensures) (c .before .before .if2 .left) (c .before .read-bits2 .ensures) (c .if3 .taken)
 
 read-bits-requires-3 : tie.Need-read-bits-requires-3
 read-bits-requires-3 c κs = search needs
@@ -55,7 +55,7 @@ add-result-3 c = search needs
 
 returns-4 : tie.Need-returns-4
 returns-4 c =
-    by-length (c .before .before .before .before .before .before .before .before .before .before .before .args .start .now) (c .before .before .before .before .before .before .before .before .read-bits .ensures) (c .before .before .before .before .before .before .before .if2 .left) (c .before .before .before .before .before .before .read-bits2 .ensures) (c .before .before .before .before .before .if3 .left) (c .before .before .before .before .read-bits3 .ensures) (c .before .before .before .read8 .ensures) (c .before .read82 .ensures) (c .before .before .size .ensures .0) (c .size2 .ensures .0)
+    by-length (c .before .before .before .before .before .before .before .before .before .before .before .args .len) (c .before .before .before .before .before .before .before .before .before .before .before .args .start .now) (c .before .before .before .before .before .before .before .before .read-bits .ensures) (c .before .before .before .before .before .before .before .if2 .left) (c .before .before .before .before .before .before .read-bits2 .ensures) (c .before .before .before .before .before .if3 .left) (c .before .before .before .before .read-bits3 .ensures) (c .before .before .before .read8 .ensures) (c .before .read82 .ensures) (c .before .before .size .ensures .0) (c .size2 .ensures .0)
 
 pub fits-command-spec : {M : Type 1} → statement M
 fits-command-spec =

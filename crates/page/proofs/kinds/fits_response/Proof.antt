@@ -6,7 +6,7 @@ use Rattle.page.proofs.kinds.fits_response.Tie as tie
 
 returns : tie.Need-returns
 returns c =
-    short-response (c .before .before .args .start .now) (c .if1 .taken)
+    short-response (c .before .before .args .len) (c .before .before .args .start .now) (c .if1 .taken)
 
 response-bytes-requires : tie.Need-response-bytes-requires
 response-bytes-requires c κs = search needs
@@ -22,7 +22,7 @@ add-result-2 c = search needs
 
 returns-2 : tie.Need-returns-2
 returns-2 c =
-    by-parts (c .before .before .before .before .args .start .now) (c .before .response-bytes .ensures .0) (c .sense-bytes .ensures .0)
+    by-parts (c .before .before .before .before .args .len) (c .before .before .before .before .args .start .now) (c .before .response-bytes .ensures .0) (c .sense-bytes .ensures .0)
 
 pub fits-response-spec : {M : Type 1} → statement M
 fits-response-spec =

@@ -6,7 +6,7 @@ use Rattle.page.proofs.kinds.name_of.Tie as tie
 
 returns : tie.Need-returns
 returns c =
-    empty (c .before .before .args .start .now) (c .if1 .taken)
+    empty (c .before .before .args .len) (c .before .before .args .start .now) (c .if1 .taken)
 
 read8-requires : tie.Need-read8-requires
 read8-requires c κs = search needs
@@ -19,11 +19,11 @@ is-fit-requires c κs = search needs
 
 returns-2 : tie.Need-returns-2
 returns-2 c =
-    known (c .before .before .before .before .before .before .args .start .now) (c .before .before .type-named .ensures) (c .before .before .before .read8 .ensures) (c .before .is-fit .ensures) (c .if2 .taken)
+    known (c .before .before .before .before .before .before .args .len) (c .before .before .before .before .before .before .args .start .now) (c .before .before .type-named .ensures) (c .before .before .before .read8 .ensures) (c .before .is-fit .ensures) (c .if2 .taken)
 
 returns-3 : tie.Need-returns-3
 returns-3 c =
-    unknown (c .before .before .before .before .before .before .args .start .now) (c .before .before .type-named .ensures) (c .before .before .before .read8 .ensures) (c .before .is-fit .ensures) (c .if2 .left)
+    unknown (c .before .before .before .before .before .before .args .len) (c .before .before .before .before .before .before .args .start .now) (c .before .before .type-named .ensures) (c .before .before .before .read8 .ensures) (c .before .is-fit .ensures) (c .if2 .left)
 
 pub name-of-spec : {M : Type 1} → statement M
 name-of-spec =

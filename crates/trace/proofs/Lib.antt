@@ -1,0 +1,4 @@
+pub mod Characters
+pub mod Pairs
+pub mod States
+pub mod Whole
