@@ -134,3 +134,9 @@ one-digit n h = sym (digits-last 19 n h)
 
 pub more-digits : (n : ℕ) → 10 ≤ n → n < 2 ^ 64 → decimal (n / 10) ++ ((48 + n % 10) ∷ []) ≡ decimal n
 more-digits n l h = ap (λ (t : List ℕ). t ++ ((48 + n % 10) ∷ [])) (digits-enough 18 (n / 10) (omega arith)) ∙ sym (digits-more 19 n l)
+
+pub length-one : (n : ℕ) → n < 10 → length (decimal n) ≡ 1
+length-one n h = ap (length {A = ℕ}) (digits-last 19 n h)
+
+pub length-more : (n : ℕ) → 10 ≤ n → n < 2 ^ 64 → length (decimal n) ≡ length (decimal (n / 10)) + 1
+length-more n l h = ap (length {A = ℕ}) (sym (more-digits n l h)) ∙ length-append (decimal (n / 10)) ((48 + n % 10) ∷ [])
