@@ -59,11 +59,11 @@ five n h =
     sym
     (rw (
       le-ltb 99999 n h,
-      last 4 9 n,
-      before 3 8 (n / 10),
-      before 2 7 (n / 10 / 10),
-      before 1 6 (n / 10 / 10 / 10),
-      before 0 5 (n / 10 / 10 / 10 / 10),
+      last 4 19 n,
+      before 3 18 (n / 10),
+      before 2 17 (n / 10 / 10),
+      before 1 16 (n / 10 / 10 / 10),
+      before 0 15 (n / 10 / 10 / 10 / 10),
       eq-eqb (n / 10 / 10 / 10 / 10 / 10) 0 none,
       four,
       three,

@@ -3,6 +3,7 @@
 use mathlib.Core.Path.{_≡_, refl, sym, ap, subst, _∙_}
 use mathlib.Core.Bool.{Bool, true, false, cond, _&&_}
 use mathlib.Core.List.{List, [], _∷_, _++_, append-assoc}
+use mathlib.Core.Option.{Option, none, some}
 use Prim.Native.Nat.{ℕ, zero, suc, _+_, _-_, _/_, _%_, _^_, _≤_, _<_}
 use native.Mathlib.Nat.{mod-lt}
 use native.Mathlib.Omega.{arith}
@@ -13,7 +14,9 @@ use lib.Seq.{length-take-le, take-append-le, drop-append-le, take-at, drop-at, d
 use Rattle.srp.specs.Lists.{All}
 use Rattle.srp.specs.Writing.{placed}
 use Rattle.srp.specs.Outside.{hexDigit, hex}
+use Rattle.srp.specs.declared.Refusal.{Refusal}
 use Rattle.srp.specs.declared.Refusal.the-variants.{ShortBuffer}
+use Rattle.srp.specs.declared.Reply.{Reply}
 use Rattle.srp.specs.declared.Reply.the-variants.{Refused, Performed}
 use Rattle.srp.proofs.ListLaws.{all-take, all-drop, all-append}
 use Rattle.srp.proofs.FieldLaws.{both}
@@ -249,9 +252,16 @@ module _ (w : Way) (n : ℕ) (s before : List ℕ) where
       → after ≡ placed (lineFrom w n s ∷ []) before
   named {m} em {l} el e = e ∙ ap (λ (k : Line). placed (lineText k ∷ []) before) (el ∙ ap (λ (x : Name). lineOf w x n s) em)
 
+-- a buffer that is too short, and one that has room
 module _ (w : Way) (s before : List ℕ) where
+  abbrev reply : Bool → Reply
+  reply b = elim (cond b (some ShortBuffer) none) as (λ _. Reply) [ none ↦ Performed | some f ↦ Refused f ]
+
+  abbrev wrote : Bool → List ℕ
+  wrote b = placed (elim (cond b (some ShortBuffer) none) as (λ _. List (List ℕ)) [ none ↦ traceLine w s ∷ [] | some f ↦ [] ]) before
+
   pub short : length before < lineLength → Traced w s before before (Refused ShortBuffer)
-  short h = record { reply = rw (lt-ltb (length before) lineLength h); buffer = rw (lt-ltb (length before) lineLength h) }
+  short h = let e = lt-ltb (length before) lineLength h in record { reply = ap reply (sym e); buffer = ap wrote (sym e) }
 
   pub written : lineLength ≤ length before → {after : List ℕ} → after ≡ placed (traceLine w s ∷ []) before → Traced w s before after Performed
-  written h e = record { reply = rw (le-ltb (length before) lineLength h); buffer = rw (le-ltb (length before) lineLength h) e }
+  written h q = let e = le-ltb (length before) lineLength h in record { reply = ap reply (sym e); buffer = q ∙ ap wrote (sym e) }

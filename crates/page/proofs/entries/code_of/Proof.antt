@@ -18,12 +18,12 @@ read8-requires : tie.Need-read8-requires
 read8-requires c κs =
     code-there (c .before .before .before .args .len) (c .before .before .before .args .start .now) (c .before .before .before .pre .0) (c .before .before .before .pre .1) (c .before .read-bits .ensures) (c .if1 .left)
 
-cast-t5 : tie.Need-cast-t5
-cast-t5 c = search needs
+cast-t6 : tie.Need-cast-t6
+cast-t6 c = search needs
 
 returns-2 : tie.Need-returns-2
 returns-2 c =
     rw (← c .before .before .read-bits .ensures, eq-eqb (c .before .before .read-bits .result) 1 (c .before .if1 .left)) (ap Number (c .read8 .ensures))
 
 pub code-of-spec : {M : Type 1} → statement M
-code-of-spec = tie.close (tie.spec read-bits-requires returns read8-requires cast-t5 returns-2)
+code-of-spec = tie.close (tie.spec read-bits-requires returns read8-requires cast-t6 returns-2)

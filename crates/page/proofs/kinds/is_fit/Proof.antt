@@ -47,47 +47,47 @@ enum-told-11 c = search needs
 
 returns : tie.Need-returns
 returns c =
-    ap (λ (n : Name). fits n (c .before .before .before .args .start .now)) (sym (c .enum-told .given .1))
+    ap (λ (m : Name). fits m (c .before .before .before .args .len) (c .before .before .before .args .start .now)) (sym (c .enum-told .given .1))
 
 returns-2 : tie.Need-returns-2
 returns-2 c =
-    ap (λ (n : Name). fits n (c .before .before .before .args .start .now)) (sym (c .enum-told2 .given .1))
+    ap (λ (m : Name). fits m (c .before .before .before .args .len) (c .before .before .before .args .start .now)) (sym (c .enum-told2 .given .1))
 
 returns-3 : tie.Need-returns-3
 returns-3 c =
-    c .fits-command .ensures ∙ ap (λ (n : Name). fits n (c .before .before .before .before .args .start .now)) (sym (c .before .enum-told3 .given .1))
+    c .fits-command .ensures ∙ ap (λ (m : Name). fits m (c .before .before .before .before .args .len) (c .before .before .before .before .args .start .now)) (sym (c .before .enum-told3 .given .1))
 
 returns-4 : tie.Need-returns-4
 returns-4 c =
-    ap (λ (n : Name). fits n (c .before .before .before .args .start .now)) (sym (c .enum-told4 .given .1))
+    ap (λ (m : Name). fits m (c .before .before .before .args .len) (c .before .before .before .args .start .now)) (sym (c .enum-told4 .given .1))
 
 returns-5 : tie.Need-returns-5
 returns-5 c =
-    ap (λ (n : Name). fits n (c .before .before .before .args .start .now)) (sym (c .enum-told5 .given .1))
+    ap (λ (m : Name). fits m (c .before .before .before .args .len) (c .before .before .before .args .start .now)) (sym (c .enum-told5 .given .1))
 
 returns-6 : tie.Need-returns-6
 returns-6 c =
-    ap (λ (n : Name). fits n (c .before .before .before .args .start .now)) (sym (c .enum-told6 .given .1))
+    ap (λ (m : Name). fits m (c .before .before .before .args .len) (c .before .before .before .args .start .now)) (sym (c .enum-told6 .given .1))
 
 returns-7 : tie.Need-returns-7
 returns-7 c =
-    ap (λ (n : Name). fits n (c .before .before .before .args .start .now)) (sym (c .enum-told7 .given .1))
+    ap (λ (m : Name). fits m (c .before .before .before .args .len) (c .before .before .before .args .start .now)) (sym (c .enum-told7 .given .1))
 
 returns-8 : tie.Need-returns-8
 returns-8 c =
-    c .fits-response .ensures ∙ ap (λ (n : Name). fits n (c .before .before .before .before .args .start .now)) (sym (c .before .enum-told8 .given .1))
+    c .fits-response .ensures ∙ ap (λ (m : Name). fits m (c .before .before .before .before .args .len) (c .before .before .before .before .args .start .now)) (sym (c .before .enum-told8 .given .1))
 
 returns-9 : tie.Need-returns-9
 returns-9 c =
-    ap (λ (n : Name). fits n (c .before .before .before .args .start .now)) (sym (c .enum-told9 .given .1))
+    ap (λ (m : Name). fits m (c .before .before .before .args .len) (c .before .before .before .args .start .now)) (sym (c .enum-told9 .given .1))
 
 returns-10 : tie.Need-returns-10
 returns-10 c =
-    ap (λ (n : Name). fits n (c .before .before .before .args .start .now)) (sym (c .enum-told10 .given .1))
+    ap (λ (m : Name). fits m (c .before .before .before .args .len) (c .before .before .before .args .start .now)) (sym (c .enum-told10 .given .1))
 
 returns-11 : tie.Need-returns-11
 returns-11 c =
-    ap (λ (n : Name). fits n (c .before .before .before .args .start .now)) (sym (c .enum-told11 .given .1))
+    ap (λ (m : Name). fits m (c .before .before .before .args .len) (c .before .before .before .args .start .now)) (sym (c .enum-told11 .given .1))
 
 pub is-fit-spec : {M : Type 1} → statement M
 is-fit-spec =

@@ -7,7 +7,7 @@ use Rattle.page.proofs.writing.count_text.Tie as tie
 
 returns : tie.Need-returns
 returns c =
-    rw (lt-ltb 99999 (c .before .args .n) (c .if1 .taken))
+    rw (lt-ltb 99999 (c .before .before .before .args .n) (c .before .before .if1 .taken))
 
 lead-of-requires : tie.Need-lead-of-requires
 lead-of-requires c κs = search needs
@@ -21,11 +21,11 @@ lead-of-requires-3 c κs = search needs
 lead-of-requires-4 : tie.Need-lead-of-requires-4
 lead-of-requires-4 c κs = search needs
 
-cast-t12 : tie.Need-cast-t12
-cast-t12 c = search needs
+cast-t14 : tie.Need-cast-t14
+cast-t14 c = search needs
 
-add-t13 : tie.Need-add-t13
-add-t13 c = search needs
+add-t15 : tie.Need-add-t15
+add-t15 c = search needs
 
 returns-2 : tie.Need-returns-2
 returns-2 c =
@@ -40,6 +40,6 @@ count-text-spec =
     lead-of-requires-2
     lead-of-requires-3
     lead-of-requires-4
-    cast-t12
-    add-t13
+    cast-t14
+    add-t15
     returns-2)
