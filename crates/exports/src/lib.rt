@@ -107,11 +107,7 @@ pub extern "C" fn srp_cut(list: &[u8], m: u32, r: u32, handed: u32, buf: &mut [u
 fn way_of(n: u32) -> Way
     ensures { λ w. ⌜ w ≡ wayIn n ⌝ }
 {
-    if n == 0 {
-        Way::Towards
-    } else {
-        Way::From
-    }
+    if n == 0 { Way::Towards } else { Way::From }
 }
 
 #[no_mangle]

@@ -207,6 +207,9 @@ module _ (l : Line) where
         feed = drop-at (columns l) (0x0a ∷ []) 80 (columns-wide .long);
       }
 
+pub line-from-long : (w : Way) (n : ℕ) (s : List ℕ) → length (lineFrom w n s) ≡ lineLength
+line-from-long w n s = line-long (lineOf w (nameOf n s) n s)
+
 -- every message of every length, either way
 pub every-line : EveryLine
 every-line w s = one-line (lineOf w (nameOf (length s) s) (length s) s)

@@ -1,13 +1,13 @@
 -- One character more: what a line has without its spaces, and the values of its digits.
 -- Assumes nothing.
 use mathlib.Core.Path.{_≡_, refl, sym, ap, _∙_}
-use mathlib.Core.Bool.{Bool, true, false, cond}
+use mathlib.Core.Bool.{Bool, true, false, cond, _&&_, and-false}
 use mathlib.Core.List.{List, [], _∷_, _++_}
 use mathlib.Core.Option.{Option, none, some}
 use Prim.Native.Nat.{ℕ, _+_, _-_, _<_, _≤_}
 use Prim.Native.Char.{code}
 use native.Mathlib.Omega.{arith}
-use borrow.Author.Tests.{leb-true}
+use borrow.Author.Tests.{leb-true, le-leb, lt-leb}
 use lib.Dec.{leb, eqb}
 use Rattle.srp.proofs.ListLaws.{cond-out}
 use Rattle.srp.proofs.FieldLaws.{both}
@@ -48,6 +48,18 @@ values-more (x ∷ cs) c = ap (valued (digitOf x)) (values-more cs c) ∙ go (di
     go (Value v) none e = refl
     go (Value v) (some vs) Other = refl
     go (Value v) (some vs) (Value y) = refl
+
+-- ── digits
+
+module _ (first last c : ℕ) where
+  pub below : c < first → among first last c ≡ false
+  below h = rw (lt-leb first c h)
+
+  pub above : last < c → among first last c ≡ false
+  above h = ap (λ (b : Bool). leb first c && b) (lt-leb c last h) ∙ and-false (leb first c)
+
+  pub within : first ≤ c → c ≤ last → among first last c ≡ true
+  within h i = rw (le-leb first c h, le-leb c last i)
 
 -- a digit is below 16
 pub digit-small : (c v : ℕ) → digitOf c ≡ Value v → v < 16

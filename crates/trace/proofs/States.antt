@@ -16,7 +16,7 @@ use Rattle.page.specs.Types.{mostRead}
 use Rattle.page.specs.Page.{lineFrom, traceLine}
 use Rattle.page.specs.declared.Way.{Way}
 use Rattle.page.proofs.Beginnings.{reads-beginning}
-use Rattle.trace.specs.Input.{isSpace, digitOf, contentBy, valuesOf, pairs, faultLine, printed}
+use Rattle.trace.specs.Input.{isSpace, digitOf, contentBy, valuesOf, pairs, faultLine, printedBy, printed}
 use Rattle.trace.specs.Reading.{fresh, withContent, byteWith, withDigit, onward, turned, kept, messageEnd, endBy, lineEnd}
 use Rattle.trace.specs.declared.reader.Digit.{Digit}
 use Rattle.trace.specs.declared.reader.Digit.the-variants.{Value, Other}
@@ -178,14 +178,7 @@ pub ends : (k : ℕ) (u : List ℕ) (r : Reader) (st : List ℕ) → At k u r st
 ends k [] r st A = ap (λ (c : Content). endBy c r st) (A .state .0)
 ends k (c ∷ cs) r st A = ap (λ (x : Content). endBy x r st) (A .state .0) ∙ go (contentBy c) (valuesOf cs) (A .state .1)
   where
-    go : (m : Content) (vs : Option (List ℕ)) → Held m vs r st
-        → endBy (after m vs) r st
-        ≡ elim m as (λ _. List ℕ) [
-          Nothing ↦ []
-        | Comment ↦ []
-        | Message w ↦ elim vs as (λ _. List ℕ) [ none ↦ faultLine k NoDigit | some xs ↦ cond (eqb (length xs % 2) 1) (faultLine k Odd) (traceLine w (pairs xs)) ]
-        | Wrong f ↦ faultLine k f
-        ]
+    go : (m : Content) (vs : Option (List ℕ)) → Held m vs r st → endBy (after m vs) r st ≡ printedBy k m vs
     go Nothing vs H = refl
     go Comment vs H = refl
     go (Message w) none H = ap (λ (x : ℕ). faultLine x NoDigit) (A .number)

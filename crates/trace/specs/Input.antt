@@ -77,17 +77,18 @@ faultWords Odd = codes ": an odd number of digits"
 abbrev pub faultLine : ℕ → Fault → List ℕ
 faultLine k f = codes "line " ++ (decimal k ++ (faultWords f ++ (lineFeed ∷ [])))
 
--- line number k, whose first character says what it is, and what follows that
-abbrev pub printedBy : ℕ → Content → List ℕ → List ℕ
-printedBy k Nothing cs = []
-printedBy k Comment cs = []
-printedBy k (Message w) cs = elim (valuesOf cs) [ none ↦ faultLine k NoDigit | some vs ↦ cond (eqb (length vs % 2) 1) (faultLine k Odd) (traceLine w (pairs vs)) ]
-printedBy k (Wrong f) cs = faultLine k f
+-- line number k, by what its first character says and the values of the others
+abbrev pub printedBy : ℕ → Content → Option (List ℕ) → List ℕ
+printedBy k Nothing vs = []
+printedBy k Comment vs = []
+printedBy k (Message w) none = faultLine k NoDigit
+printedBy k (Message w) (some vs) = cond (eqb (length vs % 2) 1) (faultLine k Odd) (traceLine w (pairs vs))
+printedBy k (Wrong f) vs = faultLine k f
 
 -- line number k without its spaces; a blank one prints nothing
 abbrev pub printed : ℕ → List ℕ → List ℕ
 printed k [] = []
-printed k (c ∷ cs) = printedBy k (contentBy c) cs
+printed k (c ∷ cs) = printedBy k (contentBy c) (valuesOf cs)
 
 -- ── the input
 

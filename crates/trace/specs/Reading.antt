@@ -47,7 +47,7 @@ onward (Wrong f) r c = r
 abbrev pub turned : Reader → ℕ → Reader
 turned r c = cond (isSpace c) r (onward (r .content) r c)
 
--- the byte that is read among the first 40, if it is one of them
+-- the byte that is read among the first, if it is one of them
 abbrev pub kept : Reader → List ℕ → List ℕ
 kept r st = cond (eqb (r .digits) 0) st (set st ((r .digits - 1) / 2) (r .last))
 

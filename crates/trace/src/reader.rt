@@ -1,5 +1,4 @@
-// A line as far as it was read: what it is, and of its message the length and the first 40 bytes, which are all that its line says.
-use page::MOST_READ;
+// A line as far as it was read: what it is, and of its message the length and, in `start`, the first 40 bytes, which are all that its line says.
 use page::Way;
 use text::NEWLINE;
 ghost use mathlib.Core.Path.{_≡_};
@@ -69,10 +68,13 @@ pub fn next(r: Reader) -> Reader
 fn is_space(c: u8) -> bool
     ensures { λ r. ⌜ r ≡ isSpace c ⌝ }
 {
-    match c {
-        b' ' | b'\t' | b'\r' => true,
-        _ => false,
+    if c == b' ' {
+        return true;
     }
+    if c == b'\t' {
+        return true;
+    }
+    c == b'\r'
 }
 
 fn digit_of(c: u8) -> Digit
@@ -103,12 +105,16 @@ fn digit_of(c: u8) -> Digit
 fn content_of(c: u8) -> Content
     ensures { λ r. ⌜ r ≡ contentBy c ⌝ }
 {
-    match c {
-        b'#' => Content::Comment,
-        b'>' => Content::Message(Way::Towards),
-        b'<' => Content::Message(Way::From),
-        _ => Content::Wrong(Fault::NoSign),
+    if c == b'#' {
+        return Content::Comment;
     }
+    if c == b'>' {
+        return Content::Message(Way::Towards);
+    }
+    if c == b'<' {
+        return Content::Message(Way::From);
+    }
+    Content::Wrong(Fault::NoSign)
 }
 
 fn with_content(r: Reader, content: Content) -> Reader
@@ -163,21 +169,21 @@ fn turn(r: Reader, c: u8) -> Reader
     }
 }
 
-// The byte that is read stands among the first 40, if it is one of them.
-fn keep(r: Reader, start: &mut [u8; MOST_READ])
+// The byte that is read stands among the first, if it is one of them.
+fn keep(r: Reader, start: &mut [u8])
     ensures { λ _. ⌜ now (start .exit) ≡ kept r (now (start .entry)) ⌝ }
 {
     if r.digits == 0 {
         return;
     }
     let at = (r.digits - 1) / 2;
-    if at < MOST_READ {
+    if at < start.len() {
         start[at] = r.last;
     }
 }
 
 // Reads on in a line, from `from` up to and with its line feed, or to the end of the input.
-pub fn read_line(input: &[u8], from: usize, before: Reader, start: &mut [u8; MOST_READ]) -> Part
+pub fn read_line(input: &[u8], from: usize, before: Reader, start: &mut [u8]) -> Part
     requires { ⌜ from < length (now input) ⌝ }
     ensures { λ p. ⌜ Reads (now (input .entry)) from before (now (start .entry)) p (now (start .exit)) ⌝ }
 {
