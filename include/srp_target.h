@@ -3,7 +3,7 @@
  * memcpy, memmove, memset and memcmp at most.
  *
  * The owner calls. It has the adapter, the device server and the memory. A port is SRP_PORT_WORDS words and a store of
- * SRP_STORE_BYTES bytes, both lent by the owner. srp_look and srp_cut need no port.
+ * SRP_STORE_BYTES bytes, both lent by the owner. srp_look, srp_cut and srp_trace need no port.
  *
  * True of every function below:
  *   - It returns 0, or the number of its refusal: the first that hits, in the order given beside it. (srp_target_words
@@ -65,8 +65,9 @@
 extern "C" {
 #endif
 
-/* The version of this interface. In version 0 there were no moves: after srp_target_plan, step served all the data. */
-#define SRP_TARGET_VERSION 1
+/* The version of this interface. In version 0 there were no moves: after srp_target_plan, step served all the data.
+ * Version 2 has srp_trace; all else is as in version 1. */
+#define SRP_TARGET_VERSION 2
 
 /* Refusals: from the message or the caller. */
 #define SRP_REFUSED_SHORT_BUFFER 1  /* lent buffer too short */
@@ -100,6 +101,7 @@ extern "C" {
 #define SRP_STORE_BYTES   16384 /* bytes of a port's store */
 #define SRP_ANSWER_WORDS  8     /* words of an answer of the calls on a port */
 #define SRP_ANSWER_BYTES  32    /* bytes of an answer of srp_look and srp_cut, and their least buf_len */
+#define SRP_TRACE_BYTES   81    /* bytes of a line of srp_trace, and its least buf_len */
 #define SRP_MESSAGE_BYTES 132   /* the longest message that a port writes, and the least buf_len for one */
 #define SRP_SENSE_BYTES   96    /* the longest sense */
 #define SRP_TABLE_BYTES   512   /* the longest table of memory descriptors */
@@ -486,6 +488,56 @@ uint32_t srp_look(const uint8_t *msg, size_t msg_len, uint32_t agreed, uint32_t 
  */
 uint32_t srp_cut(const uint8_t *list, size_t list_len, uint32_t m, uint32_t r, uint32_t handed, uint8_t *buf,
                  size_t buf_len);
+
+/*
+ * Trace: writes one message as a line of text, 80 columns and a line feed, to be read on a terminal. It keeps no state
+ * and may be called for any bytes at any time, also for a message that a port refused.
+ *
+ *   msg, msg_len   the message. At most its first 40 bytes are read, and none beyond msg_len
+ *   direction      0 towards the port, else from it; a type that cannot go that way still prints
+ *   buf, buf_len   where the line goes
+ *
+ * Refusals:
+ *    1  buf_len under 81
+ *
+ * buf after 0:
+ *    0-80   the line: columns 1 to 80, and a line feed (0Ah). No 0 byte ends it
+ *   81-     as before
+ *
+ * Its columns. Hexadecimal digits are lowercase. All other columns, and those of a field that the type has not, are
+ * spaces.
+ *    1      > towards the port, < from it
+ *    3-14   the type's name without its leading SRP_
+ *   16-31   tag (bytes 8-15), 16 hexadecimal digits
+ *   33-48   LUN (bytes 20-27) of SRP_CMD and SRP_TSK_MGMT, 16 hexadecimal digits
+ *   50-54   delta of SRP_RSP and SRP_CRED_REQ, N of SRP_LOGIN_RSP (bytes 4-7, unsigned), decimal and right-aligned;
+ *           ***** above 99,999
+ *   56-63   reason of SRP_T_LOGOUT and SRP_LOGIN_REJ (bytes 4-7), RSP_CODE of an SRP_RSP with RSPVALID (byte 39), 8
+ *           hexadecimal digits
+ *
+ *   type   name        msg_len
+ *   00h    LOGIN_REQ   64
+ *   01h    TSK_MGMT    48
+ *   02h    CMD         48 + 4n + the out descriptor + the in descriptor, as srp_look has them, with any counts
+ *   03h    I_LOGOUT    16
+ *   41h    CRED_RSP    16
+ *   80h    T_LOGOUT    16
+ *   81h    CRED_REQ    16
+ *   C0h    LOGIN_RSP   52
+ *   C1h    RSP         36, + 4 with RSPVALID (byte 18 bit 0), + the sense length (bytes 28-31) with SNSVALID (bit 1);
+ *                      the sum does not wrap at 2^32, and the response length (bytes 32-35) is not read
+ *   C2h    LOGIN_REJ   32
+ * A message of another type, of another msg_len than its type's, or of type 02h with a format above 2 (byte 5 bits 7-4,
+ * 3-0) has UNKNOWN as its name and msg_len in columns 50-54 by the rule of a delta; all else but column 1 is spaces.
+ *
+ * Lines, their last spaces left out:
+ *   > CMD          00000000000000a1 0003000000000000
+ *   < RSP          00000000000000a1                      1
+ *   < RSP          00000000000000a4                      2 00000004
+ *   < T_LOGOUT     0000000000000000                        00000006
+ *   > UNKNOWN                                           15
+ */
+uint32_t srp_trace(const uint8_t *msg, size_t msg_len, uint32_t direction, uint8_t *buf, size_t buf_len);
 
 #ifdef __cplusplus
 }

@@ -4,7 +4,7 @@
  */
 #include "srp_target.h"
 
-_Static_assert(SRP_TARGET_VERSION == 1, "version");
+_Static_assert(SRP_TARGET_VERSION == 2, "version");
 
 _Static_assert(SRP_REFUSED_SHORT_BUFFER == 1, "short buffer");
 _Static_assert(SRP_REFUSED_SETTING == 2, "setting");
@@ -33,6 +33,7 @@ _Static_assert(SRP_REFUSED_UNFINISHED == 32, "unfinished");
 _Static_assert(SRP_STORE_BYTES == 16384, "bytes of a store");
 _Static_assert(SRP_ANSWER_WORDS == 8, "words of an answer");
 _Static_assert(SRP_ANSWER_BYTES == 32, "bytes of an answer");
+_Static_assert(SRP_TRACE_BYTES == 81, "line");
 _Static_assert(SRP_MESSAGE_BYTES == 132, "lent buffer");
 _Static_assert(SRP_SENSE_BYTES == 96, "sense");
 _Static_assert(SRP_TABLE_BYTES == 512, "table");
