@@ -22,6 +22,7 @@ static uint32_t (*const list_of_header)(const uint64_t *, uint64_t *, size_t, ui
 static uint32_t (*const look_of_header)(const uint8_t *, size_t, uint32_t, uint32_t, uint8_t *, size_t) = srp_look;
 static uint32_t (*const cut_of_header)(const uint8_t *, size_t, uint32_t, uint32_t, uint32_t, uint8_t *,
                                        size_t) = srp_cut;
+static uint32_t (*const trace_of_header)(const uint8_t *, size_t, uint32_t, uint8_t *, size_t) = srp_trace;
 
 const uint8_t own_identifier[16] = {0x21, 0x22, 0x23, 0x24, 0x25, 0x26, 0x27, 0x28,
                                     0x29, 0x2a, 0x2b, 0x2c, 0x2d, 0x2e, 0x2f, 0x30};
@@ -77,6 +78,19 @@ void cut(const char *name, uint32_t number, const uint8_t *answer, struct bytes 
     returned = cut_of_header(lent(SEGMENTS), list.len, m, r, handed, lent(BUF), buf_len);
     if (answer)
         expect(BUF, 0, answer, SRP_ANSWER_BYTES);
+    compare(name, returned, number);
+}
+
+void trace(const char *name, uint32_t number, const char *line, struct bytes msg, uint32_t direction, size_t buf_len)
+{
+    uint32_t returned;
+    lay(MSG, msg.at, msg.len);
+    lend_answers();
+    returned = trace_of_header(lent(MSG), msg.len, direction, lent(BUF), buf_len);
+    if (line && strlen(line) != SRP_TRACE_BYTES)
+        fail(name, "the line to compare with has not 81 bytes");
+    else if (line)
+        expect(BUF, 0, line, SRP_TRACE_BYTES);
     compare(name, returned, number);
 }
 

@@ -31,6 +31,9 @@ void look(const char *name, uint32_t number, const uint8_t *answer, struct bytes
 void cut(const char *name, uint32_t number, const uint8_t *answer, struct bytes list, uint32_t m, uint32_t r,
          uint32_t handed, size_t buf_len);
 
+/* The line expected has its line feed, and is NULL for a refusal. */
+void trace(const char *name, uint32_t number, const char *line, struct bytes msg, uint32_t direction, size_t buf_len);
+
 /* The words of the port are arbitrary before a login. */
 void login(const char *name, uint32_t number, struct after after, const uint32_t *settings, struct bytes msg,
            size_t buf_len);

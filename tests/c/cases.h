@@ -7,6 +7,8 @@
 
 void look_cases(void);
 void cut_cases(void);
+void trace_cases(void);
+void trace_length_cases(void);
 void login_cases(void);
 void take_cases(void);
 void table_cases(void);

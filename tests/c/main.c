@@ -6,6 +6,8 @@ int main(void)
 {
     look_cases();
     cut_cases();
+    trace_cases();
+    trace_length_cases();
     login_cases();
     take_cases();
     table_cases();

@@ -3,6 +3,8 @@
 #include "cases.h"
 
 static const uint8_t nothing[SRP_ANSWER_BYTES];
+static const char no_message[] =
+    "> UNKNOWN                                            0                          \n";
 
 static void fresh(void)
 {
@@ -19,6 +21,10 @@ static void stateless(void)
     compare("cut, NULL both", srp_cut(NULL, 0, 300, 650, 0, NULL, 0), SRP_REFUSED_SHORT_BUFFER);
     expect(BUF, 0, nothing, sizeof nothing);
     compare("cut, NULL list", srp_cut(NULL, 0, 300, 650, 0, lent(BUF), 40), 0);
+    fresh();
+    compare("trace, NULL both", srp_trace(NULL, 0, 0, NULL, 0), SRP_REFUSED_SHORT_BUFFER);
+    expect(BUF, 0, no_message, SRP_TRACE_BYTES);
+    compare("trace, NULL message", srp_trace(NULL, 0, 0, lent(BUF), 90), 0);
 }
 
 /* Refused, and nothing is written but answer, all of it 0. */
