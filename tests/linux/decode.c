@@ -1,6 +1,7 @@
 #include <string.h>
 
 #include "decode.h"
+#include "lines.h"
 #include "outside.h"
 #include "tally.h"
 
@@ -19,6 +20,7 @@ void is_login_rsp(const uint8_t *msg, size_t len, const struct login_answer *a)
     same(name, "buf_fmt", GET(m.buf_fmt), a->formats);
     same(name, "rsp_flags", m.rsp_flags, SRP_LOGIN_RSP_MULTICHAN_NO_CHAN | (a->solicited ? SOLNTSUP : 0));
     all_zero(name, "reserved2", m.reserved2, sizeof m.reserved2);
+    traced(name, "LOGIN_RSP", msg, len, FROM_PORT);
     count(LOGIN_RSPS);
 }
 
@@ -35,6 +37,7 @@ void is_login_rej(const uint8_t *msg, size_t len, const struct login_answer *a)
     all_zero(name, "reserved2", m.reserved2, sizeof m.reserved2);
     same(name, "buf_fmt", GET(m.buf_fmt), a->formats);
     all_zero(name, "reserved3", m.reserved3, sizeof m.reserved3);
+    traced(name, "LOGIN_REJ", msg, len, FROM_PORT);
     count(LOGIN_REJS);
 }
 
@@ -68,6 +71,7 @@ void is_rsp(const char *name, const uint8_t *msg, size_t len, const struct respo
     same(name, "sense_data_len", GET(m.sense_data_len), r->sense_len);
     same(name, "resp_data_len", GET(m.resp_data_len), responses);
     is_data(name, msg + sizeof m, r);
+    traced(name, "RSP", msg, len, FROM_PORT);
 }
 
 void is_cred_req(const uint8_t *msg, size_t len, int solnt, uint32_t delta)
@@ -81,6 +85,7 @@ void is_cred_req(const uint8_t *msg, size_t len, int solnt, uint32_t delta)
     all_zero(name, "reserved", m.reserved, sizeof m.reserved);
     same(name, "req_lim_delta", GET(m.req_lim_delta), delta);
     same(name, "tag", GET(m.tag), 1);
+    traced(name, "CRED_REQ", msg, len, FROM_PORT);
     count(CRED_REQS);
 }
 
@@ -94,4 +99,5 @@ void is_t_logout(const char *name, const uint8_t *msg, size_t len, int solnt, ui
     all_zero(name, "reserved", m.reserved, sizeof m.reserved);
     same(name, "reason", GET(m.reason), reason);
     same(name, "tag", GET(m.tag), 0);
+    traced(name, "T_LOGOUT", msg, len, FROM_PORT);
 }

@@ -1,4 +1,4 @@
-/* Messages that the port wrote, decoded with Linux's structs and compared field by field. */
+/* Messages that the port wrote, decoded with Linux's structs and compared field by field; and their lines. */
 #ifndef DECODE_H
 #define DECODE_H
 

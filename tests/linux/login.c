@@ -3,6 +3,7 @@
 
 #include "decode.h"
 #include "events.h"
+#include "lines.h"
 #include "port.h"
 #include "tally.h"
 
@@ -39,6 +40,7 @@ static int log_in(struct channel *c)
     same("login", "returned", call_login(&s), 0);
     answered("login", (const uint64_t[SRP_ANSWER_WORDS]){a.reason ? 32 : 52, a.reason});
     kept_from("login", a.reason ? 32 : 52);
+    traced("login", "LOGIN_REQ", port.msg, port.msg_len, TO_PORT);
     count(LOGIN_REQS);
     if (a.reason) {
         is_login_rej(port.buf, port.answer[0], &a);

@@ -1,14 +1,16 @@
 /*
  * A decoder built elsewhere: the structs of Linux's scsi/srp.h. Every message that the port writes is decoded with
  * them and compared with what document 01 says that it must hold. Every message to the port is built with them, and
- * the port takes it as those fields. The exchanges are arbitrary, and the same in every run.
+ * the port takes it as those fields. The exchanges are arbitrary, and the same in every run. Every message either way,
+ * and further ones, have the line in srp_trace that their fields in the structs give.
  */
 #include "events.h"
+#include "lines.h"
 #include "port.h"
 #include "random.h"
 #include "tally.h"
 
-enum { EXCHANGES = 1000, EVENTS = 140, LEAST = 100 };
+enum { EXCHANGES = 1000, EVENTS = 140, ROUNDS = 2000, LEAST = 100 };
 
 /* One of these, some of them more often. */
 static void one_event(struct channel *c)
@@ -36,5 +38,6 @@ int main(void)
         end_channel(&c);
         agree(&c);
     }
+    trace_messages(ROUNDS);
     return tell(EXCHANGES, LEAST);
 }

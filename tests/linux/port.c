@@ -1,5 +1,6 @@
 #include <string.h>
 
+#include "lines.h"
 #include "outside.h"
 #include "port.h"
 #include "tally.h"
@@ -28,11 +29,16 @@ void kept_from(const char *name, size_t len)
     same(name, "first byte written past the message", len, sizeof port.buf);
 }
 
+/* The line of a message taken names what it was taken as, by the kind in the answer. */
 uint32_t take_message(uint32_t out_len, uint32_t in_len)
 {
+    static const char *const types[5] = {NULL, "CMD", "TSK_MGMT", "CRED_RSP", "I_LOGOUT"};
+    uint32_t returned;
     lend();
-    return srp_target_take(port.words, port.store, port.msg, port.msg_len, port.tables[0], out_len, port.tables[1],
-                           in_len, port.buf, SRP_MESSAGE_BYTES, port.answer);
+    returned = srp_target_take(port.words, port.store, port.msg, port.msg_len, port.tables[0], out_len, port.tables[1],
+                               in_len, port.buf, SRP_MESSAGE_BYTES, port.answer);
+    traced("message taken", port.answer[1] < 5 ? types[port.answer[1]] : NULL, port.msg, port.msg_len, TO_PORT);
+    return returned;
 }
 
 /* Each open command is listed once: as many as are open, all of them open, none twice. */

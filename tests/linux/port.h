@@ -23,7 +23,7 @@ void lend(void);
 void answered(const char *name, const uint64_t *words);
 void kept_from(const char *name, size_t len);
 
-/* Takes the message, with so many bytes of each table. */
+/* Takes the message, with so many bytes of each table, and has it traced. */
 uint32_t take_message(uint32_t out_len, uint32_t in_len);
 
 /* The port's counters and its listing are the model's. */

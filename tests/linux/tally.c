@@ -12,6 +12,11 @@ static const char *const names[TALLIES] = {
     "direct", "indirect, all copied", "indirect, fetched", "both ways", "additional CDB",
     "empty move", "middle first", "move backwards", "move past 2^32", "move trimmed",
     "move unplanned", "move above min(R, B)", "move unfinished",
+    "line of SRP_LOGIN_REQ", "line of SRP_TSK_MGMT", "line of SRP_CMD", "line of SRP_I_LOGOUT", "line of SRP_CRED_RSP",
+    "line of SRP_T_LOGOUT", "line of SRP_CRED_REQ", "line of SRP_LOGIN_RSP", "line of SRP_RSP",
+    "line of SRP_LOGIN_REJ", "line of UNKNOWN",
+    "line with *****", "line with RSP_CODE", "line of a count above 32", "line of another length",
+    "line of another format", "line of a sense past 2^32", "line of an event report",
     "RDMA operation", "record",
 };
 static unsigned tallies[TALLIES], comparisons, failures;
@@ -36,6 +41,15 @@ void same_bytes(const char *message, const char *field, const void *got, const v
     same(message, field, len && memcmp(got, wanted, len) != 0, 0);
 }
 
+void same_text(const char *message, const char *field, const char *got, const char *wanted, size_t len)
+{
+    comparisons++;
+    if (memcmp(got, wanted, len) == 0)
+        return;
+    if (failures++ < 20)
+        printf("FAILED %s: %s is\n%.*s\nnot\n%.*s\n", message, field, (int)len, got, (int)len, wanted);
+}
+
 void all_zero(const char *message, const char *field, const void *got, size_t len)
 {
     const uint8_t *bytes = got;
@@ -47,7 +61,7 @@ void all_zero(const char *message, const char *field, const void *got, size_t le
 
 int tell(unsigned exchanges, unsigned least)
 {
-    unsigned decoded = 0, fewest = tallies[0];
+    unsigned decoded = 0, lines = 0, fewest = tallies[0];
     int t;
     for (t = 0; t < TALLIES; t++) {
         if (tallies[t] < least) {
@@ -58,8 +72,10 @@ int tell(unsigned exchanges, unsigned least)
             fewest = tallies[t];
         if (t <= CLOSINGS)
             decoded += tallies[t];
+        if (t >= LINES_LOGIN_REQ && t <= LINES_UNKNOWN)
+            lines += tallies[t];
     }
-    printf("Linux srp.h: %u exchanges, %u messages decoded, %u RDMA operations, each kind at least %u times, "
-           "%u comparisons, %u failed\n", exchanges, decoded, tallies[PIECES], fewest, comparisons, failures);
+    printf("Linux srp.h: %u exchanges, %u messages decoded, %u RDMA operations, %u lines, each kind at least %u times, "
+           "%u comparisons, %u failed\n", exchanges, decoded, tallies[PIECES], lines, fewest, comparisons, failures);
     return failures ? 1 : 0;
 }

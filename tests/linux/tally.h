@@ -14,6 +14,11 @@ enum tally {
     LOGIN_REQS, TASKS, CRED_RSPS, I_LOGOUTS, DIRECT, INDIRECT_WHOLE, INDIRECT_FETCHED, BOTH_WAYS, LONG_CDBS,
     /* moves, and those refused */
     EMPTY_MOVES, MIDDLE_FIRST, BACKWARDS, PAST_2_32, TRIMMED, MOVES_UNPLANNED, MOVES_ABOVE, MOVES_UNFINISHED,
+    /* lines of srp_trace, by the type that they name */
+    LINES_LOGIN_REQ, LINES_TSK_MGMT, LINES_CMD, LINES_I_LOGOUT, LINES_CRED_RSP, LINES_T_LOGOUT, LINES_CRED_REQ,
+    LINES_LOGIN_RSP, LINES_RSP, LINES_LOGIN_REJ, LINES_UNKNOWN,
+    /* of those: a number above 99,999, an RSP_CODE, counts that a port refuses; why a message is UNKNOWN */
+    STARS, RSP_CODES, COUNTS_ABOVE_32, OTHER_LENGTHS, OTHER_FORMATS, WRAPPED_SENSES, EVENT_REPORTS,
     /* answers */
     PIECES, LISTED,
     TALLIES
@@ -24,6 +29,7 @@ void count(enum tally t);
 /* A field of a message, or a word of an answer, and what it must be. */
 void same(const char *message, const char *field, uint64_t got, uint64_t wanted);
 void same_bytes(const char *message, const char *field, const void *got, const void *wanted, size_t len);
+void same_text(const char *message, const char *field, const char *got, const char *wanted, size_t len);
 void all_zero(const char *message, const char *field, const void *got, size_t len);
 
 /* Prints the result; the program's exit status: 1 where a comparison failed or a tally is below `least`. */
