@@ -27,15 +27,18 @@ static uint32_t some_number(void)
 
 static size_t login_req(void)
 {
-    struct login l = {.tag = any_number(), .length = some_number(), .formats = from_to(0, 0xffff)};
+    struct login l = {.tag = any_number()};
+    l.length = some_number();
+    l.formats = from_to(0, 0xffff);
     any_bytes(l.target, sizeof l.target);
     return build_login(msg, &l);
 }
 
 static size_t tsk_mgmt(void)
 {
-    struct request r = {.tag = any_number(), .lun = any_number()};
-    return build_task(msg, &r, (uint8_t)any_number(), any_number());
+    struct request r = {.tag = any_number()};
+    r.lun = any_number();
+    return build_task(msg, &r, SRP_TSK_ABORT_TASK, any_number());
 }
 
 static unsigned some_descriptor(unsigned format, unsigned copies)
