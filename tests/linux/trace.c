@@ -17,11 +17,11 @@ static size_t put(const void *m, size_t size, size_t len)
     return len;
 }
 
-/* Small numbers, those around 99,999, any. */
+/* Small numbers, those around 99,999, the largest, any. */
 static uint32_t some_number(void)
 {
     if (one_in(3))
-        return (uint32_t)any_number();
+        return one_in(3) ? UINT32_MAX - from_to(0, 9) : (uint32_t)any_number();
     return one_in(2) ? from_to(99990, 100009) : from_to(0, 20000);
 }
 
@@ -194,7 +194,7 @@ static size_t event_report(void)
 
 static uint32_t any_direction(void)
 {
-    return one_in(2) ? TO_PORT : from_to(1, UINT32_MAX);
+    return one_in(2) ? TO_PORT : from_to(FROM_PORT, one_in(2) ? 3 : UINT32_MAX);
 }
 
 void trace_messages(unsigned rounds)
