@@ -8,7 +8,8 @@ use Rattle.cutlist.proofs.lines.put_last.Statement.{statement}
 use Rattle.cutlist.proofs.lines.put_last.Tie as tie
 
 put-decimal-requires : tie.Need-put-decimal-requires
-put-decimal-requires c κs = search needs
+put-decimal-requires c κs =
+    omega (arith, decimal-short (c .before .before .args .n) (c .before .before .pre .0), c .before .before .pre .1)
 
 put-byte-requires : tie.Need-put-byte-requires
 put-byte-requires c κs =
