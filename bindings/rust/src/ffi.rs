@@ -123,3 +123,8 @@ pub fn cut(list: &[u8], m: u32, r: u32, handed: u32, buf: &mut Bytes) -> u32 {
     // SAFETY: as said at the top.
     unsafe { srp_cut(list.as_ptr(), list.len(), m, r, handed, buf.as_mut_ptr(), buf.len()) }
 }
+
+pub fn trace(msg: &[u8], direction: u32, buf: &mut [u8]) -> u32 {
+    // SAFETY: as said at the top.
+    unsafe { srp_trace(msg.as_ptr(), msg.len(), direction, buf.as_mut_ptr(), buf.len()) }
+}

@@ -7,7 +7,8 @@
 //!
 //! For each SRP_CMD, [`look`] names the tables to fetch; then come [`Port::take`], [`Port::plan`], [`Port::pieces`] for
 //! each move of its data, and [`Port::finish`]. A refusal of [`Port::take`] that comes with a message carries it: see
-//! [`TakeRefusal`].
+//! [`TakeRefusal`]. [`cut`] is the cut alone, without a port; [`trace`] writes any message, of either end, as a line for
+//! a terminal.
 //!
 //! A login; then a command that reads 1,300 bytes to address 1000h, handle 7, in RDMA operations of up to 512 bytes:
 //!
@@ -83,10 +84,13 @@ pub use message::Message;
 pub use pieces::Pieces;
 pub use port::Port;
 pub use refusal::{LoginRefusal, NoRefusal, Refusal, TakeRefusal};
-pub use stateless::{cut, look, Fetch, Fetches, Piece};
+pub use stateless::{cut, look, trace, Fetch, Fetches, Piece, Way};
 
 /// The longest message that a port writes, and the shortest buffer that may be lent for one.
 pub const MESSAGE_BYTES: usize = srp_target_sys::MESSAGE_BYTES;
+
+/// The line of a message with its line feed, and the shortest buffer that may be lent for one.
+pub const TRACE_BYTES: usize = srp_target_sys::TRACE_BYTES;
 
 /// The longest sense that a response carries.
 pub const SENSE_BYTES: usize = srp_target_sys::SENSE_BYTES;

@@ -11,7 +11,7 @@ use crate::message::Message;
 #[derive(Clone, Copy, Debug, PartialEq, Eq, PartialOrd, Ord, Hash)]
 #[repr(u32)]
 pub enum Refusal {
-    /// 1: lent buffer under 132 bytes.
+    /// 1: lent buffer under 132 bytes, or under 81 for the line of [`trace`](crate::trace).
     ShortBuffer = sys::REFUSED_SHORT_BUFFER,
     /// 2: setting out of range.
     Setting = sys::REFUSED_SETTING,

@@ -1,6 +1,6 @@
-//! Look and the cut, which need no port.
+//! Look, the cut and the trace, which need no port.
 
-use srp_target_sys::ANSWER_BYTES;
+use srp_target_sys::{ANSWER_BYTES, TRACE_BYTES};
 
 use crate::ffi::{self, Bytes};
 use crate::outcome::checked;
@@ -39,6 +39,25 @@ pub struct Piece {
     pub offset: u32,
 }
 
+/// Which way a message goes.
+#[derive(Clone, Copy, Debug, PartialEq, Eq, Hash)]
+pub enum Way {
+    /// Towards the port: its line starts with `>`.
+    ToPort,
+    /// From the port: `<`.
+    FromPort,
+}
+
+impl Way {
+    /// In the C interface.
+    fn number(self) -> u32 {
+        match self {
+            Way::ToPort => 0,
+            Way::FromPort => 1,
+        }
+    }
+}
+
 /// Reads one SRP_CMD, and names the tables to fetch. `agreed` is the agreed length, `formats` the agreed formats: bytes
 /// 16-19 and 24-25 of the SRP_LOGIN_REQ that was accepted.
 ///
@@ -74,6 +93,46 @@ pub fn cut(list: &[u8], m: u32, r: u32, handed: u32) -> Result<Option<Piece>, Re
         let offset = number_at(&answer, 16);
         Piece { address, handle, length, offset }
     }))
+}
+
+/// A message as one line for a terminal: 80 columns and a line feed, all of it printable ASCII. It is the first
+/// [`TRACE_BYTES`](crate::TRACE_BYTES) bytes of the lent buffer, whose other bytes stay. Any bytes have a line, also a
+/// message that a port refused, or of a type that does not go that way.
+///
+/// | columns | |
+/// |---|---|
+/// | 1 | `>` towards the port, `<` from it |
+/// | 3-14 | the type's name without SRP_ |
+/// | 16-31 | tag, 16 hexadecimal digits |
+/// | 33-48 | LUN, 16 hexadecimal digits: SRP_CMD and SRP_TSK_MGMT |
+/// | 50-54 | delta, or N of SRP_LOGIN_RSP: decimal, right-aligned, `*****` above 99,999 |
+/// | 56-63 | reason, or RSP_CODE where RSPVALID is set: 8 hexadecimal digits |
+///
+/// All others are spaces. A message of another type, of a length that is not its type's, or with a descriptor format
+/// above 2 has `UNKNOWN` for its name, its length in columns 50-54 by the delta's rule, and no tag.
+///
+/// # Errors
+/// Refused: 1 `buf` under 81 bytes; it is as it was.
+///
+/// # Examples
+/// ```
+/// use srp_target::{trace, Way, TRACE_BYTES};
+///
+/// let mut msg = [0; 16]; // SRP_CRED_REQ
+/// msg[0] = 0x81;
+/// msg[7] = 3; // delta
+/// msg[15] = 0x2a; // tag
+/// let mut buf = [0; TRACE_BYTES];
+/// let line = trace(&msg, Way::FromPort, &mut buf)?;
+/// assert_eq!(line[..54], *b"< CRED_REQ     000000000000002a                      3");
+/// assert_eq!(line[54..], *b"                          \n");
+/// let line = trace(&msg[..15], Way::FromPort, &mut buf)?;
+/// assert_eq!(line[..54], *b"< UNKNOWN                                           15");
+/// # Ok::<(), srp_target::Refusal>(())
+/// ```
+pub fn trace<'b>(msg: &[u8], way: Way, buf: &'b mut [u8]) -> Result<&'b [u8], Refusal> {
+    checked(ffi::trace(msg, way.number(), buf))?;
+    Ok(&buf[..TRACE_BYTES])
 }
 
 /// The memory descriptor at a place of an answer; none where its length is 0.

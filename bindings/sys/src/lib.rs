@@ -67,4 +67,5 @@ extern "C" {
     pub fn srp_target_list(port: *const Words, records: *mut u64, words: usize, answer: *mut Answer) -> u32;
     pub fn srp_look(msg: *const u8, msg_len: usize, agreed: u32, formats: u32, buf: *mut u8, buf_len: usize) -> u32;
     pub fn srp_cut(list: *const u8, list_len: usize, m: u32, r: u32, handed: u32, buf: *mut u8, buf_len: usize) -> u32;
+    pub fn srp_trace(msg: *const u8, msg_len: usize, direction: u32, buf: *mut u8, buf_len: usize) -> u32;
 }

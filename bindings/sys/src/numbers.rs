@@ -1,7 +1,7 @@
 //! The numbers of include/srp_target.h, in its order; tests/rust/tests/header.rs compares them.
 
 // The version of the interface.
-pub const TARGET_VERSION: u32 = 1;
+pub const TARGET_VERSION: u32 = 2;
 
 // Refusals: from the message or the caller.
 pub const REFUSED_SHORT_BUFFER: u32 = 1;
@@ -35,6 +35,7 @@ pub const PORT_WORDS: usize = 528;
 pub const STORE_BYTES: usize = 16_384;
 pub const ANSWER_WORDS: usize = 8;
 pub const ANSWER_BYTES: usize = 32;
+pub const TRACE_BYTES: usize = 81;
 pub const MESSAGE_BYTES: usize = 132;
 pub const SENSE_BYTES: usize = 96;
 pub const TABLE_BYTES: usize = 512;
