@@ -25,6 +25,14 @@ pub struct Cut {
     pub lent: usize,
 }
 
+/// Arguments of srp_trace.
+#[derive(Clone, Debug)]
+pub struct Trace {
+    pub msg: Vec<u8>,
+    pub direction: u32,
+    pub lent: usize,
+}
+
 /// What a call returned, and the lent buffer after it.
 #[derive(Debug, PartialEq, Eq)]
 pub struct Outcome {
@@ -37,6 +45,13 @@ pub struct Outcome {
 pub struct Memory {
     input: GuardedMemory,
     lent: GuardedMemory,
+}
+
+impl Memory {
+    /// For inputs of up to so many bytes.
+    pub fn holding(bytes: usize) -> Self {
+        Memory { input: GuardedMemory::holding(bytes), ..Memory::default() }
+    }
 }
 
 /// Where input and lent buffer lie in their memory, and from which byte the lent buffer is filled before the call.
@@ -143,5 +158,23 @@ impl Call for Cut {
 
     fn on_model(&self, buf: &mut [u8]) -> u32 {
         model::cut_in_c(&self.list, self.m, self.r, self.handed, buf)
+    }
+}
+
+impl Call for Trace {
+    fn input(&self) -> &[u8] {
+        &self.msg
+    }
+
+    fn lent(&self) -> usize {
+        self.lent
+    }
+
+    fn on_library(&self, msg: &[u8], buf: &mut [u8]) -> u32 {
+        crate::trace(msg, self.direction, buf)
+    }
+
+    fn on_model(&self, buf: &mut [u8]) -> u32 {
+        model::trace_in_c(&self.msg, self.direction, buf)
     }
 }

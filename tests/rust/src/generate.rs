@@ -1,4 +1,7 @@
-//! Random arguments for look and the cut: valid ones, ones at a bound, and damaged ones.
+//! Random arguments for look and the cut: valid ones, ones at a bound, and damaged ones. Those for the trace are in
+//! `trace`.
+
+pub mod trace;
 
 use crate::calls::{Cut, Look};
 use crate::model::MemoryDescriptor;

@@ -34,6 +34,10 @@ pub fn cut(list: &[u8], m: u32, r: u32, handed: u32, buf: &mut [u8]) -> u32 {
     unsafe { srp_cut(pointer(list), list.len(), m, r, handed, pointer_mut(buf), buf.len()) }
 }
 
+pub fn trace(msg: &[u8], direction: u32, buf: &mut [u8]) -> u32 {
+    unsafe { srp_trace(pointer(msg), msg.len(), direction, pointer_mut(buf), buf.len()) }
+}
+
 pub fn port_words() -> u64 {
     unsafe { srp_target_words() }
 }

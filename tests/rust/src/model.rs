@@ -1,6 +1,6 @@
-//! The port, look and the cut as document 01 states them, and moves as document 02 does, in plain Rust. This is written
-//! from the documents, and from nothing of the proved code or its definitions: where the two differ, one of them
-//! misreads them. No input makes it panic.
+//! The port, look and the cut as document 01 states them, and moves and the trace page as document 02 does, in plain
+//! Rust. This is written from the documents, and from nothing of the proved code or its definitions: where the two
+//! differ, one of them misreads them. No input makes it panic.
 
 pub mod channel;
 pub mod command;
@@ -11,6 +11,7 @@ pub mod login;
 pub mod owner;
 pub mod refusal;
 pub mod take;
+pub mod trace;
 pub mod transfer;
 pub mod writing;
 
@@ -20,6 +21,7 @@ pub use cutting::{cut, past_the_end, segments, sum_of_lengths, Piece};
 pub use descriptors::MemoryDescriptor;
 pub use in_c::{cut_in_c, look_in_c, ANSWER_BYTES};
 pub use refusal::Refusal;
+pub use trace::trace_in_c;
 
 /// "Fields are big-endian."
 pub fn number(bytes: &[u8]) -> u64 {

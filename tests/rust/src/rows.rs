@@ -5,10 +5,10 @@ pub mod job;
 use std::fs;
 use std::path::Path;
 
-use crate::calls::{Cut, Look};
+use crate::calls::{Cut, Look, Trace};
 use crate::tally::Tally;
 
-/// What a row says the call gives: the 32 bytes, or the refusal.
+/// What a row says the call gives: the 32 bytes or the line, or the refusal.
 enum Answer {
     Ok(Vec<u8>),
     Refused(u32),
@@ -18,7 +18,7 @@ impl Answer {
     fn read(words: &[&str]) -> Self {
         match words {
             ["ok", answer] => Answer::Ok(bytes(answer)),
-            ["refused", n] => Answer::Refused(n.parse().expect("a decimal number")),
+            ["refused", n] | ["refused", n, "-"] => Answer::Refused(n.parse().expect("a decimal number")),
             _ => panic!("not an answer: {words:?}"),
         }
     }
@@ -43,6 +43,7 @@ impl Answer {
 
 pub const BASE: &str = "base.rows";
 pub const JOB_1: &str = "job1.rows";
+pub const JOB_2: &str = "job2.rows";
 
 /// Runs the rows of look.
 pub fn run_look(through: &str, look: impl Fn(&Look, &mut [u8]) -> u32) {
@@ -72,6 +73,27 @@ fn cut_row(words: &[&str], cut: impl Fn(&Cut, &mut [u8]) -> u32) -> Result<(), S
     let (m, r, handed, lent) = (number(m), number(r), number(handed), number(lent) as usize);
     let call = Cut { list: bytes(list), m, r, handed, lent };
     judge(lent, fill, answer, |buf| cut(&call, buf))
+}
+
+/// Runs the rows of the trace, which are all of job2.rows.
+pub fn run_trace(through: &str, trace: impl Fn(&Trace, &mut [u8]) -> u32) {
+    run(JOB_2, &[("trace", 3000)], through, |words| {
+        let ["trace", way, msg, lent, fill, "=", answer @ ..] = words else {
+            panic!("not a trace row: {words:?}");
+        };
+        let lent = number(lent) as usize;
+        let call = Trace { msg: bytes(msg), direction: direction(way), lent };
+        judge(lent, fill, answer, |buf| trace(&call, buf))
+    });
+}
+
+/// Towards the port, or from it.
+fn direction(way: &str) -> u32 {
+    match way {
+        ">" => 0,
+        "<" => 1,
+        _ => panic!("not a direction: {way}"),
+    }
 }
 
 fn judge(lent: usize, fill: &str, answer: &[&str], call: impl FnOnce(&mut [u8]) -> u32) -> Result<(), String> {

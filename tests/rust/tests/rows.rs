@@ -15,6 +15,11 @@ fn cut_rows() {
 }
 
 #[test]
+fn trace_rows() {
+    rows::run_trace("the C interface", |call, buf| call.on_library(&call.msg, buf));
+}
+
+#[test]
 fn port_rows() {
     port::rows::run_base(&mut Library::new(1), "the C interface");
 }
