@@ -1,7 +1,8 @@
-//! What a caller in C may hand over and one in Rust does not: lengths above 2^32, and registers whose upper half holds
-//! something else than zeros.
+//! What a caller in C may hand over and one in Rust does not: lengths above 2^32, registers whose upper half holds
+//! something else than zeros, and of a message to be traced no more than the 40 bytes that are read.
 
-use srp_tests::guarded::reserved;
+use srp_target_sys::srp_trace;
+use srp_tests::guarded::{reserved, GuardedMemory, Side};
 use srp_tests::interface::{self, Port, PORT_WORDS, STORE_BYTES};
 use srp_tests::port::plain::{self, OWN};
 use srp_tests::port::Call;
@@ -45,6 +46,22 @@ fn command() -> Vec<u8> {
     msg
 }
 
+/// An SRP_RSP with tag 9, RSP_CODE 2 and 2^32 - 1 bytes of sense: the first 40 bytes.
+fn response() -> Vec<u8> {
+    let mut msg = vec![0; 40];
+    (msg[0], msg[15], msg[18], msg[39]) = (0xc1, 9, 0b11, 2);
+    msg[28..32].fill(0xff);
+    msg
+}
+
+/// A line without its line feed and the spaces before it.
+fn text(line: &[u8]) -> &str {
+    std::str::from_utf8(&line[..81]).expect("ASCII").trim_end()
+}
+
+const RESPONSE: &str = "< RSP          0000000000000009                      0 00000002";
+const LONG_UNKNOWN: &str = "< UNKNOWN                                        *****";
+
 #[test]
 fn messages_and_tables_above_2_32() {
     let (none, mut buf): ([&[u8]; 2], _) = ([&[], &[]], [0; 132]);
@@ -76,7 +93,43 @@ fn buffers_and_lists_above_2_32() {
     assert_eq!(lent.port().close(0, buf), 0);
     assert_eq!(interface::look(&command(), 1364, 6, buf), 0);
     assert_eq!(interface::cut(&[], 512, 0, 0, buf), 0);
+    assert_eq!((interface::trace(&[], 0, buf), buf[0]), (0, b'>'));
     assert_eq!(buf[132..4096], [0; 4096 - 132]);
+}
+
+/// The lower 32 bits of a message's length say nothing of its type's.
+#[test]
+fn traces_above_2_32() {
+    let mut buf = [0; 81];
+    for (length, msg, expected) in [
+        (LONG + 39, response(), RESPONSE),
+        (LONG + 38, response(), LONG_UNKNOWN),
+        (LONG + 48, command(), LONG_UNKNOWN),
+        (LONG + 64, login_request(), LONG_UNKNOWN),
+        (LONG, vec![], LONG_UNKNOWN),
+    ] {
+        assert_eq!(interface::trace(reserved(length, &msg), 1, &mut buf), 0);
+        assert_eq!(text(&buf), expected, "{length} bytes");
+    }
+}
+
+/// Behind the first 40 bytes lies memory that cannot be read.
+#[test]
+fn forty_bytes_are_read() {
+    let (mut memory, mut buf, mut longest) = (GuardedMemory::holding(40), [0; 81], command());
+    (longest[5], longest[6], longest[7], longest[31]) = (0x22, 255, 255, 63 << 2);
+    for (length, msg, expected) in [
+        (48 + 252 + 2 * (20 + 16 * 255), longest, "< CMD          0000000000000009 0000000000000000"),
+        (LONG + 39, response(), RESPONSE),
+        (1 << 40, response(), LONG_UNKNOWN),
+        (1 << 40, login_request(), LONG_UNKNOWN),
+        (1 << 40, vec![0xee; 40], LONG_UNKNOWN),
+    ] {
+        let placed = memory.place(&msg[..40], Side::End);
+        // SAFETY: of the message these bytes are read alone, whatever its length; else the test ends in a fault.
+        let returned = unsafe { srp_trace(placed.values().as_ptr(), length, 1, buf.as_mut_ptr(), buf.len()) };
+        assert_eq!((returned, text(&buf)), (0, expected), "{length} bytes");
+    }
 }
 
 /// The functions with 64-bit arguments in place of 32-bit ones: the caller decides what the upper half holds.
@@ -90,6 +143,7 @@ mod wide {
         pub fn srp_target_withdraw(port: *mut u64, k: u64) -> u32;
         pub fn srp_target_close(port: *mut u64, reason: u64, buf: *mut u8, buf_len: usize, answer: *mut u64) -> u32;
         pub fn srp_cut(list: *const u8, length: usize, m: u64, r: u64, handed: u64, buf: *mut u8, lent: usize) -> u32;
+        pub fn srp_trace(msg: *const u8, length: usize, direction: u64, buf: *mut u8, lent: usize) -> u32;
     }
 }
 
@@ -121,5 +175,9 @@ fn arguments_below_other_bits() {
         let list = [0, 0, 0, 0, 0, 0, 0x10, 0, 0, 0, 0, 7, 0, 0, 0, 9];
         let cut = wide::srp_cut(list.as_ptr(), 16, ABOVE | 4, ABOVE | 6, ABOVE | 4, buf.as_mut_ptr(), buf.len());
         assert_eq!((cut, &buf[..20]), (0, &[0, 0, 0, 0, 0, 0, 0x10, 4, 0, 0, 0, 7, 0, 0, 0, 2, 0, 0, 0, 4][..]));
+        for (direction, sign) in [(ABOVE, b'>'), (ABOVE | 1, b'<')] {
+            let traced = wide::srp_trace(list.as_ptr(), 16, direction, buf.as_mut_ptr(), buf.len());
+            assert_eq!((traced, buf[0]), (0, sign));
+        }
     }
 }
