@@ -72,7 +72,21 @@ const EVENTS: [&str; 51] = [
     "withdraw: refused 28",
 ];
 
-/// Runs the machine until so many events have come; each of EVENTS and of STATES must come up, and these too.
+/// Lines of the messages. Unknown are those of any bytes, and of commands with a format above 2.
+const LINES: [&str; 10] = [
+    "< CRED_REQ",
+    "< LOGIN_RSP",
+    "< RSP",
+    "< T_LOGOUT",
+    "> CMD",
+    "> CRED_RSP",
+    "> I_LOGOUT",
+    "> LOGIN_REQ",
+    "> TSK_MGMT",
+    "> UNKNOWN",
+];
+
+/// Runs the machine until so many events have come; each of EVENTS, STATES and LINES must come up, and these too.
 fn run(name: &str, seed: u64, fair: bool, count: u64, events: &[&str], states: &[&str]) {
     let mut machine = Machine::new(Library::new(seed), seed);
     while machine.events.total() < count {
@@ -80,8 +94,10 @@ fn run(name: &str, seed: u64, fair: bool, count: u64, events: &[&str], states: &
     }
     machine.events.print_as(name, "events");
     machine.states.print_as(name, "states");
+    machine.lines.print_as(name, "lines");
     machine.events.assert_each(12, &[&EVENTS[..], events].concat());
     machine.states.assert_each(12, &[&STATES[..], states].concat());
+    machine.lines.assert_each(12, &LINES);
 }
 
 #[test]

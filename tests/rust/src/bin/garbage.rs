@@ -1,11 +1,13 @@
-//! garbage CALLS [SEED]: so many calls on words that no login made, a fourth as many of look and of the cut with random
-//! arguments, and srp_target_words. Each argument lies in heap memory of just its length. For valgrind, which sees a
-//! byte read or written outside one. Fails where a function of the header was not called, or only to be refused.
+//! garbage CALLS [SEED]: so many calls on words that no login made, a fourth as many of look, of the cut and of the trace
+//! with random arguments, and srp_target_words. Each argument lies in heap memory of just its length. For valgrind,
+//! which sees a byte read or written outside one. Fails where a function of the header was not called, or only to be
+//! refused.
 
 use std::env;
 
-use srp_tests::calls::{Call, Cut, Look};
+use srp_tests::calls::{Call, Cut, Look, Trace};
 use srp_tests::interface::{port_words, PORT_WORDS};
+use srp_tests::line::{kind, KINDS};
 use srp_tests::port::{garbage::Garbage, heap::Heap, kinds};
 use srp_tests::random::Random;
 use srp_tests::tally::Tally;
@@ -23,12 +25,18 @@ fn main() {
     assert_each_function(&garbage.tally);
 
     let mut random = Random::new(seed);
-    let looks = tally(calls / 4, || Look::random(&mut random).compared_on_heap(0x5b).returned);
+    let looks = tally(calls / 4, || Look::random(&mut random).compared_on_heap(0x5b).returned.to_string());
     looks.print("look");
     looks.assert_each(1, &["0", "1", "2", "3", "4", "5", "6", "7", "8"]);
-    let cuts = tally(calls / 4, || Cut::random(&mut random).compared_on_heap(0x5b).returned);
+    let cuts = tally(calls / 4, || Cut::random(&mut random).compared_on_heap(0x5b).returned.to_string());
     cuts.print("cut");
     cuts.assert_each(1, &["0", "1", "2", "10", "11"]);
+    let traces = tally(calls / 4, || {
+        let trace = Trace::random(&mut random);
+        kind(&trace, &trace.compared_on_heap(0x5b))
+    });
+    traces.print("trace");
+    traces.assert_each(1, &KINDS);
 }
 
 /// Each function on a port came up unrefused.
@@ -41,9 +49,9 @@ fn assert_each_function(tally: &Tally) {
     }
 }
 
-/// What so many calls returned.
-fn tally(calls: u64, mut call: impl FnMut() -> u32) -> Tally {
+/// What so many calls came to.
+fn tally(calls: u64, mut call: impl FnMut() -> String) -> Tally {
     let mut tally = Tally::default();
-    (0..calls).for_each(|_| tally.add(call().to_string()));
+    (0..calls).for_each(|_| tally.add(call()));
     tally
 }

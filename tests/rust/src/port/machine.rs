@@ -2,16 +2,18 @@
 //! the events' arguments, the calls' refusals and the messages written; of the port's state it is given D alone, as
 //! owed". Its own counts say what each message lifts, which operations are handed out, and which call is refused for
 //! what went before; what is in a command it reads with the model (`expected`). All of it is asserted of each event, as
-//! demand 3 has it, and so is the type of the message that is written.
+//! demand 3 has it, and so is the type of the message that is written. Each message sent is traced too (`lines`).
 
 mod ends;
 mod expected;
 mod initiator;
+mod lines;
 mod owner;
 mod pieces;
 
 use super::call::{Call, Outcome, Target};
 use super::kinds;
+use crate::calls::Memory;
 use crate::random::Random;
 use crate::tally::Tally;
 use ends::Ends;
@@ -25,6 +27,9 @@ pub struct Machine<T> {
     pub events: Tally,
     /// What the events came to.
     pub states: Tally,
+    /// The lines of the messages sent, by their way and name, and the memory that they are made in.
+    pub lines: Tally,
+    memory: Memory,
 }
 
 /// Whether the list goes on: "closing ends the list".
@@ -43,6 +48,8 @@ impl<T: Target> Machine<T> {
             ends: Ends::default(),
             events: Tally::default(),
             states: Tally::default(),
+            lines: Tally::default(),
+            memory: Memory::default(),
         }
     }
 
@@ -86,6 +93,9 @@ impl<T: Target> Machine<T> {
         let message = if call.buf().is_empty() { &[] } else { outcome.message() };
         let expected = self.ends.message_of(call, outcome.returned);
         assert_eq!(message.first().copied(), expected, "the message's type byte\n{call:02x?}\n{outcome:02x?}");
+        if expected.is_some() {
+            self.trace_written(message);
+        }
         self.events.add(kinds::outcome(call, &outcome));
         outcome
     }
@@ -123,7 +133,8 @@ mod tests {
     use super::Machine;
     use crate::model;
 
-    // The model through the machine: where an event fails over the library and not here, the library is wrong.
+    // The model through the machine: where an event fails over the library and not here, the library is wrong. The
+    // lines are the library's here too.
     #[test]
     fn the_model() {
         let mut machine = Machine::new(model::Port::default(), 13);

@@ -14,6 +14,7 @@ impl<T: Target> Machine<T> {
         let agreed = random.of(&[64, 200, 600, 1364, 1364, 1364]);
         let formats = random.of(&[0, 2, 4, 6, 6, 6, 6, 6]);
         let login = plain::login(random, n, m, agreed, formats);
+        self.trace_sent("login", login.input());
         let outcome = self.counted(&login);
         assert_eq!((outcome.returned, outcome.answer[1]), (0, 0), "accepted");
         self.ends = Ends::new(n, Login { m, agreed, formats: formats.into() });
@@ -35,6 +36,7 @@ impl<T: Target> Machine<T> {
         if kind == "credit response" {
             self.ends.to_answer = self.ends.to_answer.saturating_sub(1);
         }
+        self.trace_sent(kind, &sent.msg);
         self.events.add(format!("send: {kind}"));
         self.ends.to_port.push_back(sent);
     }
