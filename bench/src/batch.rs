@@ -32,6 +32,7 @@ pub enum Batch {
     List(usize),
     Look(Vec<Vec<u8>>),
     Cut { lists: Vec<Vec<u8>>, required: u32, handed: u32 },
+    Trace { messages: Vec<Vec<u8>>, direction: u32 },
 }
 
 /// What an owner lends, and the answer's words.
@@ -70,6 +71,7 @@ impl Batch {
             Batch::Step { tags, .. } | Batch::Finish { tags, .. } => tags.len(),
             Batch::Look(messages) => messages.len(),
             Batch::Cut { lists, .. } => lists.len(),
+            Batch::Trace { messages, .. } => messages.len(),
             Batch::Counters(calls) | Batch::List(calls) => *calls,
             Batch::Add(_) | Batch::Withdraw(_) | Batch::Grant | Batch::Close => 1,
         }
@@ -110,6 +112,9 @@ impl Batch {
             Batch::Cut { lists, required, handed } => {
                 each(ports, lists, after, |lent, list| unsafe { cut(side, lent, list, *required, *handed) })
             }
+            Batch::Trace { messages, direction } => each(ports, messages, after, |lent, msg| unsafe {
+                (side.trace)(msg.as_ptr(), msg.len(), *direction, lent.buf.as_mut_ptr(), lent.buf.len())
+            }),
         }
     }
 }

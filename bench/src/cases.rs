@@ -106,6 +106,25 @@ fn credit_response() -> Message {
     plain(msg)
 }
 
+/// An SRP_RSP with a delta and RSP_CODE 4.
+fn response() -> Message {
+    let mut msg = vec![0; 40];
+    msg[0] = 0xc1;
+    msg[7] = 1;
+    msg[15] = 0xff;
+    msg[18] = 1;
+    msg[35] = 4;
+    msg[39] = 4;
+    plain(msg)
+}
+
+/// An SRP_AER_REQ, of a type that document 01 does not have.
+fn other_type() -> Message {
+    let mut msg = vec![0; 52];
+    msg[0] = 0x82;
+    plain(msg)
+}
+
 // ---- Cases ----
 
 fn login() -> Batch {
@@ -203,6 +222,12 @@ fn cut_case(which: &str, count: u32) -> Case {
     Case { series: Some((series, count)), ..case(&name, vec![], timed, vec![]) }
 }
 
+/// Towards the port or from it.
+fn trace_case(name: &str, message: Message, direction: u32) -> Case {
+    let timed = Batch::Trace { messages: vec![message.bytes; REPEATED], direction };
+    case(&format!("trace, {name}"), vec![], timed, vec![])
+}
+
 /// A case for each number of segments, of the first and of the last piece.
 fn by_segments(of: fn(&str, u32) -> Case) -> impl Iterator<Item = Case> {
     ["first", "last"].into_iter().flat_map(move |which| [1, 8, 16, 32].map(|count| of(which, count)))
@@ -243,5 +268,11 @@ pub fn cases() -> Vec<Case> {
         look_case("32 copies each way, 1,364 bytes", longest(1)),
     ]);
     cases.extend(by_segments(cut_case));
+    cases.extend([
+        trace_case("SRP_CMD with 1 descriptor, 64 bytes", direct(1), 0),
+        trace_case("SRP_CMD with 16 descriptors, 324 bytes", all_copied(16, 1), 0),
+        trace_case("SRP_RSP with RSP_CODE, 40 bytes", response(), 1),
+        trace_case("UNKNOWN, 52 bytes", other_type(), 1),
+    ]);
     cases
 }

@@ -28,4 +28,5 @@ pub static LIBRARY: Side = Side {
     list: srp_target_list,
     look: srp_look,
     cut: srp_cut,
+    trace: srp_trace,
 };

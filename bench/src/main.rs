@@ -15,6 +15,7 @@ mod rows;
 mod sides;
 mod stateless;
 mod timing;
+mod trace;
 
 use std::{env, fs, process};
 

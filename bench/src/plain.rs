@@ -9,7 +9,7 @@ use std::slice;
 use srp_target_sys::{self as sys, Answer, Own, Store, Words, ANSWER_WORDS};
 
 use crate::port::{Direction, Login, Port, Refusal, Refused, Settings, Taken};
-use crate::stateless;
+use crate::{stateless, trace};
 
 /// Writes the words of an answer, the others 0.
 unsafe fn put<const N: usize>(answer: *mut Answer, words: [u64; N]) {
@@ -209,4 +209,16 @@ pub unsafe extern "C" fn plain_cut(
 ) -> u32 {
     let (list, buf) = unsafe { (slice::from_raw_parts(list, list_len), slice::from_raw_parts_mut(buf, buf_len)) };
     stateless::cut(list, m, r, handed, buf).err().unwrap_or(0)
+}
+
+#[inline(never)]
+pub unsafe extern "C" fn plain_trace(
+    msg: *const u8,
+    msg_len: usize,
+    direction: u32,
+    buf: *mut u8,
+    buf_len: usize,
+) -> u32 {
+    let (msg, buf) = unsafe { (slice::from_raw_parts(msg, msg_len), slice::from_raw_parts_mut(buf, buf_len)) };
+    trace::trace(msg, direction, buf).err().unwrap_or(0)
 }

@@ -74,3 +74,11 @@ fn cut_rows() {
         (PLAIN.cut)(call.list.as_ptr(), call.list.len(), call.m, call.r, call.handed, buf.as_mut_ptr(), buf.len())
     });
 }
+
+#[test]
+fn trace_rows() {
+    // SAFETY: as above.
+    rows::run_trace("the plain port", |call, buf| unsafe {
+        (PLAIN.trace)(call.msg.as_ptr(), call.msg.len(), call.direction, buf.as_mut_ptr(), buf.len())
+    });
+}

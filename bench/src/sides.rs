@@ -31,6 +31,7 @@ pub type Counters = unsafe extern "C" fn(*const Words, *mut Answer) -> u32;
 pub type List = unsafe extern "C" fn(*const Words, *mut u64, usize, *mut Answer) -> u32;
 pub type Look = unsafe extern "C" fn(*const u8, usize, u32, u32, *mut u8, usize) -> u32;
 pub type Cut = unsafe extern "C" fn(*const u8, usize, u32, u32, u32, *mut u8, usize) -> u32;
+pub type Trace = unsafe extern "C" fn(*const u8, usize, u32, *mut u8, usize) -> u32;
 
 pub struct Side {
     pub name: &'static str,
@@ -50,6 +51,7 @@ pub struct Side {
     pub list: List,
     pub look: Look,
     pub cut: Cut,
+    pub trace: Trace,
 }
 
 /// Starts on a cache line, so that both sides' ports lie alike.
@@ -78,4 +80,5 @@ pub static PLAIN: Side = Side {
     list: plain::plain_list,
     look: plain::plain_look,
     cut: plain::plain_cut,
+    trace: plain::plain_trace,
 };
