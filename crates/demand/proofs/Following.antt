@@ -41,11 +41,15 @@ use Rattle.srp.proofs.Received.{look-as-take, task-received, logout-received, c
 use Rattle.srp.proofs.Sent.{every-write, login-writes, sent-follows, sent-fits}
 use Rattle.words.specs.View.{view}
 use Rattle.words.proofs.Ports.{any-words}
-use Rattle.exports.specs.Arguments.{settingsIn}
+use Rattle.page.specs.Page.{traceChecks, lineLength}
+use Rattle.page.specs.declared.Way.{Way}
+use Rattle.page.proofs.Lines.{every-line}
+use Rattle.page.proofs.Written.{prints-written}
+use Rattle.exports.specs.Arguments.{settingsIn, wayIn}
 use Rattle.demand.specs.Calls.{Memory, seen, LoggedIn}
-use Rattle.demand.specs.Judgement.{readOn, shortAnswer, JudgesLook}
-use Rattle.demand.specs.Following.{PortCall, take-call, plan-call, move-call, step-call, finish-call, add-call, withdraw-call, grant-call, close-call, Sendable, Receives, callingOf, Led, begins, goes-on, InRoom, ByLayouts, LoginByLayouts, LookByLayouts, Demand2InC}
-use Rattle.demand.proofs.Judges.{judges-look}
+use Rattle.demand.specs.Judgement.{readOn, shortAnswer, JudgesLook, JudgesTrace}
+use Rattle.demand.specs.Following.{PortCall, take-call, plan-call, move-call, step-call, finish-call, add-call, withdraw-call, grant-call, close-call, Sendable, Receives, callingOf, Led, begins, goes-on, InRoom, ByLayouts, LoginByLayouts, LookByLayouts, TraceByLayouts, Demand2InC}
+use Rattle.demand.proofs.Judges.{judges-look, judges-trace}
 use Rattle.demand.proofs.Holds.{took, planned-is, named, stepped, finished, added, withdrew, granted, ended, logged-in}
 
 -- ── every message written follows its layout and fits
@@ -188,10 +192,16 @@ login-by-layouts settings own msg room r ss p store b l =
       request = λ t n f c o a i g h e. sym is ∙ ap (λ (s : List ℕ). loginDef C own room s) e ∙ login-received C own room t n f c o a i g h;
     }
 
+trace-by-layouts : (w : Way) (msg b b′ : List ℕ) (n : ℕ) → JudgesTrace w msg b b′ n → lineLength ≤ length b → TraceByLayouts w msg b b′ n
+trace-by-layouts w msg b b′ n J room =
+    let hits : firstOf (traceChecks (length b)) ≡ none = rw (le-ltb (length b) lineLength room) in
+    record { number = J .unrefused .1 hits; buffer = J .performs hits; line = every-line w msg; values = prints-written w msg }
+
 pub demand-2-in-c : Demand2InC
 demand-2-in-c =
     record {
       calls = λ s s′ c r ss L y m. follows s r ss s′ (led-reached s L) c y m;
       login = λ settings own msg room r ss p store b l. login-by-layouts settings own msg room r ss p store b l;
       look = λ m b d agreed formats n post. look-by-layouts agreed formats (now m) (now b) (now d) n (judges-look (now b) (now d) n agreed formats (now m) (post .1));
+      trace = λ m b d direction n post. trace-by-layouts (wayIn direction) (now m) (now b) (now d) n (judges-trace (now b) (now d) n (wayIn direction) (now m) (post .1));
     }

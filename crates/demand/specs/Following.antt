@@ -30,8 +30,11 @@ use Rattle.srp.specs.declared.Reply.{Reply}
 use Rattle.srp.specs.declared.Reply.the-variants.{Accepted}
 use Rattle.request.proofs.read_message.Reads as read-message
 use Rattle.words.specs.View.{view}
-use Rattle.exports.specs.Arguments.{settingsIn}
-use Rattle.demand.specs.Posts.{Slice, LookPost}
+use Rattle.page.specs.Page.{traceLine, lineLength, OneLine}
+use Rattle.page.specs.Written.{PrintsWritten}
+use Rattle.page.specs.declared.Way.{Way}
+use Rattle.exports.specs.Arguments.{settingsIn, wayIn}
+use Rattle.demand.specs.Posts.{Slice, LookPost, TracePost}
 use Rattle.demand.specs.Judgement.{readOn}
 use Rattle.demand.specs.Calls.{Memory, seen, LoggedIn, Took, Finished, Granted, Ended, Planned, Named, Stepped, Added, Withdrew}
 
@@ -150,6 +153,15 @@ LookByLayouts agreed formats msg b b′ n =
     → let f : Descriptor → List ℕ = λ d. fetchBytes (fetchOf d msg) in
     Reads c msg × (n ≡ 0) × (b′ ≡ placed ((f (commandIn c msg .out) ++ f (commandIn c msg .inn)) ∷ []) b)
 
+-- ── and of trace
+
+-- a message that was written by its layout prints the values that were written, in one line
+pub record TraceByLayouts (w : Way) (msg b b′ : List ℕ) (n : ℕ) : Type 0 where
+  pub number : n ≡ 0
+  pub buffer : b′ ≡ placed (traceLine w msg ∷ []) b
+  pub line : OneLine (traceLine w msg)
+  pub values : PrintsWritten w msg
+
 -- ── demand 2, whole
 
 pub record Demand2InC : Type 0 where
@@ -157,3 +169,5 @@ pub record Demand2InC : Type 0 where
   pub login : (settings own msg : List ℕ) (room : ℕ) (r : Reply) (ss : List (List ℕ)) (p store : List ℕ) → Bytes msg → LoggedIn settings own msg room r ss p
       → LoginByLayouts settings own msg room (record { reply = r; port = view p store; wrote = ss })
   pub look : (m b d : Slice) (agreed formats n : ℕ) → LookPost m b d agreed formats n → LookByLayouts agreed formats (now m) (now b) (now d) n
+  pub trace : (m b d : Slice) (direction n : ℕ) → TracePost m b d direction n → lineLength ≤ length (now b)
+      → TraceByLayouts (wayIn direction) (now m) (now b) (now d) n

@@ -4,3 +4,4 @@ pub mod Lines
 pub mod Columns
 pub mod Beginnings
 pub mod Rows
+pub mod Written

@@ -1,3 +1,4 @@
 pub mod Types
 pub mod Page
 pub mod Rows
+pub mod Written
