@@ -10,7 +10,6 @@ use Rattle.text.proofs.Digits.{length-hex}
 use Rattle.page.specs.Page.{sign, letters, spaces, padded, countText, hexText, numberText, over, columns, hexColumns, numberColumns, InColumns}
 use Rattle.page.specs.declared.Entry.{Entry}
 use Rattle.page.specs.declared.Entry.the-variants.{Blank, Number}
-use Rattle.page.specs.declared.Line.{Line}
 use Rattle.page.proofs.Lines.{over-nothing, letters-long, count-long}
 
 -- ── a text, or nothing, over spaces

@@ -1,19 +1,18 @@
 -- A message that was written by its layout prints the values that were written.
 -- Assumes nothing.
 use mathlib.Core.Path.{_≡_, refl, sym, ap, subst, _∙_}
-use mathlib.Core.Bool.{Bool, true, false, cond, not, _||_}
+use mathlib.Core.Bool.{Bool, true, false, cond}
 use mathlib.Core.List.{List, [], _∷_, _++_}
-use Prim.Native.Nat.{ℕ, _+_, _*_, _≤_}
+use Prim.Native.Nat.{ℕ, _+_, _≤_}
 use native.Mathlib.Omega.{arith}
 use borrow.Author.Tests.{eq-eqb, le-ltb}
-use lib.Dec.{eqb}
 use lib.ListN.{length, drop, length-append}
 use lib.Seq.{drop-at}
-use Rattle.srp.specs.Bytes.{Layout, bytes, get, gets, typeOf, write, InRange}
-use Rattle.srp.specs.Messages.{tag, lun, delta, reason, outFormat, inFormat, rspvalid, snsvalid, senseLength, loginReq, tskMgmt, cmd, iLogout, credRsp, loginRsp, loginRej, rsp, credReq, tLogout}
+use Rattle.srp.specs.Bytes.{bytes, get, gets, typeOf, write}
+use Rattle.srp.specs.Messages.{tag, lun, delta, reason, outFormat, inFormat, rspvalid, snsvalid, senseLength, loginReq, tskMgmt, iLogout, credRsp, loginRsp, loginRej, rsp, credReq, tLogout}
 use Rattle.srp.specs.ReadBack.{Written}
 use Rattle.srp.specs.Requests.{flag, exactLength}
-use Rattle.srp.specs.Initiator.{Buffer, noData, direct, indirect, formatOf, CommandFields, values, commandBytes, Fit, Reads}
+use Rattle.srp.specs.Initiator.{Buffer, noData, direct, indirect, formatOf, CommandFields, values, Reads}
 use Rattle.srp.proofs.Layouts.{written}
 use Rattle.srp.proofs.Commands.{get-behind, command-read}
 use Rattle.page.specs.Types.{typeNamed, responseSize, strangeFormat, fits, nameOf}

@@ -16,7 +16,6 @@ use Rattle.trace.specs.Input.{isSpace, unspaced, among, digitOf, content
 use Rattle.trace.specs.declared.reader.Digit.{Digit}
 use Rattle.trace.specs.declared.reader.Digit.the-variants.{Value, Other}
 use Rattle.trace.specs.declared.reader.Fault.the-variants.{NoSign}
-use Rattle.trace.specs.declared.reader.Content.{Content}
 use Rattle.trace.specs.declared.reader.Content.the-variants.{Nothing, Comment, Message, Wrong}
 
 pub unspaced-more : (t : List ℕ) (c : ℕ) → unspaced (t ++ (c ∷ [])) ≡ cond (isSpace c) (unspaced t) (unspaced t ++ (c ∷ []))

@@ -4,3 +4,4 @@ pub mod States
 pub mod Whole
 pub mod Going
 pub mod Ends
+pub mod Rows

@@ -1,6 +1,6 @@
 -- What is printed character by character is what `tracePage` says of the whole input.
 -- Assumes nothing.
-use mathlib.Core.Path.{_≡_, refl, sym, ap, subst, _∙_}
+use mathlib.Core.Path.{_≡_, sym, ap, subst, _∙_}
 use mathlib.Core.Bool.{Bool, true, false, cond}
 use mathlib.Core.List.{List, [], _∷_, _++_}
 use Prim.Native.Nat.{ℕ, suc, _+_, _%_, _^_, _≤_, _<_}
@@ -8,7 +8,6 @@ use native.Mathlib.Nat.{mod-eq-of-lt}
 use native.Mathlib.Omega.{arith}
 use lib.Dec.{eqb}
 use lib.ListN.{length, length-append}
-use Rattle.page.specs.Types.{mostRead}
 use Rattle.trace.specs.Input.{lineFeed, isSpace, unspaced, printed, pageOf}
 use Rattle.trace.specs.Reading.{fresh, followed, turned, kept, lineEnd, pageFrom, Prints}
 use Rattle.trace.specs.declared.reader.Reader.{Reader}

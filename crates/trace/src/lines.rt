@@ -7,7 +7,6 @@ use page::MOST_READ;
 use page::Way;
 use text::NEWLINE;
 ghost use mathlib.Core.Path.{_≡_};
-ghost use mathlib.Core.List.{[], _∷_};
 ghost use Prim.Native.Nat.{_+_, _≤_, min};
 ghost use lib.ListN.{length, take};
 ghost use Rattle.text.specs.Appending.{Appends};

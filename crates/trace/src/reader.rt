@@ -2,7 +2,7 @@
 use page::Way;
 use text::NEWLINE;
 ghost use mathlib.Core.Path.{_≡_};
-ghost use Prim.Native.Nat.{_<_, _≤_};
+ghost use Prim.Native.Nat.{_<_};
 ghost use lib.ListN.{length};
 ghost use Rattle.trace.specs.Input.{isSpace, digitOf, contentBy};
 ghost use Rattle.trace.specs.Reading.{fresh, followed, byteWith, withContent, withDigit, turned, kept, Reads};

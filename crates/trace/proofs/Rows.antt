@@ -1,0 +1,8 @@
+-- The worked inputs hold, by computing. Assumes nothing.
+use mathlib.Core.Path.{refl}
+use Rattle.page.specs.Types.{typeNamed}
+use Rattle.trace.specs.Rows.{EachRow}
+
+pub each-row : EachRow
+unfolding typeNamed
+each-row = (refl, (refl, (refl, (refl, (refl, tt)))))
