@@ -9,6 +9,12 @@ use libc::STDOUT_FILENO;
 use page::MOST_READ;
 use reader::Reader;
 
+// A part of the input was read and its lines were printed, if they could be written.
+struct Printed {
+    reader: Reader,
+    written: bool,
+}
+
 fn main() {
     let mut input = io::large_buffer();
     let mut start = [0u8; MOST_READ];
@@ -16,11 +22,20 @@ fn main() {
     // more turns than any input has bytes: a proved loop ends
     let mut turns = u64::MAX;
     while turns > 0 {
-        let n = io::count(libc::read(STDIN_FILENO, &mut input), &input);
+        let got = libc::read(STDIN_FILENO, &mut input);
+        if got < 0 {
+            io::write_all(STDERR_FILENO, b"trace: cannot read\n");
+            return;
+        }
+        let n = io::count(got, &input);
         if n == 0 {
             break;
         }
-        r = print_lines(&input[..n], r, &mut start);
+        let printed = print_lines(&input[..n], r, &mut start);
+        if !printed.written {
+            return;
+        }
+        r = printed.reader;
         turns -= 1;
     }
     // the last line may have no line feed
@@ -28,7 +43,7 @@ fn main() {
 }
 
 // Prints the lines that end in a part of the input.
-fn print_lines(input: &[u8], before: Reader, start: &mut [u8; MOST_READ]) -> Reader {
+fn print_lines(input: &[u8], before: Reader, start: &mut [u8; MOST_READ]) -> Printed {
     let mut r = before;
     let mut at: usize = 0;
     while at < input.len() {
@@ -36,17 +51,27 @@ fn print_lines(input: &[u8], before: Reader, start: &mut [u8; MOST_READ]) -> Rea
         at = part.at;
         r = part.reader;
         if part.ended {
-            print_line(r, start);
+            if !print_line(r, start) {
+                return Printed {
+                    reader: r,
+                    written: false,
+                };
+            }
             r = reader::next(r);
         }
     }
-    r
+    Printed {
+        reader: r,
+        written: true,
+    }
 }
 
-fn print_line(r: Reader, start: &[u8; MOST_READ]) {
+fn print_line(r: Reader, start: &[u8; MOST_READ]) -> bool {
     let mut line = [0u8; lines::LONGEST];
     let n = lines::put_end(&mut line, r, start);
-    if !io::write_all(STDOUT_FILENO, &line[..n]) {
-        io::write_all(STDERR_FILENO, b"trace: cannot write\n");
+    if io::write_all(STDOUT_FILENO, &line[..n]) {
+        return true;
     }
+    io::write_all(STDERR_FILENO, b"trace: cannot write\n");
+    false
 }

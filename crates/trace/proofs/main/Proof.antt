@@ -6,11 +6,11 @@ use Rattle.trace.proofs.main.Statement.{statement}
 use Rattle.trace.proofs.main.Tie as tie
 
 abbrev Inv-loop : tie.InvT-loop
-Inv-loop input₀ start₀ r₀ turns₀ input start r turns =
+Inv-loop input₀ start₀ r₀ turns₀ t8 input start r turns =
     length input ≡ 65536
 
 abbrev μ-loop : tie.MeasureT-loop
-μ-loop input₀ start₀ r₀ turns₀ input start r turns =
+μ-loop input₀ start₀ r₀ turns₀ t8 input start r turns =
     turns
 
 large-buffer-requires : tie.Need-large-buffer-requires Inv-loop μ-loop
@@ -33,6 +33,18 @@ read-requires : tie.Need-read-requires Inv-loop μ-loop
 read-requires c κs =
     search needs
 
+slice-aggregate-write-all : tie.Need-slice-aggregate-write-all Inv-loop μ-loop
+slice-aggregate-write-all c =
+    search needs
+
+write-all-requires : tie.Need-write-all-requires Inv-loop μ-loop
+write-all-requires c κs =
+    search needs
+
+returns : tie.Need-returns Inv-loop μ-loop
+returns c =
+    search needs
+
 slice-aggregate-count : tie.Need-slice-aggregate-count Inv-loop μ-loop
 slice-aggregate-count c =
     search needs
@@ -53,6 +65,10 @@ print-lines-requires : tie.Need-print-lines-requires Inv-loop μ-loop
 print-lines-requires c κs =
     search needs
 
+returns-2 : tie.Need-returns-2 Inv-loop μ-loop
+returns-2 c =
+    search needs
+
 sub-turns : tie.Need-sub-turns Inv-loop μ-loop
 sub-turns c =
     search needs
@@ -69,8 +85,8 @@ print-line-requires : tie.Need-print-line-requires Inv-loop μ-loop
 print-line-requires c κs =
     search needs
 
-returns : tie.Need-returns Inv-loop μ-loop
-returns c =
+returns-3 : tie.Need-returns-3 Inv-loop μ-loop
+returns-3 c =
     search needs
 
 pub main-spec : {M : Type 1} → statement M
@@ -84,13 +100,17 @@ main-spec =
     loop-holds
     slice-aggregate-read
     read-requires
+    slice-aggregate-write-all
+    write-all-requires
+    returns
     slice-aggregate-count
     count-requires
     array-share-prefix-input
     slice-aggregate-print-lines
     print-lines-requires
+    returns-2
     sub-turns
     loop-less
     loop-again
     print-line-requires
-    returns)
+    returns-3)

@@ -26,17 +26,21 @@ print-line-requires : tie.Need-print-line-requires Inv-loop μ-loop
 print-line-requires c κs =
     search needs
 
+returns : tie.Need-returns Inv-loop μ-loop
+returns c =
+    search needs
+
 next-requires : tie.Need-next-requires Inv-loop μ-loop
 next-requires c κs =
     search needs
 
 loop-less : tie.Need-loop-less Inv-loop μ-loop
 loop-less c =
-    omega (arith, c .before .before .before .before .before .read-line .ensures .on, c .before .before .before .before .before .read-line .ensures .upto, c .before .before .before .before .before .before .before .loop-test .taken)
+    omega (arith, c .before .before .before .before .before .before .read-line .ensures .on, c .before .before .before .before .before .before .read-line .ensures .upto, c .before .before .before .before .before .before .before .before .loop-test .taken)
 
 loop-again : tie.Need-loop-again Inv-loop μ-loop
 loop-again c =
-    c .before .before .before .before .before .read-line .ensures .upto
+    c .before .before .before .before .before .before .read-line .ensures .upto
 
 loop-less-2 : tie.Need-loop-less-2 Inv-loop μ-loop
 loop-less-2 c =
@@ -46,8 +50,8 @@ loop-again-2 : tie.Need-loop-again-2 Inv-loop μ-loop
 loop-again-2 c =
     c .before .before .read-line .ensures .upto
 
-returns : tie.Need-returns Inv-loop μ-loop
-returns c =
+returns-2 : tie.Need-returns-2 Inv-loop μ-loop
+returns-2 c =
     search needs
 
 pub print-lines-spec : {M : Type 1} → statement M
@@ -59,9 +63,10 @@ print-lines-spec =
     loop-holds
     read-line-requires
     print-line-requires
+    returns
     next-requires
     loop-less
     loop-again
     loop-less-2
     loop-again-2
-    returns)
+    returns-2)
