@@ -1,10 +1,16 @@
-.PHONY: run test bench instructions fuzz lib
+.PHONY: run trace test bench instructions fuzz lib
 
 # build exchange, proved, and run it: an initiator and the port, each message and each RDMA operation a line
 run:
 	@mkdir -p target
 	@rt check exchange >target/run.log 2>&1 || { cat target/run.log; exit 1; }
 	@target/bin/exchange
+
+# build trace, proved, and run it on standard input, one message to a line as hexadecimal digits behind > or <: make -s trace <messages
+trace:
+	@mkdir -p target
+	@rt check trace >target/trace.log 2>&1 </dev/null || { cat target/trace.log; exit 1; }
+	@target/bin/trace
 
 # the gate
 test:

@@ -159,5 +159,5 @@ void traced(const char *name, const char *type, const uint8_t *msg, size_t len, 
     same_text(name, "line", (const char *)buf, line, SRP_TRACE_BYTES);
     same_bytes(name, "bytes behind the line", buf + SRP_TRACE_BYTES, fill, sizeof fill);
     if (type)
-        same_text(name, "type in the line", l.type, type, strlen(type) + 1);
+        same(name, "type in the line", strcmp(l.type, type), 0);
 }

@@ -95,7 +95,7 @@ pub fn cut(list: &[u8], m: u32, r: u32, handed: u32) -> Result<Option<Piece>, Re
     }))
 }
 
-/// A message as one line for a terminal: 80 columns and a line feed, all of it printable ASCII. It is the first
+/// A message as one line for a terminal: 80 columns of printable ASCII and a line feed. It is the first
 /// [`TRACE_BYTES`](crate::TRACE_BYTES) bytes of the lent buffer, whose other bytes stay. Any bytes have a line, also a
 /// message that a port refused, or of a type that does not go that way.
 ///

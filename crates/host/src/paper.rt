@@ -18,7 +18,7 @@ pub const LOGIN_RSP: u8 = 0xc0;
 pub const RSP: u8 = 0xc1;
 
 // sizes: of SRP_LOGIN_REQ; of an SRP_CMD without data, behind which its descriptors stand, and of SRP_TSK_MGMT; of the shortest messages, as
-// SRP_CRED_RSP and SRP_I_LOGOUT are; of an SRP_RSP without response bytes and with them; of an identifier
+// SRP_CRED_RSP and SRP_I_LOGOUT are; of an SRP_RSP without response bytes; of an identifier
 pub const LOGIN_REQ_SIZE: usize = 64;
 
 pub const CMD_SIZE: usize = 48;
@@ -82,7 +82,7 @@ pub const DIRECT_SIZE: usize = CMD_SIZE + SEGMENT;
 
 pub const ENTRIES: usize = CMD_SIZE + TABLE;
 
-// SRP_RSP; SRP_CRED_REQ has its delta and SRP_LOGIN_RSP its N at the same bytes, SRP_T_LOGOUT its reason
+// SRP_RSP; SRP_CRED_REQ has its delta and SRP_LOGIN_RSP its N at the same bytes
 pub const DELTA: usize = 4;
 
 pub const FLAGS: usize = 18;
@@ -104,10 +104,8 @@ pub const INACTIVE: u32 = 1;
 
 pub const CREDIT_TAG: u64 = 1;
 
-// bits: SOLNT of byte 1, RSPVALID of the flags; byte 1 of a request with both of its bits
+// bits: SOLNT of byte 1; byte 1 of a request with both of its bits
 pub const SOLNT: u8 = 0;
-
-pub const RSPVALID: u8 = 0;
 
 pub const BOTH_SOLNT: u8 = 0x06;
 

@@ -1,4 +1,5 @@
 // What happens, a line each: messages, RDMA operations, counts.
+use crate::paper::COMMAND;
 use crate::paper::FLAGS;
 use crate::paper::IN_RESIDUAL;
 use crate::paper::NOTIFICATION;
@@ -37,12 +38,15 @@ pub fn end() {
     text(b"\n");
 }
 
-// Of an SRP_RSP what its line does not say.
+// The length of an SRP_CMD.
+fn length(msg: &[u8]) {
+    number(b"   ", msg.len() as u64);
+    text(b" bytes\n");
+}
+
+// Of an SRP_RSP its status, flags, SOLNT, residuals and sense length.
 fn response(msg: &[u8]) {
     if msg.len() < RSP_SIZE {
-        return;
-    }
-    if wire::read8(msg, 0) != RSP {
         return;
     }
     hexadecimal(b"   status ", wire::read8(msg, STATUS) as u64, 2);
@@ -57,12 +61,24 @@ fn response(msg: &[u8]) {
     end();
 }
 
-// A message on its way: its trace line.
+// What the trace line does not say of a command and of a response.
+fn details(msg: &[u8]) {
+    if msg.len() == 0 {
+        return;
+    }
+    match wire::read8(msg, 0) {
+        COMMAND => length(msg),
+        RSP => response(msg),
+        _ => {}
+    }
+}
+
+// A message on its way: its trace line, and the details below it.
 pub fn message(way: Way, msg: &[u8]) {
     let mut line = [0u8; LINE];
     page::trace(msg, way, &mut line);
     text(&line);
-    response(msg);
+    details(msg);
 }
 
 pub fn operation(kind: Kind, p: Piece) {

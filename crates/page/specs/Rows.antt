@@ -3,21 +3,24 @@ use mathlib.Core.Path.{_≡_}
 use mathlib.Core.List.{List, [], _∷_, _++_}
 use Prim.Native.Nat.{ℕ, _+_, _*_, _/_, _%_}
 use Prim.Native.String.{String}
+use lib.ListN.{length, take}
 use Rattle.srp.specs.Lists.{All}
 use Rattle.srp.specs.Bytes.{zeros, write}
 use Rattle.srp.specs.Messages.{loginReq, tskMgmt, cmd, iLogout, credRsp, loginRsp, loginRej, rsp, credReq, tLogout}
 use Rattle.text.specs.Codes.{codes}
-use Rattle.page.specs.Page.{traceLine}
+use Rattle.page.specs.Page.{lineFrom}
 use Rattle.page.specs.declared.Way.{Way}
 use Rattle.page.specs.declared.Way.the-variants.{Towards, From}
 
+-- a message of n bytes that begins with s
 pub record Row : Type 0 where
   pub way : Way
+  pub long : ℕ
   pub message : List ℕ
   pub line : String
 
 abbrev pub row : Way → List ℕ → String → Row
-row w s l = record { way = w; message = s; line = l }
+row w s l = record { way = w; long = length s; message = s; line = l }
 
 -- an SRP_CMD with a CDB of 16 bytes, up to its end: formats, counts, and n
 abbrev pub plain : ℕ → ℕ → ℕ → ℕ → List ℕ
@@ -78,11 +81,32 @@ rows =
     "> UNKNOWN                                           16                          "
     ∷ row From (0x82 ∷ zeros 999)
     "< UNKNOWN                                         1000                          "
-    -- a length that is not its type's; a sense length that would wrap 32 bits
+    -- a length that is not its type's, of each type
+    ∷ row Towards (write loginReq (1 ∷ 1364 ∷ 6 ∷ 0 ∷ 0 ∷ 1 ∷ 7 ∷ 9 ∷ []) ++ zeros 1)
+    "> UNKNOWN                                           65                          "
+    ∷ row Towards (write tskMgmt (0 ∷ 0 ∷ 0x16 ∷ 0 ∷ 1 ∷ 0x15 ∷ []) ++ zeros 1)
+    "> UNKNOWN                                           49                          "
+    ∷ row Towards (take 47 (plain 0 0 0 0))
+    "> UNKNOWN                                           47                          "
+    ∷ row Towards (plain 0x01 0 0 0 ++ zeros 17)
+    "> UNKNOWN                                           65                          "
+    ∷ row Towards (write iLogout (2 ∷ []) ++ zeros 1)
+    "> UNKNOWN                                           17                          "
+    ∷ row Towards (write credRsp (1 ∷ []) ++ zeros 1)
+    "> UNKNOWN                                           17                          "
+    ∷ row From (write loginRsp (4 ∷ 1 ∷ 1364 ∷ 1364 ∷ 6 ∷ 0 ∷ []) ++ zeros 1)
+    "< UNKNOWN                                           53                          "
+    ∷ row From (write loginRej (0x00010001 ∷ 1 ∷ 6 ∷ []) ++ zeros 1)
+    "< UNKNOWN                                           33                          "
+    ∷ row From (write tLogout (1 ∷ 2 ∷ 0 ∷ []) ++ zeros 1)
+    "< UNKNOWN                                           17                          "
     ∷ row From (0x81 ∷ zeros 14)
     "< UNKNOWN                                           15                          "
+    -- and a sense length that would wrap 32 bits
     ∷ row From (answer 1 3 0xfffffffc)
     "< UNKNOWN                                           36                          "
+    -- more bytes than five columns hold
+    ∷ record { way = Towards; long = 100000; message = 0x02 ∷ zeros 39; line = "> UNKNOWN                                        *****                          " }
     -- a format above 2, each way
     ∷ row Towards (plain 0x30 0 0 0)
     "> UNKNOWN                                           48                          "
@@ -91,7 +115,7 @@ rows =
     ∷ []
 
 abbrev pub Holds : Row → Type 0
-Holds r = traceLine (r .way) (r .message) ≡ codes (r .line) ++ (0x0a ∷ [])
+Holds r = lineFrom (r .way) (r .long) (r .message) ≡ codes (r .line) ++ (0x0a ∷ [])
 
 abbrev pub EachRow : Type 0
 EachRow = All Holds rows

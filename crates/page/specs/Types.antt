@@ -11,10 +11,11 @@ use Rattle.srp.specs.Requests.{flag, exactLength}
 use Rattle.page.specs.declared.Name.{Name}
 use Rattle.page.specs.declared.Name.the-variants.{LoginReq, TskMgmt, Cmd, ILogout, CredRsp, LoginRsp, LoginRej, Rsp, CredReq, TLogout, Unknown}
 
--- of a message of n bytes s has the part that is read
+-- how many bytes of a message are read
 abbrev pub mostRead : ℕ
 mostRead = 40
 
+-- of a message of n bytes s has the part that is read
 abbrev pub Begins : ℕ → List ℕ → Type 0
 Begins n s = min n mostRead ≤ length s
 

@@ -37,6 +37,7 @@ fn put_fault(text: &mut [u8], number: u64, fault: Fault) -> usize
     text::put_byte(text, end, NEWLINE)
 }
 
+// `wire::least` is of 64-bit numbers, and a length would be cast both ways.
 fn least(a: usize, b: usize) -> usize
     ensures { λ r. ⌜ r ≡ min a b ⌝ }
 {

@@ -1,5 +1,5 @@
 // trace: reads messages from standard input, one to a line as hexadecimal digits behind > or <, and prints the line of each. Blank lines and lines that
-// start with # are skipped; of any other line the number and what is wrong are printed. What is printed is `pageOf` of specs/Input.antt.
+// start with # are skipped; of any other line the number and what is wrong are printed. What is printed is `tracePage` of specs/Input.antt.
 mod lines;
 mod reader;
 
