@@ -494,8 +494,8 @@ uint32_t srp_cut(const uint8_t *list, size_t list_len, uint32_t m, uint32_t r, u
  * and may be called for any bytes at any time, also for a message that a port refused.
  *
  *   msg, msg_len   the message. At most its first 40 bytes are read, and none beyond msg_len
- *   direction      of the message, 0 towards the port, else from it (SRP_DIRECTION_OUT and _IN are of data); a type that
- *                  cannot go that way still prints
+ *   direction      of the message, 0 towards the port, else from it (SRP_DIRECTION_OUT and _IN are of data). A type
+ *                  that cannot go that way still prints
  *   buf, buf_len   where the line goes
  *
  * Refusals:
