@@ -10,7 +10,7 @@ ghost use mathlib.Core.List.{[], _∷_, _++_};
 ghost use Prim.Native.Nat.{_+_, _≤_};
 ghost use lib.ListN.{length, drop};
 ghost use Rattle.srp.specs.Writing.{placed};
-ghost use Rattle.page.specs.Page.{sign, letters, padded, countText, hexText, numberText, over, blank, lineText, lead};
+ghost use Rattle.page.specs.Page.{sign, letters, padded, countText, hexText, numberText, over, blank, lineText, lineLength, lead};
 
 // Where the columns start, counted from 0, and how many there are.
 const LETTERS_AT: usize = 2;
@@ -83,8 +83,8 @@ fn count_text(n: u64) -> [u8; 5]
 
 // 80 spaces and a line feed.
 fn clear_line(buf: &mut [u8])
-    requires { ⌜ 81 ≤ length (now buf) ⌝ }
-    ensures { λ _. ⌜ now (buf .exit) ≡ blank ++ (0x0a ∷ drop 81 (now (buf .entry))) ⌝ }
+    requires { ⌜ lineLength ≤ length (now buf) ⌝ }
+    ensures { λ _. ⌜ now (buf .exit) ≡ blank ++ (0x0a ∷ drop lineLength (now (buf .entry))) ⌝ }
 {
     let mut i: usize = 0;
     while i < COLUMNS {
@@ -121,7 +121,7 @@ fn put_number_entry(buf: &mut [u8], at: usize, entry: Entry)
 
 // The line is laid into the lent buffer from its last columns to its first, as its definition nests them.
 pub fn put_line(buf: &mut [u8], l: Line)
-    requires { ⌜ 81 ≤ length (now buf) ⌝ }
+    requires { ⌜ lineLength ≤ length (now buf) ⌝ }
     ensures { λ _. ⌜ now (buf .exit) ≡ placed (lineText l ∷ []) (now (buf .entry)) ⌝ }
 {
     let way = l.way;

@@ -18,12 +18,12 @@ use Rattle.text.specs.Appending.{Appends}
 use Rattle.text.specs.Codes.{codes}
 use Rattle.text.proofs.Digits.{decimal-few}
 use Rattle.trace.specs.Input.{lineFeed, faultWords, faultLine}
-use Rattle.trace.specs.Reading.{longest, messageEnd}
+use Rattle.trace.specs.Reading.{longestWords, longest, messageEnd}
 use Rattle.trace.specs.declared.reader.Fault.{Fault}
 use Rattle.trace.specs.declared.reader.Fault.the-variants.{NoSign, NoDigit, Odd}
 use Rattle.trace.specs.declared.reader.Reader.{Reader}
 
-pub words-short : (f : Fault) → length (faultWords f) ≤ 42
+pub words-short : (f : Fault) → length (faultWords f) ≤ longestWords
 words-short NoSign = omega arith
 words-short NoDigit = omega arith
 words-short Odd = omega arith

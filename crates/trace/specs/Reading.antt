@@ -66,6 +66,10 @@ endBy (Wrong f) r st = faultLine (r .number) f
 abbrev pub lineEnd : Reader → List ℕ → List ℕ
 lineEnd r st = endBy (r .content) r st
 
+-- the words of a fault, and a whole line, with a number of 20 digits
+abbrev pub longestWords : ℕ
+longestWords = 42
+
 abbrev pub longest : ℕ
 longest = 96
 

@@ -10,14 +10,15 @@ ghost use mathlib.Core.Path.{_≡_};
 ghost use Prim.Native.Nat.{_+_, _≤_, min};
 ghost use lib.ListN.{length, take};
 ghost use Rattle.text.specs.Appending.{Appends};
+ghost use Rattle.page.specs.Types.{mostRead};
 ghost use Rattle.trace.specs.Input.{faultWords, faultLine};
-ghost use Rattle.trace.specs.Reading.{longest, messageEnd, lineEnd};
+ghost use Rattle.trace.specs.Reading.{longestWords, longest, messageEnd, lineEnd};
 
 // No line is longer: neither a message's, nor a number of 20 digits and the longest words.
 pub const LONGEST: usize = 96;
 
 fn put_words(text: &mut [u8], at: usize, fault: Fault) -> usize
-    requires { ⌜ at + 64 ≤ length (now text) ⌝ }
+    requires { ⌜ at + longestWords ≤ length (now text) ⌝ }
     ensures { λ r. ⌜ Appends (now (text .entry)) at (faultWords fault) (now (text .exit)) r ⌝ }
 {
     match fault {
@@ -46,7 +47,7 @@ fn least(a: usize, b: usize) -> usize
 
 fn put_message(text: &mut [u8], r: Reader, way: Way, start: &[u8]) -> usize
     requires { ⌜ longest ≤ length (now text) ⌝ }
-    requires { ⌜ length (now start) ≡ 40 ⌝ }
+    requires { ⌜ length (now start) ≡ mostRead ⌝ }
     ensures { λ n. ⌜ (n ≤ longest) × (take n (now (text .exit)) ≡ messageEnd r way (now (start .entry))) ⌝ }
 {
     if r.digits % 2 == 1 {
@@ -60,7 +61,7 @@ fn put_message(text: &mut [u8], r: Reader, way: Way, start: &[u8]) -> usize
 
 pub fn put_end(text: &mut [u8], r: Reader, start: &[u8]) -> usize
     requires { ⌜ longest ≤ length (now text) ⌝ }
-    requires { ⌜ length (now start) ≡ 40 ⌝ }
+    requires { ⌜ length (now start) ≡ mostRead ⌝ }
     ensures { λ n. ⌜ (n ≤ longest) × (take n (now (text .exit)) ≡ lineEnd r (now (start .entry))) ⌝ }
 {
     let content = r.content;
