@@ -18,7 +18,7 @@ use Rattle.srp.specs.Outside.{CReturn, hex, decimal}
 use Rattle.srp.specs.declared.Refusal.the-variants.{ShortBuffer}
 use Rattle.srp.specs.declared.Reply.{Reply}
 use Rattle.srp.specs.declared.Reply.the-variants.{Refused, Performed}
-use Rattle.text.specs.Codes.{codes}
+use Rattle.text.specs.Codes.{lineFeed, codes}
 use Rattle.page.specs.Types.{mostRead, nameOf}
 use Rattle.page.specs.declared.Way.{Way}
 use Rattle.page.specs.declared.Way.the-variants.{Towards, From}
@@ -121,8 +121,11 @@ over at t line = take at line ++ (t ++ drop (at + length t) line)
 abbrev pub column : ℕ → List ℕ → List ℕ → List ℕ
 column k t line = over (k - 1) t line
 
+abbrev pub lineWidth : ℕ
+lineWidth = 80
+
 abbrev pub blank : List ℕ
-blank = spaces 80
+blank = spaces lineWidth
 
 abbrev pub columns : Line → List ℕ
 columns l =
@@ -136,7 +139,7 @@ columns l =
 
 -- "line feed after 80"
 abbrev pub lineText : Line → List ℕ
-lineText l = columns l ++ (0x0a ∷ [])
+lineText l = columns l ++ (lineFeed ∷ [])
 
 -- the line of a message of n bytes that begins with s
 abbrev pub lineFrom : Way → ℕ → List ℕ → List ℕ
@@ -149,7 +152,7 @@ traceLine w s = lineFrom w (length s) s
 -- ── the call
 
 abbrev pub lineLength : ℕ
-lineLength = 81
+lineLength = lineWidth + 1
 
 -- "a lent buffer of at least 81 bytes (else 1; bytes past 81 stay)"
 abbrev pub traceChecks : ℕ → List Check
@@ -177,8 +180,8 @@ Printable b = (0x20 ≤ b) × (b ≤ 0x7e)
 -- 80 printable columns and a line feed
 pub record OneLine (t : List ℕ) : Type 0 where
   pub width : length t ≡ lineLength
-  pub columns : All Printable (take 80 t)
-  pub feed : drop 80 t ≡ 0x0a ∷ []
+  pub columns : All Printable (take lineWidth t)
+  pub feed : drop lineWidth t ≡ lineFeed ∷ []
 
 -- "The width holds for every message of every length, shown once over all types"
 abbrev pub EveryLine : Type 0

@@ -7,7 +7,7 @@ use lib.ListN.{length, take}
 use Rattle.srp.specs.Lists.{All}
 use Rattle.srp.specs.Bytes.{zeros, write}
 use Rattle.srp.specs.Messages.{loginReq, tskMgmt, cmd, iLogout, credRsp, loginRsp, loginRej, rsp, credReq, tLogout}
-use Rattle.text.specs.Codes.{codes}
+use Rattle.text.specs.Codes.{lineFeed, codes}
 use Rattle.page.specs.Page.{lineFrom}
 use Rattle.page.specs.declared.Way.{Way}
 use Rattle.page.specs.declared.Way.the-variants.{Towards, From}
@@ -115,7 +115,7 @@ rows =
     ∷ []
 
 abbrev pub Holds : Row → Type 0
-Holds r = lineFrom (r .way) (r .long) (r .message) ≡ codes (r .line) ++ (0x0a ∷ [])
+Holds r = lineFrom (r .way) (r .long) (r .message) ≡ codes (r .line) ++ (lineFeed ∷ [])
 
 abbrev pub EachRow : Type 0
 EachRow = All Holds rows

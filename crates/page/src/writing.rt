@@ -10,6 +10,7 @@ ghost use mathlib.Core.List.{[], _∷_, _++_};
 ghost use Prim.Native.Nat.{_+_, _≤_};
 ghost use lib.ListN.{length, drop};
 ghost use Rattle.srp.specs.Writing.{placed};
+ghost use Rattle.text.specs.Codes.{lineFeed};
 ghost use Rattle.page.specs.Page.{sign, letters, padded, countText, hexText, numberText, over, blank, lineText, lineLength, lead};
 
 // Where the columns start, counted from 0, and how many there are.
@@ -84,7 +85,7 @@ fn count_text(n: u64) -> [u8; 5]
 // 80 spaces and a line feed.
 fn clear_line(buf: &mut [u8])
     requires { ⌜ lineLength ≤ length (now buf) ⌝ }
-    ensures { λ _. ⌜ now (buf .exit) ≡ blank ++ (0x0a ∷ drop lineLength (now (buf .entry))) ⌝ }
+    ensures { λ _. ⌜ now (buf .exit) ≡ blank ++ (lineFeed ∷ drop lineLength (now (buf .entry))) ⌝ }
 {
     let mut i: usize = 0;
     while i < COLUMNS {

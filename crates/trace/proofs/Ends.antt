@@ -15,9 +15,9 @@ use Rattle.page.specs.Page.{lineFrom}
 use Rattle.page.specs.declared.Way.{Way}
 use Rattle.page.proofs.Lines.{line-from-long}
 use Rattle.text.specs.Appending.{Appends}
-use Rattle.text.specs.Codes.{codes}
+use Rattle.text.specs.Codes.{lineFeed, codes}
 use Rattle.text.proofs.Digits.{decimal-few}
-use Rattle.trace.specs.Input.{lineFeed, faultWords, faultLine}
+use Rattle.trace.specs.Input.{faultWords, faultLine}
 use Rattle.trace.specs.Reading.{longestWords, longest, messageEnd}
 use Rattle.trace.specs.declared.reader.Fault.{Fault}
 use Rattle.trace.specs.declared.reader.Fault.the-variants.{NoSign, NoDigit, Odd}

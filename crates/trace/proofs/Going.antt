@@ -10,7 +10,8 @@ use borrow.Author.Tests.{eq-eqb, ne-eqb}
 use lib.Dec.{eqb}
 use lib.ListN.{length, drop, getD, set, length-set}
 use lib.Seq.{drop-cons}
-use Rattle.trace.specs.Input.{lineFeed, isSpace}
+use Rattle.text.specs.Codes.{lineFeed}
+use Rattle.trace.specs.Input.{isSpace}
 use Rattle.trace.specs.Reading.{followed, onward, turned, kept, lineEnd, pageFrom, Reads}
 use Rattle.trace.specs.declared.reader.Content.{Content}
 use Rattle.trace.specs.declared.reader.Reader.{Reader}

@@ -8,7 +8,8 @@ use native.Mathlib.Nat.{mod-eq-of-lt}
 use native.Mathlib.Omega.{arith}
 use lib.Dec.{eqb}
 use lib.ListN.{length, length-append}
-use Rattle.trace.specs.Input.{lineFeed, isSpace, unspaced, printed, pageOf}
+use Rattle.text.specs.Codes.{lineFeed}
+use Rattle.trace.specs.Input.{isSpace, unspaced, printed, pageOf}
 use Rattle.trace.specs.Reading.{fresh, followed, turned, kept, lineEnd, pageFrom, Prints}
 use Rattle.trace.specs.declared.reader.Reader.{Reader}
 use Rattle.trace.proofs.Characters.{unspaced-more}

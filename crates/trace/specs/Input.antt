@@ -7,7 +7,7 @@ use Prim.Native.Char.{code}
 use lib.Dec.{leb, eqb}
 use lib.ListN.{length}
 use Rattle.srp.specs.Outside.{decimal}
-use Rattle.text.specs.Codes.{codes}
+use Rattle.text.specs.Codes.{lineFeed, codes}
 use Rattle.page.specs.Page.{traceLine}
 use Rattle.page.specs.declared.Way.the-variants.{Towards, From}
 use Rattle.trace.specs.declared.reader.Digit.{Digit}
@@ -18,9 +18,6 @@ use Rattle.trace.specs.declared.reader.Content.{Content}
 use Rattle.trace.specs.declared.reader.Content.the-variants.{Nothing, Comment, Message, Wrong}
 
 -- ── characters
-
-abbrev pub lineFeed : ℕ
-lineFeed = 0x0a
 
 -- spaces, tabs and carriage returns count nowhere in a line
 abbrev pub isSpace : ℕ → Bool

@@ -8,7 +8,8 @@ use lib.ListN.{length, take, drop, set}
 use Rattle.page.specs.Types.{mostRead}
 use Rattle.page.specs.Page.{lineFrom}
 use Rattle.page.specs.declared.Way.{Way}
-use Rattle.trace.specs.Input.{lineFeed, isSpace, digitOf, contentBy, faultLine, tracePage}
+use Rattle.text.specs.Codes.{lineFeed}
+use Rattle.trace.specs.Input.{isSpace, digitOf, contentBy, faultLine, tracePage}
 use Rattle.trace.specs.declared.reader.Digit.{Digit}
 use Rattle.trace.specs.declared.reader.Digit.the-variants.{Value, Other}
 use Rattle.trace.specs.declared.reader.Fault.the-variants.{NoDigit, Odd}

@@ -4,8 +4,8 @@ use mathlib.Core.List.{List, [], _∷_, _++_}
 use Prim.Native.Nat.{ℕ}
 use Prim.Native.String.{String}
 use Rattle.srp.specs.Lists.{All}
-use Rattle.text.specs.Codes.{codes}
-use Rattle.trace.specs.Input.{lineFeed, tracePage}
+use Rattle.text.specs.Codes.{lineFeed, codes}
+use Rattle.trace.specs.Input.{tracePage}
 
 pub record Row : Type 0 where
   pub input : String

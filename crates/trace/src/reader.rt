@@ -7,6 +7,7 @@ ghost use lib.ListN.{length};
 ghost use Rattle.trace.specs.Input.{isSpace, digitOf, contentBy};
 ghost use Rattle.trace.specs.Reading.{fresh, followed, byteWith, withContent, withDigit, turned, kept, Reads};
 
+// A character as a hexadecimal digit.
 pub enum Digit {
     Value(u8),
     Other,
@@ -19,6 +20,7 @@ pub enum Fault {
     Odd,
 }
 
+// What a line is, as far as it was read.
 pub enum Content {
     Nothing,
     Comment,
