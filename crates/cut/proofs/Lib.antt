@@ -1,4 +1,7 @@
 pub mod Turns
 pub mod Sums
+pub mod Locating
+pub mod Searching
 pub mod Pieces
 pub mod Refusing
+pub mod Rows

@@ -1,4 +1,7 @@
 // The next piece of a move, from its direction's memory descriptors as bytes, and the cut with its refusals.
+mod locate;
+
+use locate::Located;
 use srp::Cut;
 use srp::Piece;
 use srp::Refusal;
@@ -60,34 +63,27 @@ pub fn sum(list: &[u8]) -> Total
 }
 
 // The piece at `from` of the bytes up to `to`, at most `most` long. An address counts modulo 2^64.
-// A segment that is passed over ends before `to`, so `to` is only asked first and where the piece stands.
 pub fn next_piece(list: &[u8], most: u32, from: u32, to: u32) -> Cut
     ensures { λ r. ⌜ r ≡ nextWrapped (next (upTo most) from to (segmentsOf (now (list .entry)))) ⌝ }
 {
     if to <= from {
         return Cut::CutDone;
     }
-    let mut at: usize = 0;
-    let mut rest = list.len() / SEGMENT;
-    let mut skip = from;
-    while 0 < rest {
-        let n = wire::read32(list, at + SEGMENT_LENGTH);
-        if skip < n {
-            let address = wire::read64(list, at + ADDRESS);
-            let left = wire::least((n - skip) as u64, (to - from) as u64);
-            let len = wire::least(most as u64, left) as u32;
-            return Cut::CutPiece(Piece {
-                address: std::num::wrapping_add_u64(address, skip as u64),
-                handle: wire::read32(list, at + HANDLE),
-                len: len,
-                offset: from,
-            });
-        }
-        skip = skip - n;
-        at = at + SEGMENT;
-        rest = rest - 1;
-    }
-    Cut::CutDone
+    let Located::At(location) = locate::find_segment(list, from) else {
+        return Cut::CutDone;
+    };
+    let at = location.index * SEGMENT;
+    let skip = from - location.earlier;
+    let address = wire::read64(list, at + ADDRESS);
+    let in_segment = wire::read32(list, at + SEGMENT_LENGTH) - skip;
+    let left = wire::least(in_segment as u64, (to - from) as u64);
+    let len = wire::least(most as u64, left) as u32;
+    Cut::CutPiece(Piece {
+        address: std::num::wrapping_add_u64(address, skip as u64),
+        handle: wire::read32(list, at + HANDLE),
+        len: len,
+        offset: from,
+    })
 }
 
 // The next piece of the first min(R, B) bytes, `handed` of them handed out before.

@@ -1,0 +1,166 @@
+-- The segment that holds an offset: what the search finds, and that the next piece stands there, whatever the rule of its length.
+-- Assumes nothing.
+use mathlib.Core.Path.{_≡_, refl, ap, _∙_, subst}
+use mathlib.Core.Bool.{Bool, true, false, cond}
+use mathlib.Core.List.{List, [], _∷_}
+use mathlib.Core.Option.{Option, none, some, Option·map, Option·none-ne-some, Option·some-injective}
+use Prim.Native.Nat.{ℕ, zero, suc, _+_, _-_, _≤_, _<_, min}
+use native.Mathlib.Omega.{arith}
+use borrow.Author.Tests.{lt-ltb, le-ltb, ltb-true, ltb-false}
+use lib.Dec.{ltb}
+use lib.ListN.{length, take, getElem?}
+use Rattle.srp.specs.Descriptors.{Segment, sumOf}
+use Rattle.srp.specs.Cutting.{Rule, piece, nextFrom, next}
+use Rattle.srp.proofs.CutLaws.{none-above}
+use Rattle.cut.specs.Locating.{earlierOf, location, locatedFrom, located, HoldsOffset, EachFound, pieceIn, nextAt, NextStands}
+use Rattle.cut.specs.declared.locate.Location.{Location}
+use Rattle.cut.specs.declared.locate.Located.{Located}
+use Rattle.cut.specs.declared.locate.Located.the-variants.{At, Behind}
+
+-- ── the sums of the earlier lengths
+
+-- the next one is a segment's length more
+pub earlier-next : (i : ℕ) (ss : List Segment) (s : Segment) → getElem? ss i ≡ some s → earlierOf (suc i) ss ≡ earlierOf i ss + s .len
+earlier-next i [] s e = absurd (Option·none-ne-some s e)
+earlier-next zero (t ∷ ss) s e = rw (Option·some-injective t s e) (omega arith)
+earlier-next (suc i) (t ∷ ss) s e = rw (earlier-next i ss s e) (omega arith)
+
+-- none falls
+earlier-rises : (i j : ℕ) (ss : List Segment) → i ≤ j → earlierOf i ss ≤ earlierOf j ss
+earlier-rises zero j ss h = omega arith
+earlier-rises (suc i) zero ss h = omega arith
+earlier-rises (suc i) (suc j) [] h = omega arith
+earlier-rises (suc i) (suc j) (s ∷ ss) h = omega (arith, earlier-rises i j ss (omega arith))
+
+-- the last one is B, and so none is above it
+earlier-all : (ss : List Segment) → earlierOf (length ss) ss ≡ sumOf ss
+earlier-all [] = refl
+earlier-all (s ∷ ss) = rw (earlier-all ss)
+
+earlier-below : (i : ℕ) (ss : List Segment) → earlierOf i ss ≤ sumOf ss
+earlier-below zero ss = omega arith
+earlier-below (suc i) [] = omega arith
+earlier-below (suc i) (s ∷ ss) = omega (arith, earlier-below i ss)
+
+-- ── the segment that holds an offset
+
+pub holds-inside : (offset i : ℕ) (ss : List Segment) → HoldsOffset offset i ss → i < length ss
+holds-inside offset zero [] h = omega (arith, h)
+holds-inside offset (suc i) [] h = omega (arith, h)
+holds-inside offset zero (s ∷ ss) h = omega arith
+holds-inside offset (suc i) (s ∷ ss) h = omega (arith, holds-inside (offset - s .len) i ss (omega (arith, h .0), omega (arith, h .1)))
+
+not-later : (offset i j : ℕ) (ss : List Segment) → HoldsOffset offset i ss → HoldsOffset offset j ss → j ≤ i
+not-later offset i j ss h k = go (ltb i j) refl
+  where
+    go : (b : Bool) → ltb i j ≡ b → j ≤ i
+    go true e = omega (arith, h .1, k .0, earlier-rises (suc i) j ss (omega (arith, ltb-true i j e)))
+    go false e = ltb-false i j e
+
+-- ── the search, from index i on
+
+module _ (offset : ℕ) (ss : List Segment) where
+  found-from : (n i : ℕ) (l : Location) → earlierOf i ss ≤ offset → locatedFrom n i offset ss ≡ At l → HoldsOffset offset (l .index) ss × (l ≡ location (l .index) ss)
+  found-from zero i l h e = let z : _≡_ {A = ℕ} 0 1 = cc in absurd (omega arith)
+  found-from (suc n) i l h e = go (ltb offset (earlierOf (suc i) ss)) refl e (λ h′ e′. found-from n (suc i) l h′ e′)
+    where
+      go : (b : Bool) → ltb offset (earlierOf (suc i) ss) ≡ b → cond b (At (location i ss)) (locatedFrom n (suc i) offset ss) ≡ At l
+          → (earlierOf (suc i) ss ≤ offset → locatedFrom n (suc i) offset ss ≡ At l → HoldsOffset offset (l .index) ss × (l ≡ location (l .index) ss))
+          → HoldsOffset offset (l .index) ss × (l ≡ location (l .index) ss)
+      go true t e′ ih =
+          let q : location i ss ≡ l = cc in
+          subst (λ (x : Location). HoldsOffset offset (x .index) ss × (x ≡ location (x .index) ss)) q ((h, ltb-true offset (earlierOf (suc i) ss) t), refl)
+      go false t e′ ih = ih (ltb-false offset (earlierOf (suc i) ss) t) e′
+
+  behind-from : (n i k : ℕ) → n + i ≡ k → earlierOf i ss ≤ offset → locatedFrom n i offset ss ≡ Behind → earlierOf k ss ≤ offset
+  behind-from zero i k s h e = let q : i ≡ k = omega arith in rw q at h
+  behind-from (suc n) i k s h e = go (ltb offset (earlierOf (suc i) ss)) refl e (λ h′ e′. behind-from n (suc i) k (omega arith) h′ e′)
+    where
+      go : (b : Bool) → ltb offset (earlierOf (suc i) ss) ≡ b → cond b (At (location i ss)) (locatedFrom n (suc i) offset ss) ≡ Behind
+          → (earlierOf (suc i) ss ≤ offset → locatedFrom n (suc i) offset ss ≡ Behind → earlierOf k ss ≤ offset)
+          → earlierOf k ss ≤ offset
+      go true t e′ ih = let z : _≡_ {A = ℕ} 0 1 = cc in absurd (omega arith)
+      go false t e′ ih = ih (ltb-false offset (earlierOf (suc i) ss) t) e′
+
+  holds-found : (l : Location) → located offset ss ≡ At l → HoldsOffset offset (l .index) ss × (l ≡ location (l .index) ss)
+  holds-found l e = found-from (length ss) 0 l (omega arith) e
+
+  behind-found : located offset ss ≡ Behind → sumOf ss ≤ offset
+  behind-found e = omega (arith, behind-from (length ss) 0 (length ss) (omega arith) (omega arith) e, earlier-all ss)
+
+  only-found : (i : ℕ) → HoldsOffset offset i ss → located offset ss ≡ At (location i ss)
+  only-found i h = go (located offset ss) refl
+    where
+      go : (r : Located) → located offset ss ≡ r → located offset ss ≡ At (location i ss)
+      go (At l) e =
+          let f = holds-found l e in
+          let same : l .index ≡ i = omega (arith, not-later offset i (l .index) ss h (f .0), not-later offset (l .index) i ss (f .0) h) in
+          e ∙ ap At (f .1 ∙ ap (λ (k : ℕ). location k ss) same)
+      go Behind e = absurd (omega (arith, h .1, behind-found e, earlier-below (suc i) ss))
+
+  none-found : sumOf ss ≤ offset → located offset ss ≡ Behind
+  none-found h = go (located offset ss) refl
+    where
+      go : (r : Located) → located offset ss ≡ r → located offset ss ≡ Behind
+      go (At l) e = absurd (omega (arith, h, holds-found l e .0 .1, earlier-below (suc (l .index)) ss))
+      go Behind e = e
+
+pub each-found : EachFound
+each-found offset ss = record { holds = holds-found offset ss; only = only-found offset ss; behind = (behind-found offset ss, none-found offset ss) }
+
+-- ── the next piece stands there
+
+-- n bytes further on in the segments
+module _ (from to n : ℕ) (le : n ≤ from) where
+  further-within : (earlier : ℕ) → from - n - earlier ≡ from - (n + earlier)
+  further-within earlier = omega arith
+
+  further-offset : (o : ℕ) → o + n + (from - n) ≡ o + from
+  further-offset o = omega arith
+
+  further-left : from < to → to - n - (from - n) ≡ to - from
+  further-left lt = omega arith
+
+  further-whole : from < to → min n to ≡ n
+  further-whole lt = omega arith
+
+module _ (rule : Rule) where
+  -- where o bytes came before the segments
+  there-behind : (o from to i : ℕ) (ss : List Segment) (s : Segment) → from < to → getElem? ss i ≡ some s → HoldsOffset from i ss
+      → let within : ℕ = from - earlierOf i ss in
+      nextFrom rule o from to ss ≡ some (piece (s .address + within) (s .handle) (rule (s .address + within) (min (s .len - within) (to - from))) (o + from))
+  there-behind o from to i [] s lt e h = absurd (Option·none-ne-some s e)
+  there-behind o from to zero (t ∷ ss) s lt e h =
+      let same : t ≡ s = Option·some-injective t s e in
+      let a : from - 0 ≡ from = omega arith in
+      let n : min (t .len) to - from ≡ min (t .len - from) (to - from) = omega (arith, h .1) in
+      rw (← same, a, lt-ltb from (min (t .len) to) (omega (arith, h .1)), n)
+  there-behind o from to (suc i) (t ∷ ss) s lt e h =
+      let n : ℕ = t .len in
+      let le : n ≤ from = omega (arith, h .0) in
+      let at-most : earlierOf i ss ≤ from - n = omega (arith, h .0) in
+      let above : from - n < earlierOf (suc i) ss = omega (arith, h .1) in
+      let behind = there-behind (o + n) (from - n) (to - n) i ss s (omega arith) e (at-most, above) in
+      rw (further-whole from to n le lt, le-ltb from n le)
+      (rw (further-within from to n le (earlierOf i ss), further-left from to n le lt, further-offset from to n le o) at behind)
+
+  -- none behind the last byte, or where the bytes end
+  pub none-past : (o from to : ℕ) (ss : List Segment) → min to (sumOf ss) ≤ from → nextFrom rule o from to ss ≡ none
+  none-past o from to [] h = refl
+  none-past o from to (s ∷ ss) h =
+      let n : ℕ = min (s .len) to in
+      rw (le-ltb from n (omega arith)) (none-past (o + n) (from - n) (to - n) ss (omega arith))
+
+pub next-stands : NextStands
+next-stands rule from to ss lt = go (located from ss) refl
+  where
+    there : (l : Location) → located from ss ≡ At l → (v : Option Segment) → getElem? ss (l .index) ≡ v → next rule from to ss ≡ Option·map (pieceIn rule from to (l .earlier)) v
+    there l e none v = absurd (omega (arith, none-above ss (l .index) v, holds-inside from (l .index) ss (holds-found from ss l e .0)))
+    there l e (some s) v =
+        let f = holds-found from ss l e in
+        let z : 0 + from ≡ from = omega arith in
+        rw (ap (λ (x : Location). x .earlier) (f .1)) (rw z at (there-behind rule 0 from to (l .index) ss s lt v (f .0)))
+
+    go : (r : Located) → located from ss ≡ r → next rule from to ss ≡ nextAt rule from to ss r
+    go (At l) e = there l e (getElem? ss (l .index)) refl
+    go Behind e = none-past rule 0 from to ss (omega (arith, behind-found from ss e))

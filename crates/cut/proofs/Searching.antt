@@ -1,0 +1,61 @@
+-- The search over memory descriptors as bytes: at each turn its variable has the sum of the earlier lengths.
+-- Assumes nothing.
+use mathlib.Core.Path.{_≡_, refl, sym, ap, _∙_}
+use mathlib.Core.Bool.{cond}
+use mathlib.Core.List.{List}
+use Prim.Native.Nat.{ℕ, suc, _+_, _-_, _*_, _/_, _≤_, _<_}
+use native.Mathlib.Omega.{arith}
+use borrow.Author.Tests.{lt-ltb, le-ltb}
+use lib.Dec.{ltb}
+use lib.ListN.{length}
+use Rattle.srp.specs.Bytes.{bytes, get}
+use Rattle.srp.specs.Descriptors.{Segment, segmentsOf}
+use Rattle.cut.specs.Locating.{earlierOf, location, locatedFrom, located}
+use Rattle.cut.specs.declared.locate.Location.{Location}
+use Rattle.cut.specs.declared.locate.Located.{Located}
+use Rattle.cut.specs.declared.locate.Located.the-variants.{At, Behind}
+use Rattle.cut.proofs.Turns.{segmentFrom, segments-count, segment-in}
+use Rattle.cut.proofs.Locating.{earlier-next}
+
+-- what is left to be searched gives what the whole gives
+pub record Searching (list : List ℕ) (offset index earlier : ℕ) : Type 0 where
+  pub room : index ≤ length list / 16
+  pub sum : earlier ≡ earlierOf index (segmentsOf list)
+  pub low : earlier ≤ offset
+  pub same : locatedFrom (length list / 16 - index) index offset (segmentsOf list) ≡ located offset (segmentsOf list)
+
+pub start : (list : List ℕ) (offset : ℕ) → Searching list offset 0 0
+start list offset =
+    let all : length list / 16 - 0 ≡ length (segmentsOf list) = omega (arith, segments-count (length list / 16) list) in
+    record { room = omega arith; sum = refl; low = omega arith; same = ap (λ (n : ℕ). locatedFrom n 0 offset (segmentsOf list)) all }
+
+module _ {list : List ℕ} {offset index earlier : ℕ} (w : Searching list offset index earlier) where
+  abbrev ss : List Segment
+  ss = segmentsOf list
+
+  module _ (more : index < length list / 16) {n : ℕ} (en : n ≡ get (bytes (index * 16 + 12) 4) list) where
+    through : earlier + n ≡ earlierOf (suc index) ss
+    through = omega (arith, w .sum, en, earlier-next index ss (segmentFrom list (index * 16)) (segment-in list index more))
+
+    -- one segment, and those behind it
+    abbrev behind : Located
+    behind = locatedFrom (length list / 16 - suc index) (suc index) offset ss
+
+    seen : cond (ltb offset (earlier + n)) (At (location index ss)) behind ≡ located offset ss
+    seen =
+        let e : length list / 16 - index ≡ suc (length list / 16 - suc index) = omega arith in
+        rw through (sym (ap (λ (k : ℕ). locatedFrom k index offset ss) e)) ∙ w .same
+
+    pub here : offset < earlier + n → At (record { index = index; earlier = earlier }) ≡ located offset ss
+    here lt = rw (w .sum) (rw (lt-ltb offset (earlier + n) lt) at seen)
+
+    pub on : earlier + n ≤ offset → Searching list offset (index + 1) (earlier + n)
+    on le =
+        let e : index + 1 ≡ suc index = omega arith in
+        rw e
+        (record { room = omega arith; sum = through; low = le; same = rw (le-ltb offset (earlier + n) le) at seen })
+
+  pub end : length list / 16 ≤ index → Behind ≡ located offset ss
+  end le =
+      let e : length list / 16 - index ≡ 0 = omega arith in
+      rw e at (w .same)

@@ -1,0 +1,63 @@
+-- Document 02, job 3: the search for the segment that holds an offset, and what it finds. The laws are proofs/Locating.antt.
+use mathlib.Core.Path.{_≡_}
+use mathlib.Core.Logic.{_↔_}
+use mathlib.Core.Bool.{cond}
+use mathlib.Core.List.{List}
+use mathlib.Core.Option.{Option, none, Option·map}
+use Prim.Native.Nat.{ℕ, zero, suc, _+_, _-_, _≤_, _<_, min}
+use lib.Dec.{ltb}
+use lib.ListN.{length, take, getElem?}
+use Rattle.srp.specs.Descriptors.{Segment, sumOf}
+use Rattle.srp.specs.Cutting.{Rule, piece, next}
+use Rattle.srp.specs.declared.Piece.{Piece}
+use Rattle.cut.specs.declared.locate.Location.{Location}
+use Rattle.cut.specs.declared.locate.Located.{Located}
+use Rattle.cut.specs.declared.locate.Located.the-variants.{At, Behind}
+
+-- "the sum of the earlier lengths": of the segments before the one with this index
+abbrev pub earlierOf : ℕ → List Segment → ℕ
+earlierOf i ss = sumOf (take i ss)
+
+abbrev pub location : ℕ → List Segment → Location
+location i ss = record { index = i; earlier = earlierOf i ss }
+
+-- the first of n segments, from index i on, with which the lengths pass the offset; each sum is taken anew
+abbrev pub locatedFrom : (n i offset : ℕ) → List Segment → Located
+locatedFrom zero i offset ss = Behind
+locatedFrom (suc n) i offset ss = cond (ltb offset (earlierOf (suc i) ss)) (At (location i ss)) (locatedFrom n (suc i) offset ss)
+
+-- "the segment that holds an offset", with the sum of the earlier lengths, or that the offset is behind the last byte
+abbrev pub located : ℕ → List Segment → Located
+located offset ss = locatedFrom (length ss) 0 offset ss
+
+-- ── what is found
+
+-- the segment with this index holds the offset: the earlier lengths do not pass it, and with its own they do
+abbrev pub HoldsOffset : ℕ → ℕ → List Segment → Type 0
+HoldsOffset offset i ss = (earlierOf i ss ≤ offset) × (offset < earlierOf (suc i) ss)
+
+-- a segment found holds the offset, and with it comes the sum of the earlier lengths; no other segment holds it, of length 0 or not; none is found
+-- just where the offset is behind the last byte
+pub record Finds (offset : ℕ) (ss : List Segment) : Type 0 where
+  pub holds : (l : Location) → located offset ss ≡ At l → HoldsOffset offset (l .index) ss × (l ≡ location (l .index) ss)
+  pub only : (i : ℕ) → HoldsOffset offset i ss → located offset ss ≡ At (location i ss)
+  pub behind : (located offset ss ≡ Behind) ↔ (sumOf ss ≤ offset)
+
+abbrev pub EachFound : Type 0
+EachFound = (offset : ℕ) (ss : List Segment) → Finds offset ss
+
+-- ── the next piece stands there
+
+-- the piece at `from` of the bytes up to `to`, in a segment that `earlier` bytes come before
+abbrev pub pieceIn : Rule → (from to earlier : ℕ) → Segment → Piece
+pieceIn rule from to earlier s =
+    let within : ℕ = from - earlier in
+    piece (s .address + within) (s .handle) (rule (s .address + within) (min (s .len - within) (to - from))) from
+
+abbrev pub nextAt : Rule → (from to : ℕ) → List Segment → Located → Option Piece
+nextAt rule from to ss (At l) = Option·map (pieceIn rule from to (l .earlier)) (getElem? ss (l .index))
+nextAt rule from to ss Behind = none
+
+-- whatever the rule of its length: the next piece of a move is the one in the segment that holds its offset
+abbrev pub NextStands : Type 0
+NextStands = (rule : Rule) (from to : ℕ) (ss : List Segment) → from < to → next rule from to ss ≡ nextAt rule from to ss (located from ss)
