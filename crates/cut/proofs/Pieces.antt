@@ -5,7 +5,7 @@ use mathlib.Core.List.{List}
 use mathlib.Core.Option.{some}
 use Prim.Native.Nat.{ℕ, _+_, _-_, _*_, _/_, _%_, _^_, _≤_, _<_, min}
 use native.Mathlib.Omega.{arith}
-use lib.ListN.{length}
+use lib.ListN.{length, getElem?}
 use Rattle.srp.specs.Bytes.{bytes, get}
 use Rattle.srp.specs.Descriptors.{Segment, segmentsOf}
 use Rattle.srp.specs.Cutting.{upTo, piece, next}
@@ -18,39 +18,46 @@ use Rattle.cut.specs.declared.locate.Located.the-variants.{At, Behind}
 use Rattle.cut.proofs.Turns.{segmentFrom, segments-count, segment-in}
 use Rattle.cut.proofs.Locating.{earlier-next, holds-inside, each-found, none-past, next-stands}
 
-module _ (list : List ℕ) (most from to : ℕ) where
-  abbrev ss : List Segment
-  ss = segmentsOf list
+-- ── the segment found, as its bytes say it
 
+module _ (list : List ℕ) (from : ℕ) {l : Location} (e : located from (segmentsOf list) ≡ At l) where
+  abbrev this : Segment
+  this = segmentFrom list (l .index * 16)
+
+  holds : HoldsOffset from (l .index) (segmentsOf list)
+  holds = each-found from (segmentsOf list) .holds l e .0
+
+  sum : l .earlier ≡ earlierOf (l .index) (segmentsOf list)
+  sum = ap (λ (x : Location). x .earlier) (each-found from (segmentsOf list) .holds l e .1)
+
+  pub inside : l .index < length list / 16
+  inside = omega (arith, holds-inside from (l .index) (segmentsOf list) holds, segments-count (length list / 16) list)
+
+  read : getElem? (segmentsOf list) (l .index) ≡ some this
+  read = segment-in list (l .index) inside
+
+  pub low : l .earlier ≤ from
+  low = omega (arith, sum, holds .0)
+
+  pub short : {n : ℕ} → n ≡ get (bytes (l .index * 16 + 12) 4) list → from - l .earlier < n
+  short en = omega (arith, sum, en, holds, earlier-next (l .index) (segmentsOf list) this read)
+
+-- ── the next piece
+
+module _ (list : List ℕ) (most from to : ℕ) where
   abbrev is : Cut → Type 0
-  is o = o ≡ nextWrapped (next (upTo most) from to ss)
+  is o = o ≡ nextWrapped (next (upTo most) from to (segmentsOf list))
 
   pub empty : to ≤ from → is CutDone
-  empty h = ap nextWrapped (sym (none-past (upTo most) 0 from to ss (omega arith)))
+  empty h = ap nextWrapped (sym (none-past (upTo most) 0 from to (segmentsOf list) (omega arith)))
 
-  pub behind : located from ss ≡ Behind → is CutDone
-  behind e = ap nextWrapped (sym (none-past (upTo most) 0 from to ss (omega (arith, each-found from ss .behind .0 e))))
+  pub behind : located from (segmentsOf list) ≡ Behind → is CutDone
+  behind e = ap nextWrapped (sym (none-past (upTo most) 0 from to (segmentsOf list) (omega (arith, each-found from (segmentsOf list) .behind .0 e))))
 
-  module _ {l : Location} (e : located from ss ≡ At l) where
-    holds : HoldsOffset from (l .index) ss
-    holds = each-found from ss .holds l e .0
+  module _ {l : Location} (e : located from (segmentsOf list) ≡ At l) (lt : from < to) where
+    found : next (upTo most) from to (segmentsOf list) ≡ some (pieceIn (upTo most) from to (l .earlier) (this list from e))
+    found = next-stands (upTo most) from to (segmentsOf list) lt ∙ rw (e, read list from e)
 
-    sum : l .earlier ≡ earlierOf (l .index) ss
-    sum = ap (λ (x : Location). x .earlier) (each-found from ss .holds l e .1)
-
-    pub inside : l .index < length list / 16
-    inside = omega (arith, holds-inside from (l .index) ss holds, segments-count (length list / 16) list)
-
-    pub low : l .earlier ≤ from
-    low = omega (arith, sum, holds .0)
-
-    found : from < to → next (upTo most) from to ss ≡ some (pieceIn (upTo most) from to (l .earlier) (segmentFrom list (l .index * 16)))
-    found lt = next-stands (upTo most) from to ss lt ∙ rw (e, segment-in list (l .index) inside)
-
-    module _ {n : ℕ} (en : n ≡ get (bytes (l .index * 16 + 12) 4) list) where
-      pub short : from - l .earlier < n
-      short = omega (arith, sum, en, holds, earlier-next (l .index) ss (segmentFrom list (l .index * 16)) (segment-in list (l .index) inside))
-
-      pub here : from < to → {a h m k : ℕ} → a ≡ get (bytes (l .index * 16 + 0) 8) list → h ≡ get (bytes (l .index * 16 + 8) 4) list
-          → m ≡ min (n - (from - l .earlier)) (to - from) → k ≡ min most m → is (CutPiece (piece ((a + (from - l .earlier)) % 2 ^ 64) h k from))
-      here lt ea eh em ek = rw (ea, eh, ek, em, en) (ap nextWrapped (sym (found lt)))
+    pub here : {a h n m k : ℕ} → a ≡ get (bytes (l .index * 16 + 0) 8) list → h ≡ get (bytes (l .index * 16 + 8) 4) list → n ≡ get (bytes (l .index * 16 + 12) 4) list
+        → m ≡ min (n - (from - l .earlier)) (to - from) → k ≡ min most m → is (CutPiece (piece ((a + (from - l .earlier)) % 2 ^ 64) h k from))
+    here ea eh en em ek = rw (ea, eh, ek, em, en) (ap nextWrapped (sym found))

@@ -17,24 +17,23 @@ pub enum Located {
     Behind,
 }
 
-// Keeps the sum of the earlier lengths as it moves on, and adds each length once. The sum is not above the offset, so its 32 bits are enough until
-// the length is added that passes it.
+// Keeps the sum of the earlier lengths as it moves on, and adds each length once. It moves on only while the sum is not above the offset, so 32 bits
+// hold it.
 pub fn find_segment(list: &[u8], offset: u32) -> Located
     ensures { λ r. ⌜ r ≡ located offset (segmentsOf (now (list .entry))) ⌝ }
 {
     let count = list.len() / SEGMENT;
     let mut index: usize = 0;
-    let mut earlier: u64 = 0;
+    let mut earlier: u32 = 0;
     while index < count {
         let len = wire::read32(list, index * SEGMENT + SEGMENT_LENGTH);
-        let through = earlier + (len as u64);
-        if (offset as u64) < through {
+        if offset - earlier < len {
             return Located::At(Location {
                 index: index,
-                earlier: earlier as u32,
+                earlier: earlier,
             });
         }
-        earlier = through;
+        earlier = earlier + len;
         index = index + 1;
     }
     Located::Behind

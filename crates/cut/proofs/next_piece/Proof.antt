@@ -3,13 +3,12 @@ use borrow.Author.Needs.{needs}
 use mathlib.Core.Path.{sym, _∙_}
 use native.Mathlib.Omega.{arith}
 use Rattle.cut.proofs.Pieces.{empty, behind, inside, low, short, here}
-use borrow.Author.Needs.{needs}
 use Rattle.cut.proofs.next_piece.Statement.{statement}
 use Rattle.cut.proofs.next_piece.Tie as tie
 
 returns : tie.Need-returns
 returns c =
-    empty (c .before .before .args .list .now) (c .before .before .args .most) (c .before .before .args .from) (c .before .before .args .to) (c .if1 .taken)
+    let a = c .before .before .args in empty (a .list .now) (a .most) (a .from) (a .to) (c .if1 .taken)
 
 find-segment-requires : tie.Need-find-segment-requires
 find-segment-requires c κs =
@@ -25,35 +24,35 @@ enum-told c =
 
 returns-2 : tie.Need-returns-2
 returns-2 c =
-    behind (c .before .before .before .before .before .args .list .now) (c .before .before .before .before .before .args .most) (c .before .before .before .before .before .args .from) (c .before .before .before .before .before .args .to) (sym (c .before .before .find-segment .ensures) ∙ c .enum-told .given .1)
+    let a = c .before .before .before .before .before .args in behind (a .list .now) (a .most) (a .from) (a .to) (sym (c .before .before .find-segment .ensures) ∙ c .enum-told .given .1)
 
 mul-at : tie.Need-mul-at
 mul-at c =
-    omega (arith, inside (c .before .before .before .before .before .before .before .args .list .now) (c .before .before .before .before .before .before .before .args .most) (c .before .before .before .before .before .before .before .args .from) (c .before .before .before .before .before .before .before .args .to) (sym (c .before .before .before .before .find-segment .ensures) ∙ c .before .before .location .given .1))
+    let a = c .before .before .before .before .before .before .before .args in omega (arith, inside (a .list .now) (a .from) (sym (c .before .before .before .before .find-segment .ensures) ∙ c .before .before .location .given .1))
 
 sub-skip : tie.Need-sub-skip
 sub-skip c =
-    omega (arith, low (c .before .before .before .before .before .before .before .before .args .list .now) (c .before .before .before .before .before .before .before .before .args .most) (c .before .before .before .before .before .before .before .before .args .from) (c .before .before .before .before .before .before .before .before .args .to) (sym (c .before .before .before .before .before .find-segment .ensures) ∙ c .before .before .before .location .given .1))
+    let a = c .before .before .before .before .before .before .before .before .args in omega (arith, low (a .list .now) (a .from) (sym (c .before .before .before .before .before .find-segment .ensures) ∙ c .before .before .before .location .given .1))
 
 add-read64 : tie.Need-add-read64
 add-read64 c =
-    omega (arith, inside (c .before .before .before .before .before .before .before .before .args .list .now) (c .before .before .before .before .before .before .before .before .args .most) (c .before .before .before .before .before .before .before .before .args .from) (c .before .before .before .before .before .before .before .before .args .to) (sym (c .before .before .before .before .before .find-segment .ensures) ∙ c .before .before .before .location .given .1))
+    let a = c .before .before .before .before .before .before .before .before .args in omega (arith, inside (a .list .now) (a .from) (sym (c .before .before .before .before .before .find-segment .ensures) ∙ c .before .before .before .location .given .1))
 
 read64-requires : tie.Need-read64-requires
 read64-requires c κs =
-    omega (arith, inside (c .before .before .before .before .before .before .before .before .args .list .now) (c .before .before .before .before .before .before .before .before .args .most) (c .before .before .before .before .before .before .before .before .args .from) (c .before .before .before .before .before .before .before .before .args .to) (sym (c .before .before .before .before .before .find-segment .ensures) ∙ c .before .before .before .location .given .1))
+    let a = c .before .before .before .before .before .before .before .before .args in omega (arith, inside (a .list .now) (a .from) (sym (c .before .before .before .before .before .find-segment .ensures) ∙ c .before .before .before .location .given .1))
 
 add-read32 : tie.Need-add-read32
 add-read32 c =
-    omega (arith, inside (c .before .before .before .before .before .before .before .before .before .args .list .now) (c .before .before .before .before .before .before .before .before .before .args .most) (c .before .before .before .before .before .before .before .before .before .args .from) (c .before .before .before .before .before .before .before .before .before .args .to) (sym (c .before .before .before .before .before .before .find-segment .ensures) ∙ c .before .before .before .before .location .given .1))
+    let a = c .before .before .before .before .before .before .before .before .before .args in omega (arith, inside (a .list .now) (a .from) (sym (c .before .before .before .before .before .before .find-segment .ensures) ∙ c .before .before .before .before .location .given .1))
 
 read32-requires : tie.Need-read32-requires
 read32-requires c κs =
-    omega (arith, inside (c .before .before .before .before .before .before .before .before .before .args .list .now) (c .before .before .before .before .before .before .before .before .before .args .most) (c .before .before .before .before .before .before .before .before .before .args .from) (c .before .before .before .before .before .before .before .before .before .args .to) (sym (c .before .before .before .before .before .before .find-segment .ensures) ∙ c .before .before .before .before .location .given .1))
+    let a = c .before .before .before .before .before .before .before .before .before .args in omega (arith, inside (a .list .now) (a .from) (sym (c .before .before .before .before .before .before .find-segment .ensures) ∙ c .before .before .before .before .location .given .1))
 
 sub-in-segment : tie.Need-sub-in-segment
 sub-in-segment c =
-    omega (arith, short (c .before .before .before .before .before .before .before .before .before .before .args .list .now) (c .before .before .before .before .before .before .before .before .before .before .args .most) (c .before .before .before .before .before .before .before .before .before .before .args .from) (c .before .before .before .before .before .before .before .before .before .before .args .to) (sym (c .before .before .before .before .before .before .before .find-segment .ensures) ∙ c .before .before .before .before .before .location .given .1) (c .read32 .ensures))
+    let a = c .before .before .before .before .before .before .before .before .before .before .args in omega (arith, short (a .list .now) (a .from) (sym (c .before .before .before .before .before .before .before .find-segment .ensures) ∙ c .before .before .before .before .before .location .given .1) (c .read32 .ensures))
 
 cast-least : tie.Need-cast-least
 cast-least c =
@@ -89,15 +88,15 @@ wrapping-add-u64-requires c κs =
 
 add-read32-2 : tie.Need-add-read32-2
 add-read32-2 c =
-    omega (arith, inside (c .before .before .before .before .before .before .before .before .before .before .before .before .before .args .list .now) (c .before .before .before .before .before .before .before .before .before .before .before .before .before .args .most) (c .before .before .before .before .before .before .before .before .before .before .before .before .before .args .from) (c .before .before .before .before .before .before .before .before .before .before .before .before .before .args .to) (sym (c .before .before .before .before .before .before .before .before .before .before .find-segment .ensures) ∙ c .before .before .before .before .before .before .before .before .location .given .1))
+    let a = c .before .before .before .before .before .before .before .before .before .before .before .before .before .args in omega (arith, inside (a .list .now) (a .from) (sym (c .before .before .before .before .before .before .before .before .before .before .find-segment .ensures) ∙ c .before .before .before .before .before .before .before .before .location .given .1))
 
 read32-requires-2 : tie.Need-read32-requires-2
 read32-requires-2 c κs =
-    omega (arith, inside (c .before .before .before .before .before .before .before .before .before .before .before .before .before .args .list .now) (c .before .before .before .before .before .before .before .before .before .before .before .before .before .args .most) (c .before .before .before .before .before .before .before .before .before .before .before .before .before .args .from) (c .before .before .before .before .before .before .before .before .before .before .before .before .before .args .to) (sym (c .before .before .before .before .before .before .before .before .before .before .find-segment .ensures) ∙ c .before .before .before .before .before .before .before .before .location .given .1))
+    let a = c .before .before .before .before .before .before .before .before .before .before .before .before .before .args in omega (arith, inside (a .list .now) (a .from) (sym (c .before .before .before .before .before .before .before .before .before .before .find-segment .ensures) ∙ c .before .before .before .before .before .before .before .before .location .given .1))
 
 returns-3 : tie.Need-returns-3
 returns-3 c =
-    rw (c .before .wrapping-add-u64 .ensures) (here (c .before .before .before .before .before .before .before .before .before .before .before .before .before .before .args .list .now) (c .before .before .before .before .before .before .before .before .before .before .before .before .before .before .args .most) (c .before .before .before .before .before .before .before .before .before .before .before .before .before .before .args .from) (c .before .before .before .before .before .before .before .before .before .before .before .before .before .before .args .to) (sym (c .before .before .before .before .before .before .before .before .before .before .before .find-segment .ensures) ∙ c .before .before .before .before .before .before .before .before .before .location .given .1) (c .before .before .before .before .read32 .ensures) (omega arith) (c .before .before .before .before .before .read64 .ensures) (c .read322 .ensures) (c .before .before .before .least .ensures) (c .before .before .least2 .ensures))
+    let a = c .before .before .before .before .before .before .before .before .before .before .before .before .before .before .args in rw (c .before .wrapping-add-u64 .ensures) (here (a .list .now) (a .most) (a .from) (a .to) (sym (c .before .before .before .before .before .before .before .before .before .before .before .find-segment .ensures) ∙ c .before .before .before .before .before .before .before .before .before .location .given .1) (omega arith) (c .before .before .before .before .before .read64 .ensures) (c .read322 .ensures) (c .before .before .before .before .read32 .ensures) (c .before .before .before .least .ensures) (c .before .before .least2 .ensures))
 
 pub next-piece-spec : {M : Type 1} → statement M
 next-piece-spec =
