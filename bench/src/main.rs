@@ -12,6 +12,7 @@ mod plain;
 mod port;
 #[cfg(test)]
 mod rows;
+mod search;
 mod sides;
 mod stateless;
 mod timing;

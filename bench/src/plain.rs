@@ -9,6 +9,7 @@ use std::slice;
 use srp_target_sys::{self as sys, Answer, Own, Store, Words, ANSWER_WORDS};
 
 use crate::port::{Direction, Login, Port, Refusal, Refused, Settings, Taken};
+use crate::search::Search;
 use crate::{stateless, trace};
 
 /// Writes the words of an answer, the others 0.
@@ -102,7 +103,7 @@ pub unsafe extern "C" fn plain_move(port: *mut Words, tag: u64, direction: u32, 
 }
 
 #[inline(never)]
-pub unsafe extern "C" fn plain_step(
+pub unsafe extern "C" fn plain_step<S: Search>(
     port: *mut Words,
     _store: *const Store,
     tag: u64,
@@ -111,7 +112,7 @@ pub unsafe extern "C" fn plain_step(
 ) -> u32 {
     let port = unsafe { &mut *port.cast::<Port>() };
     let operation = if direction == 0 { 1 } else { 2 };
-    let outcome = port.step(tag, direction_of(direction));
+    let outcome = port.step::<S>(tag, direction_of(direction));
     let words = match &outcome {
         Ok(Some(p)) => [1, operation, p.handle.into(), p.address, p.length.into(), p.offset.into()],
         _ => [0; 6],
@@ -198,7 +199,7 @@ pub unsafe extern "C" fn plain_look(
 }
 
 #[inline(never)]
-pub unsafe extern "C" fn plain_cut(
+pub unsafe extern "C" fn plain_cut<S: Search>(
     list: *const u8,
     list_len: usize,
     m: u32,
@@ -208,7 +209,7 @@ pub unsafe extern "C" fn plain_cut(
     buf_len: usize,
 ) -> u32 {
     let (list, buf) = unsafe { (slice::from_raw_parts(list, list_len), slice::from_raw_parts_mut(buf, buf_len)) };
-    stateless::cut(list, m, r, handed, buf).err().unwrap_or(0)
+    stateless::cut::<S>(list, m, r, handed, buf).err().unwrap_or(0)
 }
 
 #[inline(never)]

@@ -14,6 +14,7 @@ pub use refusal::{Refusal, Refused};
 pub use take::Taken;
 pub use transfer::{Direction, Piece};
 
+use crate::search::Search;
 use transfer::{SegmentList, Transfer};
 
 /// The most buffers, and so the most commands open at a time.
@@ -90,7 +91,7 @@ impl Port {
     }
 
     /// The next piece of a direction's current move, or None: done.
-    pub fn step(&mut self, tag: u64, direction: Direction) -> Result<Option<Piece>, Refusal> {
+    pub fn step<S: Search>(&mut self, tag: u64, direction: Direction) -> Result<Option<Piece>, Refusal> {
         let channel = self.channel.as_mut().ok_or(Refusal::Closed)?;
         let slot = channel.slot(tag)?;
         let command = channel.commands[slot].as_mut().ok_or(Refusal::TagNotOpen)?;
@@ -98,7 +99,7 @@ impl Port {
             return Err(Refusal::Unplanned);
         }
         let list = &self.lists[slot][direction as usize];
-        Ok(command.transfers[direction as usize].next_piece(list, channel.max_piece))
+        Ok(command.transfers[direction as usize].next_piece::<S>(list, channel.max_piece))
     }
 
     /// Answers a command and ends it; gives the length of the SRP_RSP.

@@ -4,6 +4,7 @@ use srp_target_sys::{Answer, Own, Settings, Store, Words};
 
 use crate::plain;
 use crate::port::Port;
+use crate::search::{Plain, Search};
 
 pub type Login =
     unsafe extern "C" fn(*mut Words, *const Settings, *const Own, *const u8, usize, *mut u8, usize, *mut Answer) -> u32;
@@ -63,22 +64,26 @@ fn plain_port() -> *mut Words {
     port.cast()
 }
 
-pub static PLAIN: Side = Side {
-    name: "plain",
-    new_port: plain_port,
-    login: plain::plain_login,
-    take: plain::plain_take,
-    plan: plain::plain_plan,
-    name_move: plain::plain_move,
-    step: plain::plain_step,
-    finish: plain::plain_finish,
-    add: plain::plain_add,
-    withdraw: plain::plain_withdraw,
-    grant: plain::plain_grant,
-    close: plain::plain_close,
-    counters: plain::plain_counters,
-    list: plain::plain_list,
-    look: plain::plain_look,
-    cut: plain::plain_cut,
-    trace: plain::plain_trace,
-};
+const fn plain_side<S: Search>(name: &'static str) -> Side {
+    Side {
+        name,
+        new_port: plain_port,
+        login: plain::plain_login,
+        take: plain::plain_take,
+        plan: plain::plain_plan,
+        name_move: plain::plain_move,
+        step: plain::plain_step::<S>,
+        finish: plain::plain_finish,
+        add: plain::plain_add,
+        withdraw: plain::plain_withdraw,
+        grant: plain::plain_grant,
+        close: plain::plain_close,
+        counters: plain::plain_counters,
+        list: plain::plain_list,
+        look: plain::plain_look,
+        cut: plain::plain_cut::<S>,
+        trace: plain::plain_trace,
+    }
+}
+
+pub static PLAIN: Side = plain_side::<Plain>("plain");

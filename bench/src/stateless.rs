@@ -1,5 +1,10 @@
 //! Look and the cut in plain Rust, written for speed, with the answers of include/srp_target.h.
 
+use crate::search::Search;
+
+/// A memory descriptor.
+pub type Segment = [u8; 16];
+
 /// Err is the number of the refusal.
 #[inline(always)]
 pub fn look(msg: &[u8], agreed: u32, formats: u32, buf: &mut [u8]) -> Result<(), u32> {
@@ -66,7 +71,7 @@ fn table(format: u8, count: u8, msg: &[u8], at: usize) -> Option<&[u8; 16]> {
 
 /// As look.
 #[inline(always)]
-pub fn cut(list: &[u8], m: u32, r: u32, handed: u32, buf: &mut [u8]) -> Result<(), u32> {
+pub fn cut<S: Search>(list: &[u8], m: u32, r: u32, handed: u32, buf: &mut [u8]) -> Result<(), u32> {
     let [piece, offset, ..] = buf.as_chunks_mut::<16>().0 else {
         return Err(1);
     };
@@ -86,7 +91,7 @@ pub fn cut(list: &[u8], m: u32, r: u32, handed: u32, buf: &mut [u8]) -> Result<(
     }
     (*piece, *offset) = ([0; 16], [0; 16]);
     if from < end {
-        *piece = piece_at(segments, from, (end - from).min(m as u64));
+        *piece = piece_at::<S>(segments, from, (end - from).min(m as u64));
         *offset.first_chunk_mut().unwrap() = handed.to_be_bytes();
     }
     Ok(())
@@ -94,7 +99,7 @@ pub fn cut(list: &[u8], m: u32, r: u32, handed: u32, buf: &mut [u8]) -> Result<(
 
 /// B; refused where a segment ends past memory or B has more than 32 bits.
 #[inline(always)]
-fn sum(segments: &[[u8; 16]]) -> Result<u64, u32> {
+fn sum(segments: &[Segment]) -> Result<u64, u32> {
     let (mut b, mut past) = (0, false);
     for segment in segments {
         let length = length_of(segment);
@@ -109,34 +114,28 @@ fn sum(segments: &[[u8; 16]]) -> Result<u64, u32> {
 
 /// The piece from an offset below B on, up to `most` bytes long.
 #[inline(always)]
-fn piece_at(segments: &[[u8; 16]], from: u64, most: u64) -> [u8; 16] {
+fn piece_at<S: Search>(segments: &[Segment], from: u64, most: u64) -> Segment {
     let mut piece = [0; 16];
-    let mut within = from; // bytes of the segment at hand that were handed out
-    for segment in segments {
-        let length = length_of(segment);
-        if within < length {
-            let handle_and_length = tail_of(segment) & !0xffff_ffff | (length - within).min(most);
-            *piece.first_chunk_mut().unwrap() = (address_of(segment) + within).to_be_bytes();
-            *piece.last_chunk_mut().unwrap() = handle_and_length.to_be_bytes();
-            break;
-        }
-        within -= length;
+    if let Some((segment, within)) = S::in_cut(segments, from) {
+        let handle_and_length = tail_of(segment) & !0xffff_ffff | (length_of(segment) - within).min(most);
+        *piece.first_chunk_mut().unwrap() = (address_of(segment) + within).to_be_bytes();
+        *piece.last_chunk_mut().unwrap() = handle_and_length.to_be_bytes();
     }
     piece
 }
 
 #[inline(always)]
-fn address_of(segment: &[u8; 16]) -> u64 {
+fn address_of(segment: &Segment) -> u64 {
     u64::from_be_bytes(*segment.first_chunk().unwrap())
 }
 
 /// Handle and length.
 #[inline(always)]
-fn tail_of(segment: &[u8; 16]) -> u64 {
+fn tail_of(segment: &Segment) -> u64 {
     u64::from_be_bytes(*segment.last_chunk().unwrap())
 }
 
 #[inline(always)]
-fn length_of(segment: &[u8; 16]) -> u64 {
+pub fn length_of(segment: &Segment) -> u64 {
     tail_of(segment) & 0xffff_ffff
 }

@@ -3,6 +3,7 @@
 use super::message::Residual;
 use super::request::{u32_at, u64_at};
 use super::Refusal;
+use crate::search::Search;
 
 #[derive(Clone, Copy)]
 pub enum Direction {
@@ -83,6 +84,10 @@ impl SegmentList {
         }
         (0, 0)
     }
+
+    fn lengths(&self) -> impl Iterator<Item = u32> + Clone + '_ {
+        self.0.iter().map(|segment| segment.length)
+    }
 }
 
 impl Transfer {
@@ -111,10 +116,13 @@ impl Transfer {
     }
 
     /// The next piece of the current move, or None: done.
-    pub fn next_piece(&mut self, list: &SegmentList, max_piece: u32) -> Option<Piece> {
+    pub fn next_piece<S: Search>(&mut self, list: &SegmentList, max_piece: u32) -> Option<Piece> {
         let left = self.end - self.at;
         if left == 0 {
             return None;
+        }
+        if let Some(place) = S::in_step(list.lengths(), self.at) {
+            (self.segment, self.within) = place;
         }
         // Bytes are left, so a segment ahead has some; those of length 0 are skipped.
         while list.0[self.segment].length == self.within {
@@ -145,6 +153,7 @@ impl Transfer {
 #[cfg(test)]
 mod tests {
     use super::*;
+    use crate::search::Plain;
 
     /// A transfer of segments with these lengths, at 4096, 8192 and so on, with a move of all that is required.
     fn transfer(lengths: &[u32], required: u32) -> (SegmentList, Transfer) {
@@ -164,7 +173,8 @@ mod tests {
     #[test]
     fn segments_of_length_zero_in_a_row_are_skipped() {
         let (list, mut transfer) = transfer(&[0, 0, 600, 0, 0, 100, 0], 700);
-        let mut next = || transfer.next_piece(&list, 512).map(|piece| (piece.address, piece.length, piece.offset));
+        let mut next =
+            || transfer.next_piece::<Plain>(&list, 512).map(|piece| (piece.address, piece.length, piece.offset));
         assert_eq!(next(), Some((12288, 512, 0)));
         assert_eq!(next(), Some((12288 + 512, 88, 512)));
         assert_eq!(next(), Some((24576, 100, 600)));
@@ -176,7 +186,7 @@ mod tests {
     fn moves_from_inside_a_segment() {
         let (list, mut transfer) = transfer(&[0, 600, 0, 100], 650);
         assert_eq!(transfer.name_move(&list, 0, 1), Err(Refusal::Unfinished));
-        while transfer.next_piece(&list, 512).is_some() {}
+        while transfer.next_piece::<Plain>(&list, 512).is_some() {}
         assert_eq!(transfer.name_move(&list, 651, 0), Err(Refusal::Offset));
         for (offset, count, expected) in [
             (599, u32::MAX, vec![(8192 + 599, 1, 599), (16384, 50, 600)]),
@@ -185,7 +195,7 @@ mod tests {
             (650, 9, vec![]),
         ] {
             assert_eq!(transfer.name_move(&list, offset, count), Ok(()));
-            let pieces = std::iter::from_fn(|| transfer.next_piece(&list, 512));
+            let pieces = std::iter::from_fn(|| transfer.next_piece::<Plain>(&list, 512));
             let pieces: Vec<_> = pieces.map(|piece| (piece.address, piece.length, piece.offset)).collect();
             assert_eq!(pieces, expected, "{count} bytes from {offset} on");
         }
@@ -204,7 +214,7 @@ mod tests {
         ] {
             let (list, mut transfer) = transfer(&[700], required);
             for _ in 0..pieces {
-                transfer.next_piece(&list, 512).expect("a piece");
+                transfer.next_piece::<Plain>(&list, 512).expect("a piece");
             }
             assert_eq!(transfer.residual(), expected, "required {required}, pieces {pieces}");
         }
