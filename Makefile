@@ -21,7 +21,7 @@ lib:
 	@rt staticlib exports
 
 # time the calls in C beside a port in plain Rust, then, with valgrind, count the instructions of both and print one
-# table: make bench [CASE="step, last"], cases by a part of their name
+# table, and one of the last byte beside the yardstick: make bench [CASE="step, last"], cases by a part of their name
 bench: lib
 	@cd bench && cargo run --offline --locked --release --quiet -- --save ../target/bench.times $(CASE)
 	@if command -v valgrind >/dev/null; then echo; bench/callgrind --times target/bench.times $(CASE); fi

@@ -1,12 +1,14 @@
 //! The cases: what is timed, and the calls before and after it. Each case starts from the port that the login gave and
 //! leaves its counters as they were.
 
-use crate::batch::{login_request, Batch, Message, MAX_PIECE};
+use crate::batch::{login_request, Batch, Message};
+use crate::library::LIBRARY;
+use crate::series::{Part, Series};
+use crate::sides::{Side, PLAIN, YARDSTICK};
 
 pub struct Case {
     pub name: String,
-    /// The line of cases that differ in the number of segments alone, and that number.
-    pub series: Option<(String, u32)>,
+    pub series: Option<Series>,
     /// How many ports take turns; more than one where only one call of a kind can be made on a port.
     pub ports: usize,
     pub before: Vec<Batch>,
@@ -18,7 +20,6 @@ const IN: u32 = 1;
 
 /// Bytes of a segment: two pieces.
 const SEGMENT: u32 = 700;
-const PIECES: u32 = SEGMENT.div_ceil(MAX_PIECE);
 
 const TURNS: usize = 8;
 
@@ -182,20 +183,19 @@ fn far_move_case() -> Case {
     case("move, last byte of 32 segments, 16 commands open", before, timed, vec![finish_all(tags())])
 }
 
-fn counted(segments: u32) -> String {
-    format!("{segments} segment{}", if segments == 1 { "" } else { "s" })
-}
-
-fn step_case(which: &str, count: u32) -> Case {
-    let step = || Batch::Step { tags: tags(), direction: IN };
-    let required = SEGMENT * count;
-    let mut before = vec![take_all(|tag| all_copied(count, tag)), Batch::Plan { tags: tags(), required }];
-    before.push(Batch::Move { tags: tags(), direction: IN, offset: 0, count: required });
-    let handed = if which == "first" { 0 } else { PIECES * count - 1 };
-    before.extend((0..handed).map(|_| step()));
-    let series = format!("step, {which} piece");
-    let name = format!("{series} of {}, 16 commands open", counted(count));
-    Case { series: Some((series, count)), ..case(&name, before, step(), vec![finish_all(tags())]) }
+/// A step of a move that names all bytes from the part on.
+fn step_case(part: Part, segments: u32) -> Case {
+    let required = SEGMENT * segments;
+    let offset = part.offset(required);
+    let before = vec![
+        take_all(|tag| all_copied(segments, tag)),
+        Batch::Plan { tags: tags(), required },
+        Batch::Move { tags: tags(), direction: IN, offset, count: required - offset },
+    ];
+    let timed = Batch::Step { tags: tags(), direction: IN };
+    let series = Series { call: "step", part, segments };
+    let name = format!("{series}, 16 commands open");
+    Case { series: Some(series), ..case(&name, before, timed, vec![finish_all(tags())]) }
 }
 
 fn finish_case(name: &str, tag: u64, status: u8, sense: Vec<u8>) -> Case {
@@ -213,13 +213,12 @@ fn look_case(name: &str, message: Message) -> Case {
     case(&format!("look, {name}"), vec![], Batch::Look(vec![message.bytes; REPEATED]), vec![])
 }
 
-fn cut_case(which: &str, count: u32) -> Case {
+fn cut_case(part: Part, count: u32) -> Case {
     let required = SEGMENT * count;
-    let handed = if which == "first" { 0 } else { required - (SEGMENT - MAX_PIECE) };
-    let timed = Batch::Cut { lists: vec![segments(count); REPEATED], required, handed };
-    let series = format!("cut, {which} piece");
-    let name = format!("{series} of {}", counted(count));
-    Case { series: Some((series, count)), ..case(&name, vec![], timed, vec![]) }
+    let lists = vec![segments(count); REPEATED];
+    let timed = Batch::Cut { lists, required, handed: part.offset(required) };
+    let series = Series { call: "cut", part, segments: count };
+    Case { series: Some(series), ..case(&series.to_string(), vec![], timed, vec![]) }
 }
 
 /// Towards the port or from it.
@@ -228,15 +227,24 @@ fn trace_case(name: &str, message: Message, direction: u32) -> Case {
     case(&format!("trace, {name}"), vec![], timed, vec![])
 }
 
-/// A case for each number of segments, of the first and of the last piece.
-fn by_segments(of: fn(&str, u32) -> Case) -> impl Iterator<Item = Case> {
-    ["first", "last"].into_iter().flat_map(move |which| [1, 8, 16, 32].map(|count| of(which, count)))
+/// A case for each number of segments, of the first piece and of the last byte.
+fn by_segments(of: fn(Part, u32) -> Case) -> impl Iterator<Item = Case> {
+    [Part::FirstPiece, Part::LastByte].into_iter().flat_map(move |part| [1, 8, 16, 32].map(|count| of(part, count)))
 }
 
 impl Case {
     /// All its batches, in order.
     pub fn batches(&self) -> Vec<&Batch> {
         self.before.iter().chain([&self.timed]).chain(&self.after).collect()
+    }
+
+    /// The sides that make it: the library, plain Rust and, for the last byte, the yardstick.
+    pub fn sides(&self) -> Vec<&'static Side> {
+        let mut sides = vec![&LIBRARY, &PLAIN];
+        if self.series.is_some_and(|series| series.part == Part::LastByte) {
+            sides.push(&YARDSTICK);
+        }
+        sides
     }
 }
 

@@ -1,4 +1,4 @@
-//! Whether both sides do the same in a case, call by call.
+//! Whether all sides do the same in a case, call by call.
 
 use srp_target_sys::{Answer, MESSAGE_BYTES, RECORD_WORDS};
 
@@ -39,13 +39,17 @@ fn once(side: &Side, case: &Case) -> Vec<Seen> {
     seen
 }
 
-/// Panics unless both sides return, answer and write the same in every call, and no call is refused.
-pub fn compare(library: &Side, plain: &Side, case: &Case) {
-    let (library, plain) = (once(library, case), once(plain, case));
-    assert_eq!(library.len(), plain.len());
-    for (call, (library, plain)) in library.iter().zip(&plain).enumerate() {
-        assert_eq!(library, plain, "{}: the two sides differ in call {call}", case.name);
-        let refused = matches!(library, Seen::Call { returned: 1.., .. });
-        assert!(!refused, "{}: call {call} is refused", case.name);
+/// Panics unless all sides of a case return, answer and write the same in every call, and no call is refused.
+pub fn compare(case: &Case) {
+    let sides = case.sides();
+    let library = once(sides[0], case);
+    for side in &sides[1..] {
+        let other = once(side, case);
+        assert_eq!(library.len(), other.len());
+        for (call, (library, other)) in library.iter().zip(&other).enumerate() {
+            assert_eq!(library, other, "{}: library and {} differ in call {call}", case.name, side.name);
+            let refused = matches!(library, Seen::Call { returned: 1.., .. });
+            assert!(!refused, "{}: call {call} is refused", case.name);
+        }
     }
 }

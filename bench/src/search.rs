@@ -1,4 +1,5 @@
-//! How the segment that holds a byte is found: a parameter of the cut and of step.
+//! How the segment that holds a byte is found: a parameter of the cut and of step, so that the yardstick differs from
+//! the plain port in the search alone.
 
 use crate::stateless::{length_of, Segment};
 

@@ -1,10 +1,12 @@
-//! The two sides that are compared: the library and the plain Rust port, behind the same functions.
+//! The sides that are compared, behind the same functions: the library, the plain Rust port, and this port with the
+//! yardstick's search.
 
 use srp_target_sys::{Answer, Own, Settings, Store, Words};
 
 use crate::plain;
 use crate::port::Port;
 use crate::search::{Plain, Search};
+use crate::yardstick::Yardstick;
 
 pub type Login =
     unsafe extern "C" fn(*mut Words, *const Settings, *const Own, *const u8, usize, *mut u8, usize, *mut Answer) -> u32;
@@ -87,3 +89,5 @@ const fn plain_side<S: Search>(name: &'static str) -> Side {
 }
 
 pub static PLAIN: Side = plain_side::<Plain>("plain");
+
+pub static YARDSTICK: Side = plain_side::<Yardstick>("yardstick");

@@ -10,12 +10,8 @@ use crate::sides::Side;
 const SWEEPS: u32 = 12;
 const TURN: Duration = Duration::from_millis(100);
 
-/// Nanoseconds a call.
-#[derive(Clone, Copy)]
-pub struct Times {
-    pub library: f64,
-    pub plain: f64,
-}
+/// Nanoseconds a call, for each side of a case.
+pub type Times = Vec<f64>;
 
 /// A case set up on one side.
 struct Round<'a> {
@@ -68,25 +64,27 @@ fn clock_time() -> f64 {
 }
 
 /// The smallest times of each case, a call, without the clock's own.
-pub fn time(library: &Side, plain: &Side, cases: &[Case]) -> Vec<Times> {
+pub fn time(cases: &[Case]) -> Vec<Times> {
     let clock = clock_time();
-    let mut rounds: Vec<_> = cases.iter().map(|case| (Round::new(library, case), Round::new(plain, case))).collect();
-    let mut best = vec![Times { library: f64::MAX, plain: f64::MAX }; cases.len()];
+    let of_case = |case| Case::sides(case).into_iter().map(|side| Round::new(side, case)).collect();
+    let mut rounds: Vec<Vec<Round>> = cases.iter().map(of_case).collect();
+    let mut best: Vec<Times> = rounds.iter().map(|sides| vec![f64::MAX; sides.len()]).collect();
     for _ in 0..SWEEPS {
-        for ((library, plain), best) in rounds.iter_mut().zip(&mut best) {
+        for (sides, best) in rounds.iter_mut().zip(&mut best) {
             let start = Instant::now();
             while start.elapsed() < TURN {
-                best.library = best.library.min((library.run() - clock) / library.calls());
-                best.plain = best.plain.min((plain.run() - clock) / plain.calls());
+                for (round, best) in sides.iter_mut().zip(best.iter_mut()) {
+                    *best = best.min((round.run() - clock) / round.calls());
+                }
             }
         }
     }
     best
 }
 
-/// Makes each case's calls once on each side; prints for each the case, the side and the number of calls measured.
-pub fn count(sides: &[&Side], case: &Case) {
-    for side in sides {
+/// Makes a case's calls once on each side; prints for each the case, the side and the number of calls measured.
+pub fn count(case: &Case) {
+    for side in case.sides() {
         let mut round = Round::new(side, case);
         round.run();
         println!("{}\t{}\t{}", case.name, side.name, round.calls());
