@@ -12,7 +12,7 @@ use lib.ListN.{length, take, getElem?}
 use Rattle.srp.specs.Descriptors.{Segment, sumOf}
 use Rattle.srp.specs.Cutting.{Rule, piece, nextFrom, next}
 use Rattle.srp.proofs.CutLaws.{none-above}
-use Rattle.cut.specs.Locating.{earlierOf, location, locatedFrom, located, HoldsOffset, EachFound, pieceIn, nextAt, NextStands}
+use Rattle.cut.specs.Locating.{earlierOf, lengthAt, location, locatedFrom, located, HoldsOffset, EachFound, pieceIn, nextAt, NextStands}
 use Rattle.cut.specs.declared.locate.Location.{Location}
 use Rattle.cut.specs.declared.locate.Located.{Located}
 use Rattle.cut.specs.declared.locate.Located.the-variants.{At, Behind}
@@ -20,10 +20,14 @@ use Rattle.cut.specs.declared.locate.Located.the-variants.{At, Behind}
 -- ── the sums of the earlier lengths
 
 -- the next one is a segment's length more
-pub earlier-next : (i : ℕ) (ss : List Segment) (s : Segment) → getElem? ss i ≡ some s → earlierOf (suc i) ss ≡ earlierOf i ss + s .len
-earlier-next i [] s e = absurd (Option·none-ne-some s e)
-earlier-next zero (t ∷ ss) s e = rw (Option·some-injective t s e) (omega arith)
-earlier-next (suc i) (t ∷ ss) s e = rw (earlier-next i ss s e) (omega arith)
+pub earlier-next : (i : ℕ) (ss : List Segment) → earlierOf (suc i) ss ≡ earlierOf i ss + lengthAt i ss
+earlier-next zero [] = refl
+earlier-next (suc i) [] = refl
+earlier-next zero (s ∷ ss) = omega arith
+earlier-next (suc i) (s ∷ ss) = omega (arith, earlier-next i ss)
+
+pub length-at : (i : ℕ) (ss : List Segment) (s : Segment) → getElem? ss i ≡ some s → lengthAt i ss ≡ s .len
+length-at i ss s e = rw (lengthAt, e)
 
 -- none falls
 earlier-rises : (i j : ℕ) (ss : List Segment) → i ≤ j → earlierOf i ss ≤ earlierOf j ss
@@ -54,7 +58,7 @@ not-later : (offset i j : ℕ) (ss : List Segment) → HoldsOffset offset i ss �
 not-later offset i j ss h k = go (ltb i j) refl
   where
     go : (b : Bool) → ltb i j ≡ b → j ≤ i
-    go true e = omega (arith, h .1, k .0, earlier-rises (suc i) j ss (omega (arith, ltb-true i j e)))
+    go true e = omega (arith, h .1, k .0, earlier-next i ss, earlier-rises (suc i) j ss (omega (arith, ltb-true i j e)))
     go false e = ltb-false i j e
 
 -- ── the search, from index i on
@@ -62,25 +66,25 @@ not-later offset i j ss h k = go (ltb i j) refl
 module _ (offset : ℕ) (ss : List Segment) where
   found-from : (n i : ℕ) (l : Location) → earlierOf i ss ≤ offset → locatedFrom n i offset ss ≡ At l → HoldsOffset offset (l .index) ss × (l ≡ location (l .index) ss)
   found-from zero i l h e = let z : _≡_ {A = ℕ} 0 1 = cc in absurd (omega arith)
-  found-from (suc n) i l h e = go (ltb offset (earlierOf (suc i) ss)) refl e (λ h′ e′. found-from n (suc i) l h′ e′)
+  found-from (suc n) i l h e = go (ltb offset (earlierOf i ss + lengthAt i ss)) refl e (λ h′ e′. found-from n (suc i) l h′ e′)
     where
-      go : (b : Bool) → ltb offset (earlierOf (suc i) ss) ≡ b → cond b (At (location i ss)) (locatedFrom n (suc i) offset ss) ≡ At l
+      go : (b : Bool) → ltb offset (earlierOf i ss + lengthAt i ss) ≡ b → cond b (At (location i ss)) (locatedFrom n (suc i) offset ss) ≡ At l
           → (earlierOf (suc i) ss ≤ offset → locatedFrom n (suc i) offset ss ≡ At l → HoldsOffset offset (l .index) ss × (l ≡ location (l .index) ss))
           → HoldsOffset offset (l .index) ss × (l ≡ location (l .index) ss)
       go true t e′ ih =
           let q : location i ss ≡ l = cc in
-          subst (λ (x : Location). HoldsOffset offset (x .index) ss × (x ≡ location (x .index) ss)) q ((h, ltb-true offset (earlierOf (suc i) ss) t), refl)
-      go false t e′ ih = ih (ltb-false offset (earlierOf (suc i) ss) t) e′
+          subst (λ (x : Location). HoldsOffset offset (x .index) ss × (x ≡ location (x .index) ss)) q ((h, ltb-true offset (earlierOf i ss + lengthAt i ss) t), refl)
+      go false t e′ ih = ih (omega (arith, earlier-next i ss, ltb-false offset (earlierOf i ss + lengthAt i ss) t)) e′
 
   behind-from : (n i k : ℕ) → n + i ≡ k → earlierOf i ss ≤ offset → locatedFrom n i offset ss ≡ Behind → earlierOf k ss ≤ offset
   behind-from zero i k s h e = let q : i ≡ k = omega arith in rw q at h
-  behind-from (suc n) i k s h e = go (ltb offset (earlierOf (suc i) ss)) refl e (λ h′ e′. behind-from n (suc i) k (omega arith) h′ e′)
+  behind-from (suc n) i k s h e = go (ltb offset (earlierOf i ss + lengthAt i ss)) refl e (λ h′ e′. behind-from n (suc i) k (omega arith) h′ e′)
     where
-      go : (b : Bool) → ltb offset (earlierOf (suc i) ss) ≡ b → cond b (At (location i ss)) (locatedFrom n (suc i) offset ss) ≡ Behind
+      go : (b : Bool) → ltb offset (earlierOf i ss + lengthAt i ss) ≡ b → cond b (At (location i ss)) (locatedFrom n (suc i) offset ss) ≡ Behind
           → (earlierOf (suc i) ss ≤ offset → locatedFrom n (suc i) offset ss ≡ Behind → earlierOf k ss ≤ offset)
           → earlierOf k ss ≤ offset
       go true t e′ ih = let z : _≡_ {A = ℕ} 0 1 = cc in absurd (omega arith)
-      go false t e′ ih = ih (ltb-false offset (earlierOf (suc i) ss) t) e′
+      go false t e′ ih = ih (omega (arith, earlier-next i ss, ltb-false offset (earlierOf i ss + lengthAt i ss) t)) e′
 
   holds-found : (l : Location) → located offset ss ≡ At l → HoldsOffset offset (l .index) ss × (l ≡ location (l .index) ss)
   holds-found l e = found-from (length ss) 0 l (omega arith) e
@@ -96,13 +100,13 @@ module _ (offset : ℕ) (ss : List Segment) where
           let f = holds-found l e in
           let same : l .index ≡ i = omega (arith, not-later offset i (l .index) ss h (f .0), not-later offset (l .index) i ss (f .0) h) in
           e ∙ ap At (f .1 ∙ ap (λ (k : ℕ). location k ss) same)
-      go Behind e = absurd (omega (arith, h .1, behind-found e, earlier-below (suc i) ss))
+      go Behind e = absurd (omega (arith, h .1, behind-found e, earlier-next i ss, earlier-below (suc i) ss))
 
   none-found : sumOf ss ≤ offset → located offset ss ≡ Behind
   none-found h = go (located offset ss) refl
     where
       go : (r : Located) → located offset ss ≡ r → located offset ss ≡ Behind
-      go (At l) e = absurd (omega (arith, h, holds-found l e .0 .1, earlier-below (suc (l .index)) ss))
+      go (At l) e = absurd (omega (arith, h, holds-found l e .0 .1, earlier-next (l .index) ss, earlier-below (suc (l .index)) ss))
       go Behind e = e
 
 pub each-found : EachFound
@@ -139,7 +143,7 @@ module _ (rule : Rule) where
       let n : ℕ = t .len in
       let le : n ≤ from = omega (arith, h .0) in
       let at-most : earlierOf i ss ≤ from - n = omega (arith, h .0) in
-      let above : from - n < earlierOf (suc i) ss = omega (arith, h .1) in
+      let above : from - n < earlierOf i ss + lengthAt i ss = omega (arith, h .1) in
       let behind = there-behind (o + n) (from - n) (to - n) i ss s (omega arith) e (at-most, above) in
       rw (further-whole from to n le lt, le-ltb from n le)
       (rw (further-within from to n le (earlierOf i ss), further-left from to n le lt, further-offset from to n le o) at behind)

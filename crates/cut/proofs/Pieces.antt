@@ -16,7 +16,7 @@ use Rattle.cut.specs.Locating.{earlierOf, located, HoldsOffset, pieceIn}
 use Rattle.cut.specs.declared.locate.Location.{Location}
 use Rattle.cut.specs.declared.locate.Located.the-variants.{At, Behind}
 use Rattle.cut.proofs.Turns.{segmentFrom, segments-count, segment-in}
-use Rattle.cut.proofs.Locating.{earlier-next, holds-inside, each-found, none-past, next-stands}
+use Rattle.cut.proofs.Locating.{length-at, holds-inside, each-found, none-past, next-stands}
 
 -- ── the segment found, as its bytes say it
 
@@ -39,8 +39,11 @@ module _ (list : List ℕ) (from : ℕ) {l : Location} (e : located from (segmen
   pub low : l .earlier ≤ from
   low = omega (arith, sum, holds .0)
 
-  pub short : {n : ℕ} → n ≡ get (bytes (l .index * 16 + 12) 4) list → from - l .earlier < n
-  short en = omega (arith, sum, en, holds, earlier-next (l .index) (segmentsOf list) this read)
+  pub long : l .len ≡ get (bytes (l .index * 16 + 12) 4) list
+  long = ap (λ (x : Location). x .len) (each-found from (segmentsOf list) .holds l e .1) ∙ length-at (l .index) (segmentsOf list) this read
+
+  pub short : from - l .earlier < l .len
+  short = omega (arith, sum, ap (λ (x : Location). x .len) (each-found from (segmentsOf list) .holds l e .1), holds)
 
 -- ── the next piece
 
@@ -58,6 +61,6 @@ module _ (list : List ℕ) (most from to : ℕ) where
     found : next (upTo most) from to (segmentsOf list) ≡ some (pieceIn (upTo most) from to (l .earlier) (this list from e))
     found = next-stands (upTo most) from to (segmentsOf list) lt ∙ rw (e, read list from e)
 
-    pub here : {a h n m k : ℕ} → a ≡ get (bytes (l .index * 16 + 0) 8) list → h ≡ get (bytes (l .index * 16 + 8) 4) list → n ≡ get (bytes (l .index * 16 + 12) 4) list
-        → m ≡ min (n - (from - l .earlier)) (to - from) → k ≡ min most m → is (CutPiece (piece ((a + (from - l .earlier)) % 2 ^ 64) h k from))
-    here ea eh en em ek = rw (ea, eh, ek, em, en) (ap nextWrapped (sym found))
+    pub here : {a h m k : ℕ} → a ≡ get (bytes (l .index * 16 + 0) 8) list → h ≡ get (bytes (l .index * 16 + 8) 4) list
+        → m ≡ min (l .len - (from - l .earlier)) (to - from) → k ≡ min most m → is (CutPiece (piece ((a + (from - l .earlier)) % 2 ^ 64) h k from))
+    here ea eh em ek = rw (ea, eh, ek, em, long list from e) (ap nextWrapped (sym found))

@@ -10,12 +10,12 @@ use lib.Dec.{ltb}
 use lib.ListN.{length}
 use Rattle.srp.specs.Bytes.{bytes, get}
 use Rattle.srp.specs.Descriptors.{Segment, segmentsOf}
-use Rattle.cut.specs.Locating.{earlierOf, location, locatedFrom, located}
+use Rattle.cut.specs.Locating.{earlierOf, lengthAt, location, locatedFrom, located}
 use Rattle.cut.specs.declared.locate.Location.{Location}
 use Rattle.cut.specs.declared.locate.Located.{Located}
 use Rattle.cut.specs.declared.locate.Located.the-variants.{At, Behind}
 use Rattle.cut.proofs.Turns.{segmentFrom, segments-count, segment-in}
-use Rattle.cut.proofs.Locating.{earlier-next}
+use Rattle.cut.proofs.Locating.{earlier-next, length-at}
 
 -- what is left to be searched gives what the whole gives
 pub record Searching (list : List ℕ) (offset index earlier : ℕ) : Type 0 where
@@ -34,8 +34,11 @@ module _ {list : List ℕ} {offset index earlier : ℕ} (w : Searching list offs
   ss = segmentsOf list
 
   module _ (more : index < length list / 16) {n : ℕ} (en : n ≡ get (bytes (index * 16 + 12) 4) list) where
-    through : earlier + n ≡ earlierOf (suc index) ss
-    through = omega (arith, w .sum, en, earlier-next index ss (segmentFrom list (index * 16)) (segment-in list index more))
+    long : lengthAt index ss ≡ n
+    long = length-at index ss (segmentFrom list (index * 16)) (segment-in list index more) ∙ sym en
+
+    through : earlierOf index ss + lengthAt index ss ≡ earlier + n
+    through = omega (arith, w .sum, long)
 
     -- one segment, and those behind it
     abbrev behind : Located
@@ -44,16 +47,17 @@ module _ {list : List ℕ} {offset index earlier : ℕ} (w : Searching list offs
     seen : cond (ltb offset (earlier + n)) (At (location index ss)) behind ≡ located offset ss
     seen =
         let e : length list / 16 - index ≡ suc (length list / 16 - suc index) = omega arith in
-        rw through (sym (ap (λ (k : ℕ). locatedFrom k index offset ss) e)) ∙ w .same
+        rw (← through) (sym (ap (λ (k : ℕ). locatedFrom k index offset ss) e)) ∙ w .same
 
-    pub here : offset < earlier + n → At (record { index = index; earlier = earlier }) ≡ located offset ss
-    here lt = rw (w .sum) (rw (lt-ltb offset (earlier + n) lt) at seen)
+    pub here : offset < earlier + n → At (record { index = index; len = n; earlier = earlier }) ≡ located offset ss
+    here lt = rw (w .sum, ← long) (rw (lt-ltb offset (earlier + n) lt) at seen)
 
     pub on : earlier + n ≤ offset → Searching list offset (index + 1) (earlier + n)
     on le =
         let e : index + 1 ≡ suc index = omega arith in
+        let s : earlier + n ≡ earlierOf (suc index) ss = omega (arith, through, earlier-next index ss) in
         rw e
-        (record { room = omega arith; sum = through; low = le; same = rw (le-ltb offset (earlier + n) le) at seen })
+        (record { room = omega arith; sum = s; low = le; same = rw (le-ltb offset (earlier + n) le) at seen })
 
   pub end : length list / 16 ≤ index → Behind ≡ located offset ss
   end le =

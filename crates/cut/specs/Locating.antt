@@ -3,7 +3,7 @@ use mathlib.Core.Path.{_≡_}
 use mathlib.Core.Logic.{_↔_}
 use mathlib.Core.Bool.{cond}
 use mathlib.Core.List.{List}
-use mathlib.Core.Option.{Option, none, Option·map}
+use mathlib.Core.Option.{Option, none, some, Option·map}
 use Prim.Native.Nat.{ℕ, zero, suc, _+_, _-_, _≤_, _<_, min}
 use lib.Dec.{ltb}
 use lib.ListN.{length, take, getElem?}
@@ -18,13 +18,17 @@ use Rattle.cut.specs.declared.locate.Located.the-variants.{At, Behind}
 abbrev pub earlierOf : ℕ → List Segment → ℕ
 earlierOf i ss = sumOf (take i ss)
 
+-- the length of the segment with this index, 0 where there is none
+abbrev pub lengthAt : ℕ → List Segment → ℕ
+lengthAt i ss = elim (getElem? ss i) [ none ↦ 0 | some s ↦ s .len ]
+
 abbrev pub location : ℕ → List Segment → Location
-location i ss = record { index = i; earlier = earlierOf i ss }
+location i ss = record { index = i; len = lengthAt i ss; earlier = earlierOf i ss }
 
 -- the first of n segments, from index i on, with which the lengths pass the offset; each sum is taken anew
 abbrev pub locatedFrom : (n i offset : ℕ) → List Segment → Located
 locatedFrom zero i offset ss = Behind
-locatedFrom (suc n) i offset ss = cond (ltb offset (earlierOf (suc i) ss)) (At (location i ss)) (locatedFrom n (suc i) offset ss)
+locatedFrom (suc n) i offset ss = cond (ltb offset (earlierOf i ss + lengthAt i ss)) (At (location i ss)) (locatedFrom n (suc i) offset ss)
 
 -- "the segment that holds an offset", with the sum of the earlier lengths, or that the offset is behind the last byte
 abbrev pub located : ℕ → List Segment → Located
@@ -34,7 +38,7 @@ located offset ss = locatedFrom (length ss) 0 offset ss
 
 -- the segment with this index holds the offset: the earlier lengths do not pass it, and with its own they do
 abbrev pub HoldsOffset : ℕ → ℕ → List Segment → Type 0
-HoldsOffset offset i ss = (earlierOf i ss ≤ offset) × (offset < earlierOf (suc i) ss)
+HoldsOffset offset i ss = (earlierOf i ss ≤ offset) × (offset < earlierOf i ss + lengthAt i ss)
 
 -- a segment found holds the offset, and with it comes the sum of the earlier lengths; no other segment holds it, of length 0 or not; none is found
 -- just where the offset is behind the last byte

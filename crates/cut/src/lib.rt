@@ -75,8 +75,7 @@ pub fn next_piece(list: &[u8], most: u32, from: u32, to: u32) -> Cut
     let at = location.index * SEGMENT;
     let skip = from - location.earlier;
     let address = wire::read64(list, at + ADDRESS);
-    let in_segment = wire::read32(list, at + SEGMENT_LENGTH) - skip;
-    let left = wire::least(in_segment as u64, (to - from) as u64);
+    let left = wire::least((location.len - skip) as u64, (to - from) as u64);
     let len = wire::least(most as u64, left) as u32;
     Cut::CutPiece(Piece {
         address: std::num::wrapping_add_u64(address, skip as u64),

@@ -5,9 +5,10 @@ ghost use mathlib.Core.Path.{_≡_};
 ghost use Rattle.srp.specs.Descriptors.{segmentsOf};
 ghost use Rattle.cut.specs.Locating.{located};
 
-// A segment's index, and the sum of the earlier lengths.
+// A segment's index and length, and the sum of the earlier lengths.
 pub struct Location {
     pub index: usize,
+    pub len: u32,
     pub earlier: u32,
 }
 
@@ -18,22 +19,24 @@ pub enum Located {
 }
 
 // Keeps the sum of the earlier lengths as it moves on, and adds each length once. It moves on only while the sum is not above the offset, so 32 bits
-// hold it.
+// hold what it gives, and 64 what a last length adds.
 pub fn find_segment(list: &[u8], offset: u32) -> Located
     ensures { λ r. ⌜ r ≡ located offset (segmentsOf (now (list .entry))) ⌝ }
 {
     let count = list.len() / SEGMENT;
     let mut index: usize = 0;
-    let mut earlier: u32 = 0;
+    let mut earlier: u64 = 0;
     while index < count {
         let len = wire::read32(list, index * SEGMENT + SEGMENT_LENGTH);
-        if offset - earlier < len {
+        let through = earlier + (len as u64);
+        if (offset as u64) < through {
             return Located::At(Location {
                 index: index,
-                earlier: earlier,
+                len: len,
+                earlier: earlier as u32,
             });
         }
-        earlier = earlier + len;
+        earlier = through;
         index = index + 1;
     }
     Located::Behind

@@ -42,24 +42,16 @@ read64-requires : tie.Need-read64-requires
 read64-requires c κs =
     let a = c .before .before .before .before .before .before .before .before .args in omega (arith, inside (a .list .now) (a .from) (sym (c .before .before .before .before .before .find-segment .ensures) ∙ c .before .before .before .location .given .1))
 
-add-read32 : tie.Need-add-read32
-add-read32 c =
-    let a = c .before .before .before .before .before .before .before .before .before .args in omega (arith, inside (a .list .now) (a .from) (sym (c .before .before .before .before .before .before .find-segment .ensures) ∙ c .before .before .before .before .location .given .1))
-
-read32-requires : tie.Need-read32-requires
-read32-requires c κs =
-    let a = c .before .before .before .before .before .before .before .before .before .args in omega (arith, inside (a .list .now) (a .from) (sym (c .before .before .before .before .before .before .find-segment .ensures) ∙ c .before .before .before .before .location .given .1))
-
-sub-in-segment : tie.Need-sub-in-segment
-sub-in-segment c =
-    let a = c .before .before .before .before .before .before .before .before .before .before .args in omega (arith, short (a .list .now) (a .from) (sym (c .before .before .before .before .before .before .before .find-segment .ensures) ∙ c .before .before .before .before .before .location .given .1) (c .read32 .ensures))
+sub-least : tie.Need-sub-least
+sub-least c =
+    let a = c .before .before .before .before .before .before .before .before .before .before .args in omega (arith, short (a .list .now) (a .from) (sym (c .before .before .before .before .before .before .before .find-segment .ensures) ∙ c .before .before .before .before .before .location .given .1))
 
 cast-least : tie.Need-cast-least
 cast-least c =
     search needs
 
-sub-least : tie.Need-sub-least
-sub-least c =
+sub-least-2 : tie.Need-sub-least-2
+sub-least-2 c =
     search needs
 
 cast-least-2 : tie.Need-cast-least-2
@@ -86,17 +78,17 @@ wrapping-add-u64-requires : tie.Need-wrapping-add-u64-requires
 wrapping-add-u64-requires c κs =
     search needs
 
-add-read32-2 : tie.Need-add-read32-2
-add-read32-2 c =
+add-read32 : tie.Need-add-read32
+add-read32 c =
     let a = c .before .before .before .before .before .before .before .before .before .before .before .before .before .args in omega (arith, inside (a .list .now) (a .from) (sym (c .before .before .before .before .before .before .before .before .before .before .find-segment .ensures) ∙ c .before .before .before .before .before .before .before .before .location .given .1))
 
-read32-requires-2 : tie.Need-read32-requires-2
-read32-requires-2 c κs =
+read32-requires : tie.Need-read32-requires
+read32-requires c κs =
     let a = c .before .before .before .before .before .before .before .before .before .before .before .before .before .args in omega (arith, inside (a .list .now) (a .from) (sym (c .before .before .before .before .before .before .before .before .before .before .find-segment .ensures) ∙ c .before .before .before .before .before .before .before .before .location .given .1))
 
 returns-3 : tie.Need-returns-3
 returns-3 c =
-    let a = c .before .before .before .before .before .before .before .before .before .before .before .before .before .before .args in rw (c .before .wrapping-add-u64 .ensures) (here (a .list .now) (a .most) (a .from) (a .to) (sym (c .before .before .before .before .before .before .before .before .before .before .before .find-segment .ensures) ∙ c .before .before .before .before .before .before .before .before .before .location .given .1) (omega arith) (c .before .before .before .before .before .read64 .ensures) (c .read322 .ensures) (c .before .before .before .before .read32 .ensures) (c .before .before .before .least .ensures) (c .before .before .least2 .ensures))
+    let a = c .before .before .before .before .before .before .before .before .before .before .before .before .before .before .args in rw (c .before .wrapping-add-u64 .ensures) (here (a .list .now) (a .most) (a .from) (a .to) (sym (c .before .before .before .before .before .before .before .before .before .before .before .find-segment .ensures) ∙ c .before .before .before .before .before .before .before .before .before .location .given .1) (omega arith) (c .before .before .before .before .before .read64 .ensures) (c .read32 .ensures) (c .before .before .before .least .ensures) (c .before .before .least2 .ensures))
 
 pub next-piece-spec : {M : Type 1} → statement M
 next-piece-spec =
@@ -111,17 +103,15 @@ next-piece-spec =
     sub-skip
     add-read64
     read64-requires
-    add-read32
-    read32-requires
-    sub-in-segment
-    cast-least
     sub-least
+    cast-least
+    sub-least-2
     cast-least-2
     least-requires
     least-requires-2
     cast-len
     cast-wrapping-add-u64
     wrapping-add-u64-requires
-    add-read32-2
-    read32-requires-2
+    add-read32
+    read32-requires
     returns-3)

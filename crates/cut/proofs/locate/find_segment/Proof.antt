@@ -30,17 +30,21 @@ read32-requires : tie.Need-read32-requires Inv-loop μ-loop
 read32-requires c κs =
     search needs
 
-sub-if1 : tie.Need-sub-if1 Inv-loop μ-loop
-sub-if1 c =
+cast-through : tie.Need-cast-through Inv-loop μ-loop
+cast-through c =
+    search needs
+
+add-through : tie.Need-add-through Inv-loop μ-loop
+add-through c =
+    search needs
+
+cast-t13 : tie.Need-cast-t13 Inv-loop μ-loop
+cast-t13 c =
     search needs
 
 returns : tie.Need-returns Inv-loop μ-loop
 returns c =
     here (c .before .before .before .loop .inv) (c .before .before .loop-test .taken) (c .before .read32 .ensures) (omega arith)
-
-add-earlier : tie.Need-add-earlier Inv-loop μ-loop
-add-earlier c =
-    search needs
 
 add-index : tie.Need-add-index Inv-loop μ-loop
 add-index c =
@@ -68,9 +72,10 @@ find-segment-spec =
     mul-read32
     add-read32
     read32-requires
-    sub-if1
+    cast-through
+    add-through
+    cast-t13
     returns
-    add-earlier
     add-index
     loop-less
     loop-again
