@@ -73,12 +73,12 @@ pub fn next_piece(list: &[u8], most: u32, from: u32, to: u32) -> Cut
         return Cut::CutDone;
     };
     let at = location.index * SEGMENT;
-    let skip = from - location.earlier;
+    let skip = (from as u64) - location.earlier;
     let address = wire::read64(list, at + ADDRESS);
-    let left = wire::least((location.len - skip) as u64, (to - from) as u64);
+    let left = wire::least((location.len as u64) - skip, (to - from) as u64);
     let len = wire::least(most as u64, left) as u32;
     Cut::CutPiece(Piece {
-        address: std::num::wrapping_add_u64(address, skip as u64),
+        address: std::num::wrapping_add_u64(address, skip),
         handle: wire::read32(list, at + HANDLE),
         len: len,
         offset: from,

@@ -9,7 +9,7 @@ ghost use Rattle.cut.specs.Locating.{located};
 pub struct Location {
     pub index: usize,
     pub len: u32,
-    pub earlier: u32,
+    pub earlier: u64,
 }
 
 // The segment that holds an offset; or the offset is behind the last byte.
@@ -18,8 +18,8 @@ pub enum Located {
     Behind,
 }
 
-// Keeps the sum of the earlier lengths as it moves on, and adds each length once. It moves on only while the sum is not above the offset, so 32 bits
-// hold what it gives, and 64 what a last length adds.
+// Keeps the sum of the earlier lengths as it moves on, and adds each length once. It moves on only while the sum is not above the offset, so that
+// 64 bits hold it for a list of any length.
 pub fn find_segment(list: &[u8], offset: u32) -> Located
     ensures { λ r. ⌜ r ≡ located offset (segmentsOf (now (list .entry))) ⌝ }
 {
@@ -33,7 +33,7 @@ pub fn find_segment(list: &[u8], offset: u32) -> Located
             return Located::At(Location {
                 index: index,
                 len: len,
-                earlier: earlier as u32,
+                earlier: earlier,
             });
         }
         earlier = through;

@@ -42,13 +42,13 @@ read64-requires : tie.Need-read64-requires
 read64-requires c κs =
     let a = c .before .before .before .before .before .before .before .before .args in omega (arith, inside (a .list .now) (a .from) (sym (c .before .before .before .before .before .find-segment .ensures) ∙ c .before .before .before .location .given .1))
 
-sub-least : tie.Need-sub-least
-sub-least c =
-    let a = c .before .before .before .before .before .before .before .before .before .before .args in omega (arith, short (a .list .now) (a .from) (sym (c .before .before .before .before .before .before .before .find-segment .ensures) ∙ c .before .before .before .before .before .location .given .1))
-
 cast-least : tie.Need-cast-least
 cast-least c =
     search needs
+
+sub-least : tie.Need-sub-least
+sub-least c =
+    let a = c .before .before .before .before .before .before .before .before .before .before .args in omega (arith, short (a .list .now) (a .from) (sym (c .before .before .before .before .before .before .before .find-segment .ensures) ∙ c .before .before .before .before .before .location .given .1))
 
 sub-least-2 : tie.Need-sub-least-2
 sub-least-2 c =
@@ -68,10 +68,6 @@ least-requires-2 c κs =
 
 cast-len : tie.Need-cast-len
 cast-len c =
-    search needs
-
-cast-wrapping-add-u64 : tie.Need-cast-wrapping-add-u64
-cast-wrapping-add-u64 c =
     search needs
 
 wrapping-add-u64-requires : tie.Need-wrapping-add-u64-requires
@@ -103,14 +99,13 @@ next-piece-spec =
     sub-skip
     add-read64
     read64-requires
-    sub-least
     cast-least
+    sub-least
     sub-least-2
     cast-least-2
     least-requires
     least-requires-2
     cast-len
-    cast-wrapping-add-u64
     wrapping-add-u64-requires
     add-read32
     read32-requires

@@ -38,10 +38,6 @@ add-through : tie.Need-add-through Inv-loop μ-loop
 add-through c =
     search needs
 
-cast-t13 : tie.Need-cast-t13 Inv-loop μ-loop
-cast-t13 c =
-    search needs
-
 returns : tie.Need-returns Inv-loop μ-loop
 returns c =
     here (c .before .before .before .loop .inv) (c .before .before .loop-test .taken) (c .before .read32 .ensures) (omega arith)
@@ -74,7 +70,6 @@ find-segment-spec =
     read32-requires
     cast-through
     add-through
-    cast-t13
     returns
     add-index
     loop-less
