@@ -8,7 +8,7 @@ use Prim.Native.Nat.{ℕ, zero, suc, _+_, _-_, _≤_, _<_, min}
 use native.Mathlib.Omega.{arith}
 use borrow.Author.Tests.{lt-ltb, le-ltb, ltb-true, ltb-false}
 use lib.Dec.{ltb}
-use lib.ListN.{length, take, getElem?}
+use lib.ListN.{length, getElem?}
 use Rattle.srp.specs.Descriptors.{Segment, sumOf}
 use Rattle.srp.specs.Cutting.{Rule, piece, nextFrom, next}
 use Rattle.srp.proofs.CutLaws.{none-above}
@@ -36,15 +36,10 @@ earlier-rises (suc i) zero ss h = omega arith
 earlier-rises (suc i) (suc j) [] h = omega arith
 earlier-rises (suc i) (suc j) (s ∷ ss) h = omega (arith, earlier-rises i j ss (omega arith))
 
--- the last one is B, and so none is above it
+-- the last one is B
 earlier-all : (ss : List Segment) → earlierOf (length ss) ss ≡ sumOf ss
 earlier-all [] = refl
 earlier-all (s ∷ ss) = rw (earlier-all ss)
-
-earlier-below : (i : ℕ) (ss : List Segment) → earlierOf i ss ≤ sumOf ss
-earlier-below zero ss = omega arith
-earlier-below (suc i) [] = omega arith
-earlier-below (suc i) (s ∷ ss) = omega (arith, earlier-below i ss)
 
 -- ── the segment that holds an offset
 
@@ -54,63 +49,61 @@ holds-inside offset (suc i) [] h = omega (arith, h)
 holds-inside offset zero (s ∷ ss) h = omega arith
 holds-inside offset (suc i) (s ∷ ss) h = omega (arith, holds-inside (offset - s .len) i ss (omega (arith, h .0), omega (arith, h .1)))
 
-not-later : (offset i j : ℕ) (ss : List Segment) → HoldsOffset offset i ss → HoldsOffset offset j ss → j ≤ i
-not-later offset i j ss h k = go (ltb i j) refl
-  where
-    go : (b : Bool) → ltb i j ≡ b → j ≤ i
-    go true e = omega (arith, h .1, k .0, earlier-next i ss, earlier-rises (suc i) j ss (omega (arith, ltb-true i j e)))
-    go false e = ltb-false i j e
-
--- ── the search, from index i on
-
 module _ (offset : ℕ) (ss : List Segment) where
-  found-from : (n i : ℕ) (l : Location) → earlierOf i ss ≤ offset → locatedFrom n i offset ss ≡ At l → HoldsOffset offset (l .index) ss × (l ≡ location (l .index) ss)
-  found-from zero i l h e = let z : _≡_ {A = ℕ} 0 1 = cc in absurd (omega arith)
-  found-from (suc n) i l h e = go (ltb offset (earlierOf i ss + lengthAt i ss)) refl e (λ h′ e′. found-from n (suc i) l h′ e′)
+  -- by B the lengths have passed the offset
+  passed : (i : ℕ) → HoldsOffset offset i ss → offset < sumOf ss
+  passed i h = omega (arith, h .1, earlier-next i ss, earlier-rises (suc i) (length ss) ss (holds-inside offset i ss h), earlier-all ss)
+
+  not-later : (i j : ℕ) → HoldsOffset offset i ss → HoldsOffset offset j ss → j ≤ i
+  not-later i j h k = go (ltb i j) refl
     where
-      go : (b : Bool) → ltb offset (earlierOf i ss + lengthAt i ss) ≡ b → cond b (At (location i ss)) (locatedFrom n (suc i) offset ss) ≡ At l
-          → (earlierOf (suc i) ss ≤ offset → locatedFrom n (suc i) offset ss ≡ At l → HoldsOffset offset (l .index) ss × (l ≡ location (l .index) ss))
-          → HoldsOffset offset (l .index) ss × (l ≡ location (l .index) ss)
-      go true t e′ ih =
-          let q : location i ss ≡ l = cc in
-          subst (λ (x : Location). HoldsOffset offset (x .index) ss × (x ≡ location (x .index) ss)) q ((h, ltb-true offset (earlierOf i ss + lengthAt i ss) t), refl)
-      go false t e′ ih = ih (omega (arith, earlier-next i ss, ltb-false offset (earlierOf i ss + lengthAt i ss) t)) e′
+      go : (b : Bool) → ltb i j ≡ b → j ≤ i
+      go true e = omega (arith, h .1, k .0, earlier-next i ss, earlier-rises (suc i) j ss (omega (arith, ltb-true i j e)))
+      go false e = ltb-false i j e
 
-  behind-from : (n i k : ℕ) → n + i ≡ k → earlierOf i ss ≤ offset → locatedFrom n i offset ss ≡ Behind → earlierOf k ss ≤ offset
-  behind-from zero i k s h e = let q : i ≡ k = omega arith in rw q at h
-  behind-from (suc n) i k s h e = go (ltb offset (earlierOf i ss + lengthAt i ss)) refl e (λ h′ e′. behind-from n (suc i) k (omega arith) h′ e′)
+  -- ── the search
+
+  -- what an answer says, once k segments were looked at
+  abbrev Says : ℕ → Located → Type 0
+  Says k (At l) = HoldsOffset offset (l .index) ss × (l ≡ location (l .index) ss)
+  Says k Behind = earlierOf k ss ≤ offset
+
+  from-there : (n i k : ℕ) → n + i ≡ k → earlierOf i ss ≤ offset → Says k (locatedFrom n i offset ss)
+  from-there zero i k s h = let q : i ≡ k = omega arith in rw q at h
+  from-there (suc n) i k s h = go (ltb offset (earlierOf i ss + lengthAt i ss)) refl (λ h′. from-there n (suc i) k (omega arith) h′)
     where
-      go : (b : Bool) → ltb offset (earlierOf i ss + lengthAt i ss) ≡ b → cond b (At (location i ss)) (locatedFrom n (suc i) offset ss) ≡ Behind
-          → (earlierOf (suc i) ss ≤ offset → locatedFrom n (suc i) offset ss ≡ Behind → earlierOf k ss ≤ offset)
-          → earlierOf k ss ≤ offset
-      go true t e′ ih = let z : _≡_ {A = ℕ} 0 1 = cc in absurd (omega arith)
-      go false t e′ ih = ih (omega (arith, earlier-next i ss, ltb-false offset (earlierOf i ss + lengthAt i ss) t)) e′
+      go : (b : Bool) → ltb offset (earlierOf i ss + lengthAt i ss) ≡ b → (earlierOf (suc i) ss ≤ offset → Says k (locatedFrom n (suc i) offset ss))
+          → Says k (cond b (At (location i ss)) (locatedFrom n (suc i) offset ss))
+      go true t ih = ((h, ltb-true offset (earlierOf i ss + lengthAt i ss) t), refl)
+      go false t ih = ih (omega (arith, earlier-next i ss, ltb-false offset (earlierOf i ss + lengthAt i ss) t))
 
-  holds-found : (l : Location) → located offset ss ≡ At l → HoldsOffset offset (l .index) ss × (l ≡ location (l .index) ss)
-  holds-found l e = found-from (length ss) 0 l (omega arith) e
-
-  behind-found : located offset ss ≡ Behind → sumOf ss ≤ offset
-  behind-found e = omega (arith, behind-from (length ss) 0 (length ss) (omega arith) (omega arith) e, earlier-all ss)
+  said : (r : Located) → located offset ss ≡ r → Says (length ss) r
+  said r e = subst (Says (length ss)) e (from-there (length ss) 0 (length ss) (omega arith) (omega arith))
 
   only-found : (i : ℕ) → HoldsOffset offset i ss → located offset ss ≡ At (location i ss)
   only-found i h = go (located offset ss) refl
     where
       go : (r : Located) → located offset ss ≡ r → located offset ss ≡ At (location i ss)
       go (At l) e =
-          let f = holds-found l e in
-          let same : l .index ≡ i = omega (arith, not-later offset i (l .index) ss h (f .0), not-later offset (l .index) i ss (f .0) h) in
+          let f = said (At l) e in
+          let same : l .index ≡ i = omega (arith, not-later i (l .index) h (f .0), not-later (l .index) i (f .0) h) in
           e ∙ ap At (f .1 ∙ ap (λ (k : ℕ). location k ss) same)
-      go Behind e = absurd (omega (arith, h .1, behind-found e, earlier-next i ss, earlier-below (suc i) ss))
+      go Behind e = absurd (omega (arith, passed i h, said Behind e, earlier-all ss))
 
   none-found : sumOf ss ≤ offset → located offset ss ≡ Behind
   none-found h = go (located offset ss) refl
     where
       go : (r : Located) → located offset ss ≡ r → located offset ss ≡ Behind
-      go (At l) e = absurd (omega (arith, h, holds-found l e .0 .1, earlier-next (l .index) ss, earlier-below (suc (l .index)) ss))
+      go (At l) e = absurd (omega (arith, h, passed (l .index) (said (At l) e .0)))
       go Behind e = e
 
 pub each-found : EachFound
-each-found offset ss = record { holds = holds-found offset ss; only = only-found offset ss; behind = (behind-found offset ss, none-found offset ss) }
+each-found offset ss =
+    record {
+      holds = λ l e. said offset ss (At l) e;
+      only = only-found offset ss;
+      behind = (λ e. omega (arith, said offset ss Behind e, earlier-all ss), none-found offset ss);
+    }
 
 -- ── the next piece stands there
 
@@ -159,12 +152,12 @@ pub next-stands : NextStands
 next-stands rule from to ss lt = go (located from ss) refl
   where
     there : (l : Location) → located from ss ≡ At l → (v : Option Segment) → getElem? ss (l .index) ≡ v → next rule from to ss ≡ Option·map (pieceIn rule from to (l .earlier)) v
-    there l e none v = absurd (omega (arith, none-above ss (l .index) v, holds-inside from (l .index) ss (holds-found from ss l e .0)))
+    there l e none v = absurd (omega (arith, none-above ss (l .index) v, holds-inside from (l .index) ss (said from ss (At l) e .0)))
     there l e (some s) v =
-        let f = holds-found from ss l e in
+        let f = said from ss (At l) e in
         let z : 0 + from ≡ from = omega arith in
         rw (ap (λ (x : Location). x .earlier) (f .1)) (rw z at (there-behind rule 0 from to (l .index) ss s lt v (f .0)))
 
     go : (r : Located) → located from ss ≡ r → next rule from to ss ≡ nextAt rule from to ss r
     go (At l) e = there l e (getElem? ss (l .index)) refl
-    go Behind e = none-past rule 0 from to ss (omega (arith, behind-found from ss e))
+    go Behind e = none-past rule 0 from to ss (omega (arith, said from ss Behind e, earlier-all ss))

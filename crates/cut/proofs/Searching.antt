@@ -11,7 +11,6 @@ use lib.ListN.{length}
 use Rattle.srp.specs.Bytes.{bytes, get}
 use Rattle.srp.specs.Descriptors.{Segment, segmentsOf}
 use Rattle.cut.specs.Locating.{earlierOf, lengthAt, location, locatedFrom, located}
-use Rattle.cut.specs.declared.locate.Location.{Location}
 use Rattle.cut.specs.declared.locate.Located.{Located}
 use Rattle.cut.specs.declared.locate.Located.the-variants.{At, Behind}
 use Rattle.cut.proofs.Turns.{segmentFrom, segments-count, segment-in}
