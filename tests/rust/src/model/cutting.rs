@@ -50,24 +50,30 @@ pub fn past_the_end(segment: MemoryDescriptor) -> bool {
     u128::from(segment.address) + u128::from(segment.length) > 1 << 64
 }
 
+/// "The segment that holds an offset", and "the sum of the earlier lengths"; None behind the last byte. "The search
+/// keeps the sum of the earlier lengths as it moves on and adds none twice."
+fn holding(list: &[u8], offset: u64) -> Option<(MemoryDescriptor, u64)> {
+    let mut earlier = 0;
+    for segment in segments(list) {
+        let end = earlier + u64::from(segment.length);
+        if offset < end {
+            return Some((segment, earlier));
+        }
+        earlier = end;
+    }
+    None
+}
+
 /// "The first min(R, B) bytes are cut segment by segment, zero-length segments skipped, each piece as long as possible
 /// up to M." Here the bytes up to `end`, which is at most B, after the first `handed`.
 pub fn next_piece(list: &[u8], m: u64, handed: u64, end: u64) -> Option<Piece> {
     if handed >= end {
         return None;
     }
-    let mut start = 0; // offset in the buffer of the segment's first byte
-    for segment in segments(list) {
-        let stop = start + u64::from(segment.length);
-        if handed < stop {
-            let memory = MemoryDescriptor {
-                address: segment.address + (handed - start),
-                handle: segment.handle,
-                length: m.min(stop - handed).min(end - handed) as u32,
-            };
-            return Some(Piece { memory, offset: handed as u32 });
-        }
-        start = stop;
-    }
-    None
+    let (segment, earlier) = holding(list, handed)?;
+    let within = handed - earlier;
+    let left = (u64::from(segment.length) - within).min(end - handed);
+    let address = segment.address + within;
+    let memory = MemoryDescriptor { address, handle: segment.handle, length: m.min(left) as u32 };
+    Some(Piece { memory, offset: handed as u32 })
 }
