@@ -1,7 +1,7 @@
 //! The C interface of the SRP target port, called from Rust (`interface`), and what its tests need: the port, look and
 //! the cut written anew from documents 01 and 02, and the trace page (`model`), calls on a port and what is checked of
 //! each (`port`), generated arguments of look, the cut and the trace (`generate`), pieces judged byte by byte (`judge`),
-//! a line's columns (`line`), and the rows of tests/rows (`rows`).
+//! where in its buffer an offset stands (`position`), a line's columns (`line`), and the rows of tests/rows (`rows`).
 
 pub mod calls;
 pub mod generate;
@@ -11,6 +11,7 @@ pub mod judge;
 pub mod line;
 pub mod model;
 pub mod port;
+pub mod position;
 pub mod random;
 pub mod rows;
 pub mod tally;

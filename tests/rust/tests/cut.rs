@@ -3,6 +3,7 @@
 use srp_tests::calls::{Call, Cut, Memory, Outcome, Placement};
 use srp_tests::generate;
 use srp_tests::model::{self, MemoryDescriptor, Piece};
+use srp_tests::position;
 use srp_tests::random::Random;
 use srp_tests::tally::Tally;
 
@@ -48,15 +49,23 @@ const OUTCOMES: [&str; 10] = [
 
 #[test]
 fn generated_lists() {
-    let (mut random, mut memory, mut tally) = (Random::new(0x5350_5232), Memory::default(), Tally::default());
+    let (mut random, mut memory) = (Random::new(0x5350_5232), Memory::default());
+    let (mut tally, mut positions) = (Tally::default(), Tally::default());
     for _ in 0..400_000 {
         let placement = Placement::random(&mut random);
         let call = Cut::random(&mut random);
         let outcome = call.compared(&mut memory, placement);
-        tally.add(kind(&call, &outcome));
+        let kind = kind(&call, &outcome);
+        if kind.starts_with("piece") {
+            let lengths: Vec<u32> = model::segments(&call.list).map(|segment| segment.length).collect();
+            position::kinds(&lengths, call.handed.into()).for_each(|kind| positions.add(kind));
+        }
+        tally.add(kind);
     }
     tally.print("cut, generated lists");
+    positions.print_as("cut, generated lists", "kinds of pieces");
     tally.assert_each(500, &OUTCOMES);
+    positions.assert_each(500, &position::KINDS);
 }
 
 /// Each list length from 0 to 600, with zero bytes and with descriptors.

@@ -1,6 +1,7 @@
 //! Demand 3: the two-ended machine over the library's port.
 
 use srp_tests::port::{library::Library, machine::Machine};
+use srp_tests::position;
 
 const STATES: [&str; 12] = [
     "16 commands open",
@@ -86,7 +87,8 @@ const LINES: [&str; 10] = [
     "> UNKNOWN",
 ];
 
-/// Runs the machine until so many events have come; each of EVENTS, STATES and LINES must come up, and these too.
+/// Runs the machine until so many events have come; each of EVENTS, STATES and LINES must come up, moves from each
+/// position among the segments, and these too.
 fn run(name: &str, seed: u64, fair: bool, count: u64, events: &[&str], states: &[&str]) {
     let mut machine = Machine::new(Library::new(seed), seed);
     while machine.events.total() < count {
@@ -96,7 +98,7 @@ fn run(name: &str, seed: u64, fair: bool, count: u64, events: &[&str], states: &
     machine.states.print_as(name, "states");
     machine.lines.print_as(name, "lines");
     machine.events.assert_each(12, &[&EVENTS[..], events].concat());
-    machine.states.assert_each(12, &[&STATES[..], states].concat());
+    machine.states.assert_each(12, &[&STATES[..], &position::KINDS, states].concat());
     machine.lines.assert_each(12, &LINES);
 }
 

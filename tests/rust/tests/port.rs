@@ -6,6 +6,7 @@ use srp_tests::port::both::Both;
 use srp_tests::port::generate::{command, Data};
 use srp_tests::port::plain::{fetched, login, take};
 use srp_tests::port::{kinds, side_by_side::SideBySide, Call};
+use srp_tests::position;
 use srp_tests::random::Random;
 use srp_tests::tally::Tally;
 
@@ -30,7 +31,7 @@ fn generated_calls() {
     outcomes.print("port, generated calls");
     features.print_as("port, generated calls", "kinds of them");
     outcomes.assert_each(40, &kinds::OUTCOMES);
-    features.assert_each(40, &[&kinds::FEATURES[..], &kinds::moves::FEATURES].concat());
+    features.assert_each(40, &[&kinds::FEATURES[..], &kinds::moves::FEATURES, &position::KINDS].concat());
 }
 
 /// Data-in of 600 and 100 bytes, of which 650 are required: min(R, B) is 650.

@@ -47,7 +47,11 @@ impl Data {
     }
 
     fn indirect(random: &mut Random, m: u32, most: usize) -> Self {
-        let count = if random.one_in(2) { 1 + random.below(3.min(most)) } else { 1 + random.below(most) };
+        let count = match random.below(8) {
+            0..=2 => 1 + random.below(3.min(most)),
+            3 | 4 => most,
+            _ => 1 + random.below(most),
+        };
         let segments = segments(random, count, m);
         let copied = match random.below(3) {
             0 => 0,

@@ -46,21 +46,24 @@ pub fn plan(random: &mut Random, channel: &Channel) -> Call {
     Call::Plan { tag: tag(random, chosen(command)), r_out, r_in }
 }
 
-/// Where a move begins: at 0, at min(R, B) and beside it, at a segment's end and beside it, at h, below h, or anywhere.
+/// Where a move begins: at 0, at min(R, B) and beside it, at a segment's start and beside it, at h, below h, or
+/// anywhere.
 fn offset(random: &mut Random, transfer: &Transfer) -> u64 {
-    match random.below(13) {
+    match random.below(14) {
         0..=2 => 0,
         3 => transfer.due(),
         4 => transfer.due() + 1,
         5 => transfer.due().saturating_sub(1),
-        6 => {
-            let lengths = segments(&transfer.segments).map(|segment| u64::from(segment.length));
-            let end: u64 = lengths.take(random.below(33)).sum();
-            (end + random.up_to(2)).saturating_sub(1)
+        6 | 7 => {
+            let lengths: Vec<u64> = segments(&transfer.segments).map(|segment| segment.length.into()).collect();
+            let last = lengths.len().saturating_sub(1);
+            let earlier = if random.one_in(2) { last } else { random.below(33) };
+            let start: u64 = lengths.iter().take(earlier).sum();
+            (start + random.up_to(2)).saturating_sub(1)
         }
-        7 | 8 => transfer.reached,
-        9 => random.up_to(transfer.reached),
-        10 => u64::from(random.any_size()),
+        8 | 9 => transfer.reached,
+        10 => random.up_to(transfer.reached),
+        11 => u64::from(random.any_size()),
         _ => random.up_to(transfer.due()),
     }
 }

@@ -3,8 +3,10 @@
 use super::super::call::{Call, Outcome};
 use crate::model::channel::{OpenCommand, Transfer};
 use crate::model::segments;
+use crate::position;
 
-/// Several a call: where a move begins and ends, why one is refused, how far a piece goes.
+/// Several a call: where a move begins and ends, why one is refused, how far a piece goes. `position` has where among
+/// the segments a move begins.
 pub const FEATURES: [&str; 22] = [
     "move, across a segment's end",
     "move, all of a direction",
@@ -57,7 +59,7 @@ fn of_move(moved: &Transfer, other: &Transfer, start: u64, stop: u64) -> Kinds {
     let (due, h) = (moved.due(), moved.reached);
     let end = stop.min(due);
     let some = start < end;
-    vec![
+    let mut kinds = vec![
         (some && ends(moved).any(|at| start < at && at < end), "move, across a segment's end"),
         (some && start == 0 && end == due, "move, all of a direction"),
         (due > 0 && start == due && stop > start, "move, at min(R, B)"),
@@ -71,7 +73,12 @@ fn of_move(moved: &Transfer, other: &Transfer, start: u64, stop: u64) -> Kinds {
         (some && start + 1 == due, "move, one below min(R, B)"),
         (some && start > h, "move, past a gap"),
         (some && stop > due, "move, trimmed"),
-    ]
+    ];
+    if some {
+        let lengths: Vec<u32> = segments(&moved.segments).map(|segment| segment.length).collect();
+        kinds.extend(position::kinds(&lengths, start).map(|kind| (true, kind)));
+    }
+    kinds
 }
 
 /// The segments' ends, as offsets in the buffer.

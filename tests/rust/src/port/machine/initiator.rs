@@ -94,7 +94,7 @@ impl<T: Target> Machine<T> {
 
     fn command(&mut self) -> Sent {
         let (tag, lun, login) = (self.unused_tag(), self.random.up_to(2), self.ends.login);
-        for most in [16, 4, 1, 0] {
+        for most in [32, 4, 1, 0] {
             let mut data = [0, 1].map(|_| Data::lawful(&mut self.random, login.formats, login.m, most.max(1)));
             if self.random.one_in(12) {
                 data[self.random.below(2)].damage(&mut self.random);

@@ -120,11 +120,13 @@ impl<T: Target> Machine<T> {
         }
     }
 
-    /// Offset and count: mostly of a few pieces, and around min(R, B).
+    /// Offset and count: mostly of a few pieces, and around min(R, B) and a segment's start.
     fn range(&mut self, pieces: &Pieces) -> [u32; 2] {
         let (due, m, random) = (pieces.due(), u64::from(self.ends.login.m), &mut self.random);
         let (below, any) = (random.up_to(due), random.any_size().into());
-        let offset = random.of(&[0, 0, below, below, below, pieces.highest, due, due.saturating_sub(1), due + 1, any]);
+        let start = (pieces.start(random) + random.up_to(2)).saturating_sub(1).min(due);
+        let offset =
+            random.of(&[0, 0, below, below, start, start, pieces.highest, due, due.saturating_sub(1), due + 1, any]);
         let rest = due.saturating_sub(offset);
         let (some, any) = (1 + random.up_to(3 * m), random.any_size().into());
         let count = random.of(&[some, some, some, 0, m, rest, rest + 1, any, u32::MAX.into(), (1 << 32) - below]);
@@ -141,7 +143,11 @@ impl<T: Target> Machine<T> {
         let outcome = self.counted(&call);
         assert_eq!(outcome.returned, self.ends.refusal_of_move(tag, direction, offset), "{call:x?}");
         if let (0, Some(place)) = (outcome.returned, place) {
-            self.ends.open[place].pieces[direction].name(offset, count);
+            let pieces = &mut self.ends.open[place].pieces[direction];
+            pieces.name(offset, count);
+            if pieces.are_left() {
+                pieces.position(offset).for_each(|kind| self.states.add(kind));
+            }
         }
     }
 

@@ -2,6 +2,8 @@
 //! takes a move's bytes out of the list, keeps its place in them, and calls nothing of the model's.
 
 use crate::model::MemoryDescriptor;
+use crate::position;
+use crate::random::Random;
 
 /// An operation's handle, address, length and offset in the buffer.
 pub type Operation = [u64; 4];
@@ -46,6 +48,19 @@ impl Pieces {
     pub fn plan(&mut self, r: u32) {
         self.required = r.into();
         self.due = self.required.min(self.buffer());
+    }
+
+    /// Where a segment begins, as an offset in the buffer: mostly the last one.
+    pub fn start(&self, random: &mut Random) -> u64 {
+        let last = self.segments.len().saturating_sub(1);
+        let earlier = if random.one_in(3) { random.below(last + 1) } else { last };
+        self.segments[..earlier].iter().map(|(_, _, length)| length).sum()
+    }
+
+    /// Where among the segments an offset stands.
+    pub fn position(&self, offset: u32) -> impl Iterator<Item = &'static str> {
+        let lengths: Vec<u32> = self.segments.iter().map(|&(_, _, length)| length as u32).collect();
+        position::kinds(&lengths, offset.into())
     }
 
     /// B.
