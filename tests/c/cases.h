@@ -15,6 +15,7 @@ void table_cases(void);
 void task_cases(void);
 void transfer_cases(void);
 void move_cases(void);
+void search_cases(void);
 void highest_cases(void);
 void finish_cases(void);
 void credit_cases(void);

@@ -14,6 +14,7 @@ int main(void)
     task_cases();
     transfer_cases();
     move_cases();
+    search_cases();
     highest_cases();
     finish_cases();
     credit_cases();
