@@ -23,7 +23,7 @@ static const uint8_t indirect[TABLE + 9 * SEGMENT] = {
     0, 0, 0, 0, 0, 0, 0x90, 0, 0, 0, 0, 9, 0, 0, 0, 0,
 };
 
-/* The first and the last byte of each segment that has one, and of the last one those around which M ends the piece. */
+/* The first and the last byte of each segment that has one; 194 is the last offset at which M ends the piece. */
 static const struct found pieces[] = {
     {0, 3, 0x3000, 5},   {4, 3, 0x3004, 1},     {5, 5, 0x5000, 1},
     {6, 8, 0x8000, 512}, {194, 8, 0x80bc, 512}, {195, 8, 0x80bd, 511},

@@ -63,7 +63,7 @@ fn generated_lists() {
         tally.add(kind);
     }
     tally.print("cut, generated lists");
-    positions.print_as("cut, generated lists", "kinds of pieces");
+    positions.print_as("cut, generated lists", "kinds of them");
     tally.assert_each(500, &OUTCOMES);
     positions.assert_each(500, &position::KINDS);
 }
