@@ -1,4 +1,4 @@
-pub mod Turns
+pub mod Segments
 pub mod Sums
 pub mod Locating
 pub mod Searching

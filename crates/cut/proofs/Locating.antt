@@ -10,7 +10,7 @@ use borrow.Author.Tests.{lt-ltb, le-ltb, ltb-true, ltb-false}
 use lib.Dec.{ltb}
 use lib.ListN.{length, getElem?}
 use Rattle.srp.specs.Descriptors.{Segment, sumOf}
-use Rattle.srp.specs.Cutting.{Rule, piece, nextFrom, next}
+use Rattle.srp.specs.Cutting.{Rule, nextFrom, next}
 use Rattle.srp.proofs.CutLaws.{none-above}
 use Rattle.cut.specs.Locating.{earlierOf, lengthAt, location, locatedFrom, located, HoldsOffset, EachFound, pieceIn, nextAt, NextStands}
 use Rattle.cut.specs.declared.locate.Location.{Location}
@@ -124,8 +124,7 @@ module _ (from to n : ℕ) (le : n ≤ from) where
 module _ (rule : Rule) where
   -- where o bytes came before the segments
   there-behind : (o from to i : ℕ) (ss : List Segment) (s : Segment) → from < to → getElem? ss i ≡ some s → HoldsOffset from i ss
-      → let within : ℕ = from - earlierOf i ss in
-      nextFrom rule o from to ss ≡ some (piece (s .address + within) (s .handle) (rule (s .address + within) (min (s .len - within) (to - from))) (o + from))
+      → nextFrom rule o from to ss ≡ some (pieceIn rule (from - earlierOf i ss) (to - from) (o + from) s)
   there-behind o from to i [] s lt e h = absurd (Option·none-ne-some s e)
   there-behind o from to zero (t ∷ ss) s lt e h =
       let same : t ≡ s = Option·some-injective t s e in
@@ -151,7 +150,7 @@ module _ (rule : Rule) where
 pub next-stands : NextStands
 next-stands rule from to ss lt = go (located from ss) refl
   where
-    there : (l : Location) → located from ss ≡ At l → (v : Option Segment) → getElem? ss (l .index) ≡ v → next rule from to ss ≡ Option·map (pieceIn rule from to (l .earlier)) v
+    there : (l : Location) → located from ss ≡ At l → (v : Option Segment) → getElem? ss (l .index) ≡ v → next rule from to ss ≡ Option·map (pieceIn rule (from - l .earlier) (to - from) from) v
     there l e none v = absurd (omega (arith, none-above ss (l .index) v, holds-inside from (l .index) ss (said from ss (At l) e .0)))
     there l e (some s) v =
         let f = said from ss (At l) e in

@@ -12,10 +12,10 @@ use Rattle.srp.specs.Cutting.{upTo, piece, next}
 use Rattle.srp.specs.declared.Cut.{Cut}
 use Rattle.srp.specs.declared.Cut.the-variants.{CutPiece, CutDone}
 use Rattle.cut.specs.Walk.{nextWrapped}
-use Rattle.cut.specs.Locating.{earlierOf, located, HoldsOffset, pieceIn}
+use Rattle.cut.specs.Locating.{earlierOf, lengthAt, location, located, HoldsOffset, pieceIn}
 use Rattle.cut.specs.declared.locate.Location.{Location}
 use Rattle.cut.specs.declared.locate.Located.the-variants.{At, Behind}
-use Rattle.cut.proofs.Turns.{segmentFrom, segments-count, segment-in}
+use Rattle.cut.proofs.Segments.{segmentFrom, segments-count, segment-in}
 use Rattle.cut.proofs.Locating.{length-at, holds-inside, each-found, none-past, next-stands}
 
 -- ── the segment found, as its bytes say it
@@ -27,8 +27,14 @@ module _ (list : List ℕ) (from : ℕ) {l : Location} (e : located from (segmen
   holds : HoldsOffset from (l .index) (segmentsOf list)
   holds = each-found from (segmentsOf list) .holds l e .0
 
+  is-location : l ≡ location (l .index) (segmentsOf list)
+  is-location = each-found from (segmentsOf list) .holds l e .1
+
   sum : l .earlier ≡ earlierOf (l .index) (segmentsOf list)
-  sum = ap (λ (x : Location). x .earlier) (each-found from (segmentsOf list) .holds l e .1)
+  sum = ap (λ (x : Location). x .earlier) is-location
+
+  own : l .len ≡ lengthAt (l .index) (segmentsOf list)
+  own = ap (λ (x : Location). x .len) is-location
 
   pub inside : l .index < length list / 16
   inside = omega (arith, holds-inside from (l .index) (segmentsOf list) holds, segments-count (length list / 16) list)
@@ -39,11 +45,11 @@ module _ (list : List ℕ) (from : ℕ) {l : Location} (e : located from (segmen
   pub low : l .earlier ≤ from
   low = omega (arith, sum, holds .0)
 
-  pub long : l .len ≡ get (bytes (l .index * 16 + 12) 4) list
-  long = ap (λ (x : Location). x .len) (each-found from (segmentsOf list) .holds l e .1) ∙ length-at (l .index) (segmentsOf list) this read
+  long : l .len ≡ get (bytes (l .index * 16 + 12) 4) list
+  long = own ∙ length-at (l .index) (segmentsOf list) this read
 
   pub short : from - l .earlier < l .len
-  short = omega (arith, sum, ap (λ (x : Location). x .len) (each-found from (segmentsOf list) .holds l e .1), holds)
+  short = omega (arith, sum, own, holds)
 
 -- ── the next piece
 
@@ -58,7 +64,7 @@ module _ (list : List ℕ) (most from to : ℕ) where
   behind e = ap nextWrapped (sym (none-past (upTo most) 0 from to (segmentsOf list) (omega (arith, each-found from (segmentsOf list) .behind .0 e))))
 
   module _ {l : Location} (e : located from (segmentsOf list) ≡ At l) (lt : from < to) where
-    found : next (upTo most) from to (segmentsOf list) ≡ some (pieceIn (upTo most) from to (l .earlier) (this list from e))
+    found : next (upTo most) from to (segmentsOf list) ≡ some (pieceIn (upTo most) (from - l .earlier) (to - from) from (this list from e))
     found = next-stands (upTo most) from to (segmentsOf list) lt ∙ rw (e, read list from e)
 
     pub here : {a h m k : ℕ} → a ≡ get (bytes (l .index * 16 + 0) 8) list → h ≡ get (bytes (l .index * 16 + 8) 4) list

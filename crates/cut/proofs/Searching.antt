@@ -11,9 +11,8 @@ use lib.ListN.{length}
 use Rattle.srp.specs.Bytes.{bytes, get}
 use Rattle.srp.specs.Descriptors.{Segment, segmentsOf}
 use Rattle.cut.specs.Locating.{earlierOf, lengthAt, location, locatedFrom, located}
-use Rattle.cut.specs.declared.locate.Located.{Located}
 use Rattle.cut.specs.declared.locate.Located.the-variants.{At, Behind}
-use Rattle.cut.proofs.Turns.{segmentFrom, segments-count, segment-in}
+use Rattle.cut.proofs.Segments.{segmentFrom, segments-count, segment-in}
 use Rattle.cut.proofs.Locating.{earlier-next, length-at}
 
 -- what is left to be searched gives what the whole gives
@@ -36,27 +35,25 @@ module _ {list : List ℕ} {offset index earlier : ℕ} (w : Searching list offs
     long : lengthAt index ss ≡ n
     long = length-at index ss (segmentFrom list (index * 16)) (segment-in list index more) ∙ sym en
 
-    through : earlierOf index ss + lengthAt index ss ≡ earlier + n
-    through = omega (arith, w .sum, long)
+    -- the sum with this length decides: this segment, or those behind it
+    module _ {t : ℕ} (et : t ≡ earlier + n) where
+      through : earlierOf index ss + lengthAt index ss ≡ t
+      through = omega (arith, w .sum, long, et)
 
-    -- one segment, and those behind it
-    abbrev behind : Located
-    behind = locatedFrom (length list / 16 - suc index) (suc index) offset ss
+      seen : cond (ltb offset t) (At (location index ss)) (locatedFrom (length list / 16 - suc index) (suc index) offset ss) ≡ located offset ss
+      seen =
+          let e : length list / 16 - index ≡ suc (length list / 16 - suc index) = omega arith in
+          rw (← through) (sym (ap (λ (k : ℕ). locatedFrom k index offset ss) e)) ∙ w .same
 
-    seen : cond (ltb offset (earlier + n)) (At (location index ss)) behind ≡ located offset ss
-    seen =
-        let e : length list / 16 - index ≡ suc (length list / 16 - suc index) = omega arith in
-        rw (← through) (sym (ap (λ (k : ℕ). locatedFrom k index offset ss) e)) ∙ w .same
+    pub here : {t : ℕ} → offset < t → t ≡ earlier + n → At (record { index = index; len = n; earlier = earlier }) ≡ located offset ss
+    here {t} lt et = rw (w .sum, ← long) (rw (lt-ltb offset t lt) at (seen et))
 
-    pub here : offset < earlier + n → At (record { index = index; len = n; earlier = earlier }) ≡ located offset ss
-    here lt = rw (w .sum, ← long) (rw (lt-ltb offset (earlier + n) lt) at seen)
-
-    pub on : earlier + n ≤ offset → Searching list offset (index + 1) (earlier + n)
-    on le =
+    pub on : {t : ℕ} → t ≤ offset → t ≡ earlier + n → Searching list offset (index + 1) t
+    on {t} le et =
         let e : index + 1 ≡ suc index = omega arith in
-        let s : earlier + n ≡ earlierOf (suc index) ss = omega (arith, through, earlier-next index ss) in
+        let s : t ≡ earlierOf (suc index) ss = omega (arith, through et, earlier-next index ss) in
         rw e
-        (record { room = omega arith; sum = s; low = le; same = rw (le-ltb offset (earlier + n) le) at seen })
+        (record { room = omega arith; sum = s; low = le; same = rw (le-ltb offset t le) at (seen et) })
 
   pub end : length list / 16 ≤ index → Behind ≡ located offset ss
   end le =

@@ -15,7 +15,7 @@ use Rattle.srp.specs.Descriptors.{Segment, segmentsIn, segmentsOf, sumOf, reach
 use Rattle.cut.specs.Walk.{totalOf}
 use Rattle.cut.specs.declared.Total.{Total}
 use Rattle.cut.specs.declared.Total.the-variants.{Sum, Wrong}
-use Rattle.cut.proofs.Turns.{segment, turn}
+use Rattle.cut.proofs.Segments.{segment, turn}
 
 -- ── one segment
 

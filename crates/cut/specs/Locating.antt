@@ -22,6 +22,7 @@ earlierOf i ss = sumOf (take i ss)
 abbrev pub lengthAt : ℕ → List Segment → ℕ
 lengthAt i ss = elim (getElem? ss i) [ none ↦ 0 | some s ↦ s .len ]
 
+-- what is said of the segment with this index
 abbrev pub location : ℕ → List Segment → Location
 location i ss = record { index = i; len = lengthAt i ss; earlier = earlierOf i ss }
 
@@ -30,18 +31,18 @@ abbrev pub locatedFrom : (n i offset : ℕ) → List Segment → Located
 locatedFrom zero i offset ss = Behind
 locatedFrom (suc n) i offset ss = cond (ltb offset (earlierOf i ss + lengthAt i ss)) (At (location i ss)) (locatedFrom n (suc i) offset ss)
 
--- "the segment that holds an offset", with the sum of the earlier lengths, or that the offset is behind the last byte
+-- "the segment that holds an offset": its index and length, with the sum of the earlier lengths; or that the offset is behind the last byte
 abbrev pub located : ℕ → List Segment → Located
 located offset ss = locatedFrom (length ss) 0 offset ss
 
 -- ── what is found
 
 -- the segment with this index holds the offset: the earlier lengths do not pass it, and with its own they do
-abbrev pub HoldsOffset : ℕ → ℕ → List Segment → Type 0
+abbrev pub HoldsOffset : (offset i : ℕ) → List Segment → Type 0
 HoldsOffset offset i ss = (earlierOf i ss ≤ offset) × (offset < earlierOf i ss + lengthAt i ss)
 
--- a segment found holds the offset, and with it comes the sum of the earlier lengths; no other segment holds it, of length 0 or not; none is found
--- just where the offset is behind the last byte
+-- a segment found holds the offset, and with it come its length and the sum of the earlier ones; no other segment holds it, of length 0 or not;
+-- none is found just where the offset is behind the last byte
 pub record Finds (offset : ℕ) (ss : List Segment) : Type 0 where
   pub holds : (l : Location) → located offset ss ≡ At l → HoldsOffset offset (l .index) ss × (l ≡ location (l .index) ss)
   pub only : (i : ℕ) → HoldsOffset offset i ss → located offset ss ≡ At (location i ss)
@@ -52,16 +53,15 @@ EachFound = (offset : ℕ) (ss : List Segment) → Finds offset ss
 
 -- ── the next piece stands there
 
--- the piece at `from` of the bytes up to `to`, in a segment that `earlier` bytes come before
-abbrev pub pieceIn : Rule → (from to earlier : ℕ) → Segment → Piece
-pieceIn rule from to earlier s =
-    let within : ℕ = from - earlier in
-    piece (s .address + within) (s .handle) (rule (s .address + within) (min (s .len - within) (to - from))) from
+-- the piece that starts `within` bytes inside a segment, where `left` bytes of the move are left
+abbrev pub pieceIn : Rule → (within left offset : ℕ) → Segment → Piece
+pieceIn rule within left offset s = piece (s .address + within) (s .handle) (rule (s .address + within) (min (s .len - within) left)) offset
 
+-- the piece at `from` of the bytes up to `to`, in the segment found; none where none was
 abbrev pub nextAt : Rule → (from to : ℕ) → List Segment → Located → Option Piece
-nextAt rule from to ss (At l) = Option·map (pieceIn rule from to (l .earlier)) (getElem? ss (l .index))
+nextAt rule from to ss (At l) = Option·map (pieceIn rule (from - l .earlier) (to - from) from) (getElem? ss (l .index))
 nextAt rule from to ss Behind = none
 
--- whatever the rule of its length: the next piece of a move is the one in the segment that holds its offset
+-- where bytes of a move are left, and whatever the rule of a piece's length: the next piece is the one in the segment that holds its offset
 abbrev pub NextStands : Type 0
 NextStands = (rule : Rule) (from to : ℕ) (ss : List Segment) → from < to → next rule from to ss ≡ nextAt rule from to ss (located from ss)

@@ -30,7 +30,7 @@ searches =
     ∷ searchFor (5 ∷ 3 ∷ 7 ∷ []) 8 (holder 2 7 8)
     ∷ searchFor (5 ∷ 3 ∷ 7 ∷ []) 14 (holder 2 7 8)
     ∷ searchFor (5 ∷ 3 ∷ 7 ∷ []) 15 Behind
-    -- a segment of length 0 holds nothing and ends nothing: first, in the middle, last
+    -- a segment of length 0 holds nothing and ends nothing: first, in the middle, last; no segment
     ∷ searchFor (0 ∷ 5 ∷ []) 0 (holder 1 5 0)
     ∷ searchFor (5 ∷ 0 ∷ 0 ∷ 3 ∷ []) 5 (holder 3 3 5)
     ∷ searchFor (5 ∷ 0 ∷ []) 5 Behind

@@ -18,8 +18,8 @@ pub enum Located {
     Behind,
 }
 
-// Keeps the sum of the earlier lengths as it moves on, and adds each length once. It moves on only while the sum is not above the offset, so that
-// 64 bits hold it for a list of any length.
+// The segment that holds an offset, in one pass: the sum of the earlier lengths is kept, and each length added once. The search moves on only while
+// that sum is not above the offset, so that 64 bits hold it for a list of any length.
 pub fn find_segment(list: &[u8], offset: u32) -> Located
     ensures { λ r. ⌜ r ≡ located offset (segmentsOf (now (list .entry))) ⌝ }
 {

@@ -40,7 +40,7 @@ add-through c =
 
 returns : tie.Need-returns Inv-loop μ-loop
 returns c =
-    here (c .before .before .before .loop .inv) (c .before .before .loop-test .taken) (c .before .read32 .ensures) (omega arith)
+    here (c .before .before .before .loop .inv) (c .before .before .loop-test .taken) (c .before .read32 .ensures) (c .if1 .taken) (omega arith)
 
 add-index : tie.Need-add-index Inv-loop μ-loop
 add-index c =
@@ -52,7 +52,7 @@ loop-less c =
 
 loop-again : tie.Need-loop-again Inv-loop μ-loop
 loop-again c =
-    on (c .before .before .before .loop .inv) (c .before .before .loop-test .taken) (c .before .read32 .ensures) (omega arith)
+    on (c .before .before .before .loop .inv) (c .before .before .loop-test .taken) (c .before .read32 .ensures) (c .if1 .left) (omega arith)
 
 returns-2 : tie.Need-returns-2 Inv-loop μ-loop
 returns-2 c =
