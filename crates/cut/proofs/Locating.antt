@@ -26,6 +26,7 @@ earlier-next (suc i) [] = refl
 earlier-next zero (s ∷ ss) = omega arith
 earlier-next (suc i) (s ∷ ss) = omega (arith, earlier-next i ss)
 
+-- of a segment that there is
 pub length-at : (i : ℕ) (ss : List Segment) (s : Segment) → getElem? ss i ≡ some s → lengthAt i ss ≡ s .len
 length-at i ss s e = rw (lengthAt, e)
 
@@ -43,6 +44,7 @@ earlier-all (s ∷ ss) = rw (earlier-all ss)
 
 -- ── the segment that holds an offset
 
+-- it is one of the segments
 pub holds-inside : (offset i : ℕ) (ss : List Segment) → HoldsOffset offset i ss → i < length ss
 holds-inside offset zero [] h = omega (arith, h)
 holds-inside offset (suc i) [] h = omega (arith, h)
@@ -54,6 +56,7 @@ module _ (offset : ℕ) (ss : List Segment) where
   passed : (i : ℕ) → HoldsOffset offset i ss → offset < sumOf ss
   passed i h = omega (arith, h .1, earlier-next i ss, earlier-rises (suc i) (length ss) ss (holds-inside offset i ss h), earlier-all ss)
 
+  -- no later one holds it too
   not-later : (i j : ℕ) → HoldsOffset offset i ss → HoldsOffset offset j ss → j ≤ i
   not-later i j h k = go (ltb i j) refl
     where
@@ -77,6 +80,7 @@ module _ (offset : ℕ) (ss : List Segment) where
       go true t ih = ((h, ltb-true offset (earlierOf i ss + lengthAt i ss) t), refl)
       go false t ih = ih (omega (arith, earlier-next i ss, ltb-false offset (earlierOf i ss + lengthAt i ss) t))
 
+  -- of the whole search
   said : (r : Located) → located offset ss ≡ r → Says (length ss) r
   said r e = subst (Says (length ss)) e (from-there (length ss) 0 (length ss) (omega arith) (omega arith))
 
@@ -123,20 +127,20 @@ module _ (from to n : ℕ) (le : n ≤ from) where
 
 module _ (rule : Rule) where
   -- where o bytes came before the segments
-  there-behind : (o from to i : ℕ) (ss : List Segment) (s : Segment) → from < to → getElem? ss i ≡ some s → HoldsOffset from i ss
+  next-after : (o from to i : ℕ) (ss : List Segment) (s : Segment) → from < to → getElem? ss i ≡ some s → HoldsOffset from i ss
       → nextFrom rule o from to ss ≡ some (pieceIn rule (from - earlierOf i ss) (to - from) (o + from) s)
-  there-behind o from to i [] s lt e h = absurd (Option·none-ne-some s e)
-  there-behind o from to zero (t ∷ ss) s lt e h =
+  next-after o from to i [] s lt e h = absurd (Option·none-ne-some s e)
+  next-after o from to zero (t ∷ ss) s lt e h =
       let same : t ≡ s = Option·some-injective t s e in
       let a : from - 0 ≡ from = omega arith in
       let n : min (t .len) to - from ≡ min (t .len - from) (to - from) = omega (arith, h .1) in
       rw (← same, a, lt-ltb from (min (t .len) to) (omega (arith, h .1)), n)
-  there-behind o from to (suc i) (t ∷ ss) s lt e h =
+  next-after o from to (suc i) (t ∷ ss) s lt e h =
       let n : ℕ = t .len in
       let le : n ≤ from = omega (arith, h .0) in
       let at-most : earlierOf i ss ≤ from - n = omega (arith, h .0) in
       let above : from - n < earlierOf i ss + lengthAt i ss = omega (arith, h .1) in
-      let behind = there-behind (o + n) (from - n) (to - n) i ss s (omega arith) e (at-most, above) in
+      let behind = next-after (o + n) (from - n) (to - n) i ss s (omega arith) e (at-most, above) in
       rw (further-whole from to n le lt, le-ltb from n le)
       (rw (further-within from to n le (earlierOf i ss), further-left from to n le lt, further-offset from to n le o) at behind)
 
@@ -155,7 +159,7 @@ next-stands rule from to ss lt = go (located from ss) refl
     there l e (some s) v =
         let f = said from ss (At l) e in
         let z : 0 + from ≡ from = omega arith in
-        rw (ap (λ (x : Location). x .earlier) (f .1)) (rw z at (there-behind rule 0 from to (l .index) ss s lt v (f .0)))
+        rw (ap (λ (x : Location). x .earlier) (f .1)) (rw z at (next-after rule 0 from to (l .index) ss s lt v (f .0)))
 
     go : (r : Located) → located from ss ≡ r → next rule from to ss ≡ nextAt rule from to ss r
     go (At l) e = there l e (getElem? ss (l .index)) refl

@@ -1,6 +1,6 @@
 // exchange: an initiator and the port, through two queues. A login; commands with data both ways, direct and indirect; a disk's middle sent before its
-// start; the listing; an abort; buffers added, granted and withdrawn; a logout; a second login that the owner ends. Each message, each call and each
-// RDMA operation is a line.
+// start, a last byte before the others; the listing; an abort; buffers added, granted and withdrawn; a logout; a second login that the owner ends. Each
+// message, each call and each RDMA operation is a line.
 mod moves;
 
 use host::MESSAGE;
@@ -41,10 +41,11 @@ fn main() {
     let c = data_out(&mut port, &mut store, &mut to_port, &mut to_initiator, b);
     let d = both_ways(&mut port, &mut store, &mut to_port, &mut to_initiator, c);
     let e = moves::middle_first(&mut port, &mut store, &mut to_port, &mut to_initiator, d);
-    let f = two_open(&mut port, &mut store, &mut to_port, &mut to_initiator, e);
-    let g = abort(&mut port, &mut store, &mut to_port, &mut to_initiator, f);
-    let h = change_buffers(&mut port, &mut store, &mut to_port, &mut to_initiator, g);
-    log_out(&mut port, &mut store, &mut to_port, &mut to_initiator, h);
+    let f = moves::last_first(&mut port, &mut store, &mut to_port, &mut to_initiator, e);
+    let g = two_open(&mut port, &mut store, &mut to_port, &mut to_initiator, f);
+    let h = abort(&mut port, &mut store, &mut to_port, &mut to_initiator, g);
+    let i = change_buffers(&mut port, &mut store, &mut to_port, &mut to_initiator, h);
+    log_out(&mut port, &mut store, &mut to_port, &mut to_initiator, i);
     close(&mut port, &mut to_port, &mut to_initiator);
 }
 

@@ -50,8 +50,7 @@ pub fn past_the_end(segment: MemoryDescriptor) -> bool {
     u128::from(segment.address) + u128::from(segment.length) > 1 << 64
 }
 
-/// "The segment that holds an offset", and "the sum of the earlier lengths"; None behind the last byte. "The search
-/// keeps the sum of the earlier lengths as it moves on and adds none twice."
+/// "The segment that holds an offset", and "the sum of the earlier lengths"; None behind the last byte.
 fn holding(list: &[u8], offset: u64) -> Option<(MemoryDescriptor, u64)> {
     let mut earlier = 0;
     for segment in segments(list) {
