@@ -8,7 +8,8 @@ use Rattle.srp.specs.declared.Reply.{Reply}
 use Rattle.srp.specs.declared.Reply.the-variants.{Refused, Performed, NewCommand, TaskAnswered, CreditSettled, LoggedOut, Operation, Done, Accepted, Rejected, Counts, Listed}
 use Rattle.srp.specs.declared.Answer.{Answer}
 
--- what stands before a reply's values: the length of the message written, then of a take the kind of message taken; of a step 1 for an operation
+-- what stands before a reply's values: the length of the message written, then of a take the kind of message taken; of a step 1 for an operation, and for
+-- done the words of an operation, all 0, so that the number of either is the same word
 abbrev pub leading : ℕ → Reply → List ℤ
 leading wrote (Refused f) = pos wrote ∷ []
 leading wrote Performed = pos wrote ∷ []
@@ -16,8 +17,8 @@ leading wrote (NewCommand tag lun cdb) = pos wrote ∷ pos 1 ∷ []
 leading wrote (TaskAnswered tag lun) = pos wrote ∷ pos 2 ∷ []
 leading wrote CreditSettled = pos wrote ∷ pos 3 ∷ []
 leading wrote LoggedOut = pos wrote ∷ pos 4 ∷ []
-leading wrote (Operation k p) = pos 1 ∷ []
-leading wrote Done = []
+leading wrote (Operation k p n) = pos 1 ∷ []
+leading wrote (Done n) = replicate 6 (pos 0)
 leading wrote Accepted = pos wrote ∷ []
 leading wrote (Rejected reason) = pos wrote ∷ []
 leading wrote (Counts c) = []

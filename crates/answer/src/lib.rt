@@ -10,7 +10,7 @@ ghost use mathlib.Core.Path.{_≡_};
 ghost use Prim.Native.Nat.{ℕ};
 ghost use Rattle.srp.specs.Refusals.{numberOf, conductOf, reasonIn};
 ghost use Rattle.srp.specs.Answers.{refusing, kindNumber};
-ghost use Rattle.srp.specs.declared.Reply.the-variants.{NewCommand, Operation, Counts};
+ghost use Rattle.srp.specs.declared.Reply.the-variants.{NewCommand, Operation, Done, Counts};
 ghost use Rattle.answer.specs.Words.{answerWords};
 
 // The kind of message taken, in take's answer.
@@ -109,8 +109,8 @@ fn kind_number(k: Kind) -> u64
 }
 
 // The eight words that a call from C answers: those of an operation.
-pub fn operation_words(k: Kind, p: Piece) -> [u64; 8]
-    ensures { λ r. ⌜ ((wrote : ℕ) → r ≡ answerWords (record { reply = Operation k p; wrote = wrote })) ⌝ }
+pub fn operation_words(k: Kind, p: Piece, n: u32) -> [u64; 8]
+    ensures { λ r. ⌜ ((wrote : ℕ) → r ≡ answerWords (record { reply = Operation k p n; wrote = wrote })) ⌝ }
 {
     [
         1,
@@ -119,9 +119,16 @@ pub fn operation_words(k: Kind, p: Piece) -> [u64; 8]
         p.address,
         p.len as u64,
         p.offset as u64,
-        0,
+        n as u64,
         0,
     ]
+}
+
+// Those of a step that says done.
+pub fn done_words(n: u32) -> [u64; 8]
+    ensures { λ r. ⌜ ((wrote : ℕ) → r ≡ answerWords (record { reply = Done n; wrote = wrote })) ⌝ }
+{
+    [0, 0, 0, 0, 0, 0, n as u64, 0]
 }
 
 // Those of the counters.
@@ -169,8 +176,8 @@ pub fn words_of(a: Answer) -> [u64; 8]
         Reply::TaskAnswered { tag, lun } => [wrote, TASK, tag, lun, 0, 0, 0, 0],
         Reply::CreditSettled => [wrote, CREDIT_RESPONSE, 0, 0, 0, 0, 0, 0],
         Reply::LoggedOut => [wrote, LOGOUT, 0, 0, 0, 0, 0, 0],
-        Reply::Operation(k, p) => operation_words(k, p),
-        Reply::Done => [0, 0, 0, 0, 0, 0, 0, 0],
+        Reply::Operation(k, p, n) => operation_words(k, p, n),
+        Reply::Done(n) => done_words(n),
         Reply::Accepted => [wrote, 0, 0, 0, 0, 0, 0, 0],
         Reply::Rejected(reason) => [wrote, reason as u64, 0, 0, 0, 0, 0, 0],
         Reply::Counts(c) => counter_words(c),

@@ -15,7 +15,8 @@ use Rattle.cut.specs.Walk.{nextWrapped}
 use Rattle.cut.specs.Locating.{earlierOf, lengthAt, location, located, HoldsOffset, pieceIn}
 use Rattle.cut.specs.declared.locate.Location.{Location}
 use Rattle.cut.specs.declared.locate.Located.the-variants.{At, Behind}
-use Rattle.cut.proofs.Segments.{segmentFrom, segments-count, segment-in}
+use Rattle.srp.proofs.Segments.{segments-count}
+use Rattle.cut.proofs.Segments.{segmentFrom, segment-in}
 use Rattle.cut.proofs.Locating.{length-at, holds-inside, each-found, none-past, next-stands}
 
 -- ── the segment found, as its bytes say it

@@ -12,7 +12,8 @@ use Rattle.srp.specs.Bytes.{bytes, get}
 use Rattle.srp.specs.Descriptors.{Segment, segmentsOf}
 use Rattle.cut.specs.Locating.{earlierOf, lengthAt, location, locatedFrom, located}
 use Rattle.cut.specs.declared.locate.Located.the-variants.{At, Behind}
-use Rattle.cut.proofs.Segments.{segmentFrom, segments-count, segment-in}
+use Rattle.srp.proofs.Segments.{segments-count}
+use Rattle.cut.proofs.Segments.{segmentFrom, segment-in}
 use Rattle.cut.proofs.Locating.{earlier-next, length-at}
 
 -- what is left to be searched gives what the whole gives

@@ -31,10 +31,6 @@ turn list at rest more =
 
 -- ── by index
 
-pub segments-count : (k : ℕ) (list : List ℕ) → length (segmentsIn k list) ≡ k
-segments-count zero list = refl
-segments-count (suc k) list = rw (segments-count k (drop 16 list))
-
 at-index : (k i : ℕ) (list : List ℕ) → i < k → getElem? (segmentsIn k list) i ≡ some (segmentAt (drop (i * 16) list))
 at-index zero i list h = absurd (omega arith)
 at-index (suc k) zero list h = refl

@@ -12,9 +12,9 @@ use Rattle.srp.specs.Refusals.{firstOf}
 use Rattle.srp.specs.Descriptors.{segmentsOf, sumOf}
 use Rattle.srp.specs.Requests.{lookChecks, lookOutcome}
 use Rattle.srp.specs.Cutting.{upTo, next, cutNext, cutChecks, cutOutcome}
-use Rattle.srp.specs.Credit.{Port}
+use Rattle.srp.specs.Credit.{Open, Port}
 use Rattle.srp.specs.Take.{hasTag}
-use Rattle.srp.specs.Calls.{handOut, nextOf, planChecks, planOutcome, moveChecks, moveOutcome, stepChecks, stepOutcome, finishChecks, finishOutcome, addChecks, addOutcome, withdrawChecks, withdrawOutcome, grantChecks, grantOutcome, closeChecks, closeOutcome, countersChecks, countersOutcome, listChecks, listOutcome}
+use Rattle.srp.specs.Calls.{handOut, nextOf, numberIn, planChecks, planOutcome, moveChecks, moveOutcome, stepChecks, stepOutcome, finishChecks, finishOutcome, addChecks, addOutcome, withdrawChecks, withdrawOutcome, grantChecks, grantOutcome, closeChecks, closeOutcome, countersChecks, countersOutcome, listChecks, listOutcome}
 use Rattle.srp.specs.Outside.{lookInC, lookAnswer, cutInC, cutAnswer}
 use Rattle.srp.specs.Answers.{returned}
 use Rattle.srp.specs.Writing.{placed}
@@ -80,15 +80,18 @@ module _ (l b l′ b′ : List ℕ) (n : ℕ) (w : List ℕ) where
 
 pub judges-step : (l l′ st : List ℕ) (tag direction n : ℕ) (w : List ℕ) → StepInC l l′ st tag direction n w → JudgesStep l l′ st tag direction n w
 judges-step l l′ st tag direction n w P =
-    judge-steps (view l st) (stepOutcome (view l st) tag d) (unrefused (nextOf (view l st .terms) d (find (hasTag tag) (view l st .held)))) (stepChecks (view l st) tag) l st l′ n w (P .steps)
+    judge-steps (view l st) (stepOutcome (view l st) tag d) (unrefused (numberIn d c) (nextOf (view l st .terms) d c)) (stepChecks (view l st) tag) l st l′ n w (P .steps)
     (P .done)
   where
     d : Direction
     d = directionIn direction
 
-    unrefused : (x : Option Piece) → returned (handOut (view l st) tag d x .reply) ≡ 0
-    unrefused none = refl
-    unrefused (some o) = refl
+    c : Option Open
+    c = find (hasTag tag) (view l st .held)
+
+    unrefused : (k : ℕ) (x : Option Piece) → returned (handOut (view l st) tag d k x .reply) ≡ 0
+    unrefused k none = refl
+    unrefused k (some o) = refl
 
 -- ── counters and listing
 

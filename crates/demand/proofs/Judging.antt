@@ -102,14 +102,14 @@ module _ (p : Port) (o : Outcome) (unrefused : returned (o .reply) ≡ 0) where
 
   -- step: with words and no buffer
   pub judge-steps : (checks : List Check) (l st l′ : List ℕ) (n : ℕ) (w : List ℕ) → StepsInC l st l′ n w (unless (firstOf checks) p o)
-      → (unless (firstOf checks) p o .reply ≡ Done → l′ ≡ l)
+      → ((k : ℕ) → unless (firstOf checks) p o .reply ≡ Done k → l′ ≡ l)
       → Judgement checks n (Handed o l l′ st w) (λ f. (w ≡ noWords) × (l′ ≡ l))
   judge-steps checks l st l′ n w S done =
       judge checks n (Handed o l l′ st w) (λ f. (w ≡ noWords) × (l′ ≡ l)) (S .numbers .number ∙ number-is (firstOf checks))
       (λ e. record {
         words = S .numbers .words ∙ ap (λ (x : Option Refusal). answerWords (answerOf (unless x p o))) e;
         port = S .call .port ∙ ap (λ (x : Option Refusal). unless x p o .port) e;
-        done = λ d. done (ap (λ (x : Option Refusal). unless x p o .reply) e ∙ d);
+        done = λ k d. done k (ap (λ (x : Option Refusal). unless x p o .reply) e ∙ d);
       })
       (λ f e. (
         S .numbers .words ∙ ap (λ (x : Option Refusal). answerWords (answerOf (unless x p o))) e,

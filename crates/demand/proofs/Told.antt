@@ -15,7 +15,7 @@ use Rattle.srp.specs.Refusals.{Conduct, hangsUp, answered, stays, altersNothing
 use Rattle.srp.specs.Writing.{placed}
 use Rattle.srp.specs.Credit.{Open, Port}
 use Rattle.srp.specs.Take.{Outcome, silent, hasTag, isOpen, Tables, takeChecks, conducted, accepted, takeBy, takeDef}
-use Rattle.srp.specs.Calls.{unless, planChecks, planOutcome, planDef, moveChecks, moveOutcome, moveDef, addChecks, addOutcome, addDef, withdrawChecks, withdrawOutcome, withdrawDef, handOut, nextOf, stepChecks, stepDef, finalResponse, finishChecks, finishOutcome, finishDef, grantChecks, grantOutcome, grantDef, closeChecks, closeOutcome, closeDef}
+use Rattle.srp.specs.Calls.{unless, planChecks, planOutcome, planDef, moveChecks, moveOutcome, moveDef, addChecks, addOutcome, addDef, withdrawChecks, withdrawOutcome, withdrawDef, handOut, nextOf, numberIn, stepChecks, stepDef, finalResponse, finishChecks, finishOutcome, finishDef, grantChecks, grantOutcome, grantDef, closeChecks, closeOutcome, closeDef}
 use Rattle.srp.specs.Login.{loginChecks, rejections, loginBy, loginDef}
 use Rattle.srp.specs.Answers.{returned, sizeOf, answerOf}
 use Rattle.srp.specs.declared.Settings.{Settings}
@@ -116,15 +116,15 @@ module _ (p : Port) where
 
   -- its words have no message's length
   pub step-said : (tag : ℕ) (d : Direction) → replyBy stepped (returned (stepDef p tag d .reply)) (answerWords (answerOf (stepDef p tag d))) ≡ stepDef p tag d .reply
-  step-said tag d = go (firstOf (stepChecks p tag)) d (nextOf (p .terms) d (find (hasTag tag) (p .held)))
+  step-said tag d = let c = find (hasTag tag) (p .held) in go (firstOf (stepChecks p tag)) d (numberIn d c) (nextOf (p .terms) d c)
     where
-      go : (x : Option Refusal) (d : Direction) (y : Option Piece)
-          → let o : Outcome = unless x p (handOut p tag d y) in
+      go : (x : Option Refusal) (d : Direction) (n : ℕ) (y : Option Piece)
+          → let o : Outcome = unless x p (handOut p tag d n y) in
           replyBy stepped (returned (o .reply)) (answerWords (answerOf o)) ≡ o .reply
-      go (some f) d y = refused stepped f (answerWords (answerOf (silent p (Refused f))))
-      go none d none = refl
-      go none Out (some o) = refl
-      go none In (some o) = refl
+      go (some f) d n y = refused stepped f (answerWords (answerOf (silent p (Refused f))))
+      go none d n none = refl
+      go none Out n (some o) = refl
+      go none In n (some o) = refl
 
 -- plan, move, add, withdraw: they have no words
 abbrev pub Silent : Outcome → Type 0

@@ -131,7 +131,7 @@ JudgesMove l l′ tag direction offset count n =
 pub record Handed (o : Outcome) (l l′ st w : List ℕ) : Type 0 where
   pub words : w ≡ answerWords (answerOf o)
   pub port : view l′ st ≡ o .port
-  pub done : o .reply ≡ Done → l′ ≡ l
+  pub done : (k : ℕ) → o .reply ≡ Done k → l′ ≡ l
 
 abbrev pub JudgesStep : (l l′ st : List ℕ) (tag direction n : ℕ) (w : List ℕ) → Type 0
 JudgesStep l l′ st tag direction n w =

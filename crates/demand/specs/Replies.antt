@@ -34,12 +34,13 @@ taken w =
     (cond (eqb (getD w 1 0) 2) (TaskAnswered (getD w 2 0) (getD w 3 0))
     (cond (eqb (getD w 1 0) 3) CreditSettled LoggedOut))
 
--- step: 1 for an operation, with its kind (1 RDMA Read, 2 RDMA Write), handle, address, length and offset; 0 for done
+-- step: 1 for an operation, with its kind (1 RDMA Read, 2 RDMA Write), handle, address, length and offset; 0 for done; with either the number handed out
+-- for the current move
 abbrev pub stepped : List ℕ → Reply
 stepped w =
     cond (eqb (getD w 0 0) 1)
-    (Operation (cond (eqb (getD w 1 0) 1) Read Write) (piece (getD w 3 0) (getD w 2 0) (getD w 4 0) (getD w 5 0)))
-    Done
+    (Operation (cond (eqb (getD w 1 0) 1) Read Write) (piece (getD w 3 0) (getD w 2 0) (getD w 4 0) (getD w 5 0)) (getD w 6 0))
+    (Done (getD w 6 0))
 
 -- login: behind the message's length the reason of a rejection, 0 where it is accepted
 abbrev pub loggedIn : List ℕ → Reply

@@ -70,7 +70,7 @@ pub step-in-c : {l l′ st : List ℕ} {tag n : ℕ} {w : List ℕ} {d : Directi
     → StepInC l l′ st tag direction n w
 step-in-c {l} {l′} {st} {tag} {r = r} direction e S g =
     let D : Steps l l′ st tag (directionIn direction) r = subst (λ (x : Direction). Steps l l′ st tag x r) e S in
-    record { steps = steps-in-c (D .replies) g; done = λ q. D .done (D .replies .reply ∙ q) }
+    record { steps = steps-in-c (D .replies) g; done = λ k q. D .done k (D .replies .reply ∙ q) }
 
 -- a trace of the way w, which is that of the number
 pub trace-in-c : {w w′ : Way} (s : List ℕ) {before after : List ℕ} {r : Reply} {n : ℕ} → w ≡ w′ → Traced w s before after r → n ≡ returned r

@@ -1,5 +1,6 @@
 -- Replies that have no values, and so no words but a message's length. Assumes nothing.
 use mathlib.Core.Path.{_≡_, refl, sym, ap, subst}
+use mathlib.Core.Logic.{_⊎_, inl, inr, ⊎-elim}
 use mathlib.Core.List.{List, [], _∷_, _++_}
 use mathlib.Core.Option.{Option, none, some}
 use Prim.Native.Nat.{ℕ}
@@ -12,16 +13,16 @@ use Rattle.srp.specs.Refusals.{firstOf}
 use Rattle.srp.specs.Lists.{find, without}
 use Rattle.srp.specs.Credit.{Port}
 use Rattle.srp.specs.Take.{Outcome, hasTag}
-use Rattle.srp.specs.Calls.{unless, nextOf, handOut, stepChecks, stepDef, finishChecks, finishDef, grantChecks, grantDef, closeDef, countersDef, finishOutcome, grantOutcome, closeChecks, closeOutcome, countersChecks, countersOutcome}
+use Rattle.srp.specs.Calls.{unless, nextOf, numberIn, handOut, stepChecks, stepDef, finishChecks, finishDef, grantChecks, grantDef, closeDef, countersDef, finishOutcome, grantOutcome, closeChecks, closeOutcome, countersChecks, countersOutcome}
 use Rattle.srp.specs.Answers.{valuesOf, answerOf}
 use Rattle.srp.specs.declared.Refusal.{Refusal}
 use Rattle.srp.specs.declared.Direction.{Direction}
 use Rattle.srp.specs.declared.Piece.{Piece}
 use Rattle.srp.specs.declared.Answer.{Answer}
 use Rattle.srp.specs.declared.Reply.{Reply}
-use Rattle.srp.specs.declared.Reply.the-variants.{Performed}
+use Rattle.srp.specs.declared.Reply.the-variants.{Refused, Performed, Done}
 use Rattle.answer.specs.Words.{leading}
-use Rattle.exports.specs.Calls.{Plain, Wordless}
+use Rattle.exports.specs.Calls.{Plain, Wordless, Ends}
 
 pub plain-answer : (r : Answer) (o : Outcome) → r ≡ answerOf o → Plain (o .reply) → Plain (r .reply)
 plain-answer r o e P = subst (λ (a : Answer). Plain (a .reply)) (sym e) P
@@ -46,17 +47,28 @@ close-plain p room reason =
 abbrev pub but : ℕ → List ℕ
 but k = without (eqb k) (0 ∷ 1 ∷ 2 ∷ 3 ∷ 4 ∷ 5 ∷ 6 ∷ 7 ∷ 8 ∷ 9 ∷ 10 ∷ 11 ∷ [])
 
--- a step that gives no operation
-pub step-wordless : (p : Port) (tag : ℕ) (d : Direction) (r : Reply) → r ≡ stepDef p tag d .reply → OneOf (but 6) (tagOf the-type r) → Wordless r
-step-wordless p tag d r e k =
-    subst Wordless (sym e)
+-- a step that gives no operation says done, or refuses
+pub step-ends : (p : Port) (tag : ℕ) (d : Direction) (r : Reply) → r ≡ stepDef p tag d .reply → OneOf (but 6) (tagOf the-type r) → Ends r
+step-ends p tag d r e k =
+    subst Ends (sym e)
     (go (firstOf (stepChecks p tag)) (nextOf (p .terms) d (find (hasTag tag) (p .held))) (subst (λ (x : Reply). OneOf (but 6) (tagOf the-type x)) e k))
   where
-    go : (x : Option Refusal) (y : Option Piece) → OneOf (but 6) (tagOf the-type (unless x p (handOut p tag d y) .reply))
-        → Wordless (unless x p (handOut p tag d y) .reply)
-    go (some f) y k = refl
-    go none none k = refl
+    number : ℕ
+    number = numberIn d (find (hasTag tag) (p .held))
+
+    go : (x : Option Refusal) (y : Option Piece) → OneOf (but 6) (tagOf the-type (unless x p (handOut p tag d number y) .reply))
+        → Ends (unless x p (handOut p tag d number y) .reply)
+    go (some f) y k = inr (f, refl)
+    go none none k = inl (number, refl)
     go none (some o) k = absurd (miss (but 6) 6 tt k)
+
+-- a refusal among these has no word
+pub end-wordless : (r : Reply) → Ends r → OneOf (but 7) (tagOf the-type r) → Wordless r
+end-wordless r e k =
+    ⊎-elim
+    (λ (d : (n : ℕ) × (r ≡ Done n)). absurd (miss (but 7) 7 tt (subst (λ (x : Reply). OneOf (but 7) (tagOf the-type x)) (d .1) k)))
+    (λ (f : (f : Refusal) × (r ≡ Refused f)). subst Wordless (sym (f .1)) refl)
+    e
 
 -- counters that are refused
 pub counters-wordless : (p : Port) (r : Reply) → r ≡ countersDef p .reply → OneOf (but 10) (tagOf the-type r) → Wordless r

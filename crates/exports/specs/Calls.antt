@@ -1,6 +1,7 @@
 -- What the calls from C on a port promise: the number returned, the eight words of the answer, and all that the call of the same name promises.
 -- l and st are the port's words and its store before the call, l′ and st′ after it; b and b′ the lent buffer; n is returned, w are the words.
 use mathlib.Core.Path.{_≡_}
+use mathlib.Core.Logic.{_⊎_}
 use mathlib.Core.List.{List, [], _∷_, _++_}
 use Prim.Native.Nat.{ℕ, _/_}
 use lib.IntN.{pos}
@@ -10,8 +11,9 @@ use Rattle.srp.specs.Take.{Outcome, Tables, takeDef}
 use Rattle.srp.specs.Calls.{planDef, moveDef, stepDef, finishDef, addDef, withdrawDef, grantDef, closeDef, countersDef, listing, listDef}
 use Rattle.srp.specs.Login.{loginDef}
 use Rattle.srp.specs.Answers.{returned, valuesOf, answerOf}
+use Rattle.srp.specs.declared.Refusal.{Refusal}
 use Rattle.srp.specs.declared.Reply.{Reply}
-use Rattle.srp.specs.declared.Reply.the-variants.{Done}
+use Rattle.srp.specs.declared.Reply.the-variants.{Refused, Done}
 use Rattle.srp.specs.declared.Answer.{Answer}
 use Rattle.answer.specs.Words.{leading, answerWords}
 use Rattle.words.specs.View.{view}
@@ -41,6 +43,10 @@ Plain r = ((wrote : ℕ) → leading wrote r ++ valuesOf r ≡ pos wrote ∷ [])
 -- a reply without a word that is not 0, where no message is written
 abbrev pub Wordless : Reply → Type 0
 Wordless r = replicate 8 0 ≡ answerWords (record { reply = r; wrote = 0 })
+
+-- what a step says that hands out nothing: done, or a refusal
+abbrev pub Ends : Reply → Type 0
+Ends r = ((n : ℕ) × (r ≡ Done n)) ⊎ ((f : Refusal) × (r ≡ Refused f))
 
 -- step
 pub record StepsInC (l st l′ : List ℕ) (n : ℕ) (w : List ℕ) (o : Outcome) : Type 0 where
@@ -81,7 +87,7 @@ MoveInC l l′ tag direction offset count n =
 
 pub record StepInC (l l′ st : List ℕ) (tag direction n : ℕ) (w : List ℕ) : Type 0 where
   pub steps : StepsInC l st l′ n w (stepDef (view l st) tag (directionIn direction))
-  pub done : stepDef (view l st) tag (directionIn direction) .reply ≡ Done → l′ ≡ l
+  pub done : (k : ℕ) → stepDef (view l st) tag (directionIn direction) .reply ≡ Done k → l′ ≡ l
 
 abbrev pub FinishInC : (l b l′ b′ : List ℕ) (tag status : ℕ) (sense : List ℕ) (n : ℕ) (w : List ℕ) → Type 0
 FinishInC l b l′ b′ tag status sense n w = (st : List ℕ) → AnswersInC l st b l′ st b′ n w (finishDef (view l st) (length b) tag status sense)

@@ -17,7 +17,7 @@ ghost use Rattle.srp.specs.Writing.{placed};
 ghost use Rattle.words.specs.Sizes.{portWords};
 ghost use Rattle.report.specs.Reports.{slotRecords};
 ghost use Rattle.take.specs.Taking.{tables};
-ghost use Rattle.exports.specs.Calls.{Gives, Plain, Wordless, LoginInC, TakeInC, PlanInC, MoveInC, StepInC, FinishInC, AddInC, WithdrawInC, GrantInC, CloseInC, CountersInC, ListInC};
+ghost use Rattle.exports.specs.Calls.{Gives, Plain, Wordless, Ends, LoginInC, TakeInC, PlanInC, MoveInC, StepInC, FinishInC, AddInC, WithdrawInC, GrantInC, CloseInC, CountersInC, ListInC};
 ghost use Rattle.exports.specs.Arguments.{recordSize, recordWords, allWords, settingsIn, directionIn};
 
 // Words of a record.
@@ -49,6 +49,18 @@ fn give_nothing(answer: &mut [u64; 8], r: Reply) -> u32
 {
     *answer = [0; 8];
     answer::returned(r)
+}
+
+// The same for a step without an operation: done with its number, or a refusal.
+fn give_end(answer: &mut [u64; 8], r: Reply) -> u32
+    requires { ⌜ Ends r ⌝ }
+    ensures { λ n. ⌜ Gives n (now (answer .exit)) (record { reply = r; wrote = 0 }) ⌝ }
+{
+    let Reply::Done(n) = r else {
+        return give_nothing(answer, r);
+    };
+    *answer = answer::done_words(n);
+    0
 }
 
 fn settings_of(n: &[u32; 5]) -> Settings
@@ -156,10 +168,10 @@ pub extern "C" fn srp_target_step(
 {
     let d = direction_of(direction);
     let r = transfer::step(port, store, tag, d);
-    let Reply::Operation(k, p) = r else {
-        return give_nothing(answer, r);
+    let Reply::Operation(k, p, n) = r else {
+        return give_end(answer, r);
     };
-    *answer = answer::operation_words(k, p);
+    *answer = answer::operation_words(k, p, n);
     0
 }
 

@@ -81,7 +81,8 @@ pub fn message(way: Way, msg: &[u8]) {
     details(msg);
 }
 
-pub fn operation(kind: Kind, p: Piece) {
+// An operation, and how many its move has with it.
+pub fn operation(kind: Kind, p: Piece, n: u32) {
     match kind {
         Kind::Read => text(b"   RDMA Read  handle "),
         Kind::Write => text(b"   RDMA Write handle "),
@@ -90,6 +91,7 @@ pub fn operation(kind: Kind, p: Piece) {
     hexadecimal(b" address ", p.address, 16);
     number(b" length ", p.len as u64);
     number(b" offset ", p.offset as u64);
+    number(b" number ", n as u64);
     end();
 }
 
@@ -163,15 +165,15 @@ pub fn taken(r: Reply) {
     }
 }
 
-// A step, after so many pieces of its move; whether there may be more.
-pub fn stepped(r: Reply, pieces: usize) -> bool {
+// A step; whether there may be more.
+pub fn stepped(r: Reply) -> bool {
     match r {
-        Reply::Operation(kind, p) => {
-            operation(kind, p);
+        Reply::Operation(kind, p, n) => {
+            operation(kind, p, n);
             true
         }
-        Reply::Done => {
-            done(pieces);
+        Reply::Done(n) => {
+            done(n);
             false
         }
         _ => {
@@ -181,9 +183,10 @@ pub fn stepped(r: Reply, pieces: usize) -> bool {
     }
 }
 
-// A move without a piece is passed over.
-fn done(pieces: usize) {
-    if pieces != 0 {
-        text(b"   done\n");
+// The end of a move of n operations; one without any is passed over.
+fn done(n: u32) {
+    if n != 0 {
+        number(b"   done, number ", n as u64);
+        end();
     }
 }

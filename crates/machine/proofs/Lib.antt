@@ -1,6 +1,7 @@
 pub mod Tags
 pub mod Deltas
 pub mod Moves
+pub mod Answers
 pub mod Invariant
 pub mod Taking
 pub mod Steps

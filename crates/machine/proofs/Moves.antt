@@ -1,15 +1,15 @@
 -- One direction of a command as the machine follows it: the port keeps what is left of the move named last, and the pieces left are its cuts.
 -- Assumes nothing.
-use mathlib.Core.Path.{_≡_, refl, ap, sym, _∙_}
+use mathlib.Core.Path.{_≡_, refl, ap, sym, _∙_, subst}
 use mathlib.Core.Bool.{true}
 use mathlib.Core.List.{List, [], _∷_, _++_, append-nil, append-assoc}
-use mathlib.Core.Option.{Option, none, some}
+use mathlib.Core.Option.{Option, none, some, Option·none-ne-some, Option·some-injective}
 use Prim.Native.Nat.{ℕ, suc, _+_, _-_, _≤_, min, max}
 use native.Mathlib.Nat.{add-zero}
 use native.Mathlib.Omega.{arith}
 use lib.Dec.{ltb}
 use lib.ListN.{length, take, drop, getElem?, length-append, length-take}
-use lib.Seq.{take-append-le, drop-at}
+use lib.Seq.{take-append-le, drop-at, drop-length, drop-append-le}
 use borrow.Author.Tests.{lt-ltb, le-ltb}
 use Rattle.srp.specs.Lists.{All}
 use Rattle.srp.specs.Descriptors.{Segment, sumOf, reachable}
@@ -17,7 +17,7 @@ use Rattle.srp.specs.Cutting.{bytesIn, trimmed, highest, cutsOf, cuts, next}
 use Rattle.srp.specs.Credit.{Side, ruleOf}
 use Rattle.srp.specs.declared.Terms.{Terms}
 use Rattle.srp.specs.Calls.{moving, handing, hasPieces, nextIn}
-use Rattle.machine.specs.Machine.{Move, Progress, movableIn, fresh, needing, withMove, withOperation}
+use Rattle.machine.specs.Machine.{Move, Progress, lastOf, soFar, movableIn, fresh, needing, withMove, withOperation}
 use Rattle.machine.specs.Events.{cutsOfAll, wholeOf, piecesLeft}
 use Rattle.machine.specs.Demand.{Prefix, EachCut}
 use Rattle.srp.specs.declared.Piece.{Piece}
@@ -27,10 +27,12 @@ use Rattle.srp.proofs.Moves.{move-bytes, moves-cut}
 use Rattle.srp.proofs.ListLaws.{all-snoc, all-weaken}
 
 -- the end of the move named last, 0 where none was
+abbrev pub toOf : Option Move → ℕ
+toOf none = 0
+toOf (some m) = m .to
+
 abbrev pub endOf : List Move → ℕ
-endOf [] = 0
-endOf (m ∷ []) = m .to
-endOf (m ∷ n ∷ ms) = endOf (n ∷ ms)
+endOf ms = toOf (lastOf ms)
 
 -- the cuts of its moves that were not handed out
 abbrev pub leftOf : Terms → Progress → List Piece
@@ -45,8 +47,13 @@ abbrev pub sideIn : Terms → Progress → Side
 sideIn T g =
     record {
       extent = record { segs = g .segs; total = sumOf (g .segs) };
-      transfer = record { required = g .required; highest = highest (g .operations); at = atOf T g; end = endOf (g .moves) };
+      transfer = record { required = g .required; highest = highest (g .operations); at = atOf T g; end = endOf (g .moves); number = soFar g };
     }
+
+-- of the move m named last, the pieces handed out and those left are its cuts
+pub record Current (T : Terms) (g : Progress) (m : Move) : Type 0 where
+  pub forward : m .from ≤ m .to
+  pub parts : drop (g .earlier) (g .operations) ++ leftOf T g ≡ cutsOf (ruleOf T) (m .from) (m .to) (g .segs)
 
 -- the operations are the first of the moves' cuts; those left are the cuts of what is left of the move named last, which ends by min(R, B); no segment
 -- passes 2^64; every move ends by B
@@ -54,15 +61,17 @@ pub record Steady (T : Terms) (g : Progress) : Type 0 where
   pub order : Prefix T g
   pub left : leftOf T g ≡ cutsOf (ruleOf T) (atOf T g) (endOf (g .moves)) (g .segs)
   pub ends : endOf (g .moves) ≤ movableIn g
+  pub early : g .earlier ≤ length (g .operations)
+  pub current : (m : Move) → lastOf (g .moves) ≡ some m → Current T g m
   pub reach : reachable (g .segs) ≡ true
   pub bounded : All (λ m. m .to ≤ sumOf (g .segs)) (g .moves)
 
 -- ── lists
 
-end-snoc : (ms : List Move) (m : Move) → endOf (ms ++ (m ∷ [])) ≡ m .to
-end-snoc [] m = refl
-end-snoc (x ∷ []) m = refl
-end-snoc (x ∷ y ∷ ms) m = end-snoc (y ∷ ms) m
+last-snoc : (ms : List Move) (m : Move) → lastOf (ms ++ (m ∷ [])) ≡ some m
+last-snoc [] m = refl
+last-snoc (x ∷ []) m = refl
+last-snoc (x ∷ y ∷ ms) m = last-snoc (y ∷ ms) m
 
 whole-snoc : (T : Terms) (ss : List Segment) (ms : List Move) (m : Move) → cutsOfAll (ruleOf T) ss (ms ++ (m ∷ [])) ≡ cutsOfAll (ruleOf T) ss ms ++ cutsOf (ruleOf T) (m .from) (m .to) ss
 whole-snoc T ss [] m = append-nil (cutsOf (ruleOf T) (m .from) (m .to) ss)
@@ -85,13 +94,31 @@ one-move T R ss =
 -- ── a command that is new, and its plan
 
 pub new-steady : (T : Terms) (ss : List Segment) → reachable ss ≡ true → Steady T (fresh ss)
-new-steady T ss r = record { order = refl; left = sym (stops (ruleOf T) 0 0 0 ss (done-iff (ruleOf T) 0 0 ss (omega arith) .1 (omega arith))); ends = omega arith; reach = r; bounded = tt }
+new-steady T ss r =
+    record {
+      order = refl;
+      left = sym (stops (ruleOf T) 0 0 0 ss (done-iff (ruleOf T) 0 0 ss (omega arith) .1 (omega arith)));
+      ends = omega arith;
+      early = omega arith;
+      current = λ m e. absurd (Option·none-ne-some m e);
+      reach = r;
+      bounded = tt;
+    }
 
 pub plan-steady : (T : Terms) (r : ℕ) (g : Progress) → Steady T g → g .moves ≡ [] → Steady T (needing r g)
-plan-steady T r g s e = record { order = s .order; left = s .left; ends = rw e (omega arith); reach = s .reach; bounded = s .bounded }
+plan-steady T r g s e =
+    record {
+      order = s .order;
+      left = s .left;
+      ends = rw e (omega arith);
+      early = s .early;
+      current = λ m f. record { forward = s .current m f .forward; parts = s .current m f .parts };
+      reach = s .reach;
+      bounded = s .bounded;
+    }
 
 module _ (T : Terms) (cut : Lawful (ruleOf T)) (g : Progress) (s : Steady T g) where
-  ends-by : endOf (g .moves) ≤ sumOf (g .segs)
+  pub ends-by : endOf (g .moves) ≤ sumOf (g .segs)
   ends-by = omega (arith, s .ends)
 
   bytes-left : bytesIn (leftOf T g) ≡ endOf (g .moves) - atOf T g
@@ -144,6 +171,14 @@ module _ (T : Terms) (cut : Lawful (ruleOf T)) (g : Progress) (s : Steady T g) w
         rw one-longer
         (sym (take-more (wholeOf T g) (length (g .operations)) o (turn ∙ e) ∙ ap (λ (l : List Piece). l ++ (o ∷ [])) (sym (s .order))))
 
+    -- the piece goes from those left to those handed out
+    split : drop (g .earlier) (g .operations) ++ leftOf T g ≡ drop (g .earlier) (g .operations ++ (o ∷ [])) ++ leftOf T (withOperation o g)
+    split =
+        let handed = drop (g .earlier) (g .operations) in
+        let left = leftOf T (withOperation o g) in
+        ap (λ (l : List Piece). handed ++ l) left-next
+        ∙ sym (ap (λ (l : List Piece). l ++ left) (drop-append-le (g .earlier) (g .operations) (o ∷ []) (s .early)) ∙ append-assoc handed (o ∷ []) left)
+
     -- the command with the piece handed out is followed as it was
     pub step-steady : Steady T (withOperation o g)
     step-steady =
@@ -154,6 +189,8 @@ module _ (T : Terms) (cut : Lawful (ruleOf T)) (g : Progress) (s : Steady T g) w
           order = next-prefix;
           left = t ∙ ap (λ (k : ℕ). cutsOf (ruleOf T) k (endOf (g .moves)) (g .segs)) (sym at-next);
           ends = s .ends;
+          early = omega (arith, one-longer, s .early);
+          current = λ m f. record { forward = s .current m f .forward; parts = sym split ∙ s .current m f .parts };
           reach = s .reach;
           bounded = s .bounded;
         }
@@ -162,7 +199,8 @@ module _ (T : Terms) (cut : Lawful (ruleOf T)) (g : Progress) (s : Steady T g) w
     pub step-side : handing (o .len) (sideIn T g) ≡ sideIn T (withOperation o g)
     step-side =
         let h : max (highest (g .operations)) (atOf T g + o .len) ≡ highest (g .operations ++ (o ∷ [])) = high (highest (g .operations)) (atOf T g) (o .offset) (fits .offset) ∙ sym (highest-snoc (g .operations) o) in
-        λ i. record { extent = sideIn T g .extent; transfer = record { required = g .required; highest = h i; at = sym at-next i; end = endOf (g .moves) } }
+        let n : soFar g + 1 ≡ soFar (withOperation o g) = omega (arith, one-longer, s .early) in
+        λ i. record { extent = sideIn T g .extent; transfer = record { required = g .required; highest = h i; at = sym at-next i; end = endOf (g .moves); number = n i } }
       where
         high : (a b c : ℕ) → c ≡ 0 + b → max a (b + o .len) ≡ max a (c + o .len)
         high a b c q = ap (λ (k : ℕ). max a (k + o .len)) (omega arith)
@@ -188,8 +226,11 @@ module _ (T : Terms) (cut : Lawful (ruleOf T)) (g : Progress) (s : Steady T g) w
     left-new : leftOf T new ≡ theirs
     left-new = ap (drop (length (g .operations))) whole-new ∙ drop-at (wholeOf T g) theirs (length (g .operations)) as-long
 
+    last-new : lastOf (new .moves) ≡ some (record { from = offset; to = to })
+    last-new = last-snoc (g .moves) (record { from = offset; to = to })
+
     end-new : endOf (new .moves) ≡ to
-    end-new = end-snoc (g .moves) (record { from = offset; to = to })
+    end-new = ap toOf last-new
 
     at-new : atOf T new ≡ offset
     at-new =
@@ -203,9 +244,13 @@ module _ (T : Terms) (cut : Lawful (ruleOf T)) (g : Progress) (s : Steady T g) w
           order = s .order ∙ sym (ap (take (length (g .operations))) whole-new ∙ take-append-le (length (g .operations)) (wholeOf T g) theirs (omega (arith, as-long)));
           left = left-new ∙ (λ i. cutsOf (ruleOf T) (sym at-new i) (sym end-new i) (g .segs));
           ends = rw end-new (omega arith);
+          early = omega arith;
+          current = λ m e. subst (Current T new) (Option·some-injective _ m (sym last-new ∙ e)) (record { forward = omega arith; parts = rw (drop-length (g .operations)) left-new });
           reach = s .reach;
           bounded = all-snoc (λ x. x .to ≤ sumOf (g .segs)) (g .moves) (record { from = offset; to = to }) (s .bounded) (omega arith);
         }
 
     pub move-side : moving offset count (sideIn T g) ≡ sideIn T new
-    move-side = λ i. record { extent = sideIn T g .extent; transfer = record { required = g .required; highest = highest (g .operations); at = sym at-new i; end = sym end-new i } }
+    move-side =
+        let none-yet : 0 ≡ soFar new = omega arith in
+        λ i. record { extent = sideIn T g .extent; transfer = record { required = g .required; highest = highest (g .operations); at = sym at-new i; end = sym end-new i; number = none-yet i } }

@@ -20,9 +20,9 @@ use Rattle.srp.specs.Credit.{Side, movable, withSides, onSide, Open, ruleOf, Po
 use Rattle.srp.specs.declared.Terms.{Terms}
 use Rattle.srp.specs.Writing.{response, creditRequest}
 use Rattle.srp.specs.Take.{Outcome, silent, answering, hasTag, isOpen}
-use Rattle.srp.specs.Calls.{unless, isPlanned, planned, planChecks, planDef, moving, beyond, hasPieces, unfinished, moveChecks, moveDef, kindOf, handing, nextIn, nextOf, wrapped, handOut, stepChecks, stepDef, finalOf, finalResponse, finishChecks, finishDef, addChecks, addDef, withdrawChecks, withdrawDef, grantChecks, grantDef}
+use Rattle.srp.specs.Calls.{unless, isPlanned, planned, planChecks, planDef, moving, beyond, hasPieces, unfinished, moveChecks, moveDef, kindOf, handing, nextIn, nextOf, numberIn, wrapped, handOut, stepChecks, stepDef, finalOf, finalResponse, finishChecks, finishDef, addChecks, addDef, withdrawChecks, withdrawDef, grantChecks, grantDef}
 use Rattle.srp.specs.Answers.{refusalIn}
-use Rattle.machine.specs.Machine.{deltas, requests, Progress, movableIn, Track, plannedFor, withMove, withOperation, Work, Machine, tracked, withWork, withTracks, Login}
+use Rattle.machine.specs.Machine.{deltas, requests, Progress, soFar, movableIn, Track, plannedFor, withMove, withOperation, Work, Machine, tracked, withWork, withTracks, Login}
 use Rattle.machine.specs.Actions.{Owners, byOwner, atFront, between}
 use Rattle.machine.specs.Events.{sending, delivered, delivering, planning, wholeOf, isBeyond, isUnfinished, naming, saidOf, Right, stepping, finishing, adding, withdrawing, granting}
 use Rattle.srp.specs.declared.Refusal.{Refusal}
@@ -37,27 +37,11 @@ use Rattle.srp.proofs.CutLaws.{Lawful, some-below, none-above}
 use Rattle.srp.proofs.Pieces.{wrapped-same}
 use Rattle.machine.proofs.Deltas.{response-carries, request-carries}
 use Rattle.srp.proofs.Refusing.{unrefused, unless-iff}
-use Rattle.machine.proofs.Moves.{sideIn, atOf, endOf, Steady, plan-steady, coming, turn, same-left, step-steady, step-side, move-steady, move-side}
+use Rattle.machine.proofs.Moves.{sideIn, atOf, endOf, Steady, plan-steady, coming, same-left, step-steady, step-side, move-steady, move-side}
+use Rattle.machine.proofs.Answers.{next-right, last-right}
 use Rattle.machine.proofs.Invariant.{openIn, Sound, Follows, Ok, find-same, open-same, lacks, wanted-same, with-work, with-wire, with-wanted, Fine, Obeys, obeying, quiet, few, pays, responds}
 
--- ── a command's own cuts
-
-module _ (T : Terms) (cut : Lawful (ruleOf T)) (g : Progress) (s : Steady T g) where
-  next-right : (o : Piece) → coming T cut g s ≡ some o → (d : Direction) → Right T d g (Operation (kindOf d) o)
-  next-right o e d =
-      let t = turn T cut g s ∙ e in
-      record {
-        in-turn = sym (ap (saidOf d) t);
-        done-iff = ((λ f. let z : _≡_ {A = ℕ} 0 1 = cc in absurd (omega arith)), λ f. absurd (omega (arith, ap length f, some-below (wholeOf T g) (length (g .operations)) o t)));
-      }
-
-  last-right : coming T cut g s ≡ none → (d : Direction) → Right T d g Done
-  last-right e d =
-      let t = turn T cut g s ∙ e in
-      record {
-        in-turn = sym (ap (saidOf d) t);
-        done-iff = (λ f. s .order ∙ take-all (length (g .operations)) (wholeOf T g) (none-above (wholeOf T g) (length (g .operations)) t), λ f. refl);
-      }
+-- ── a plan
 
 -- before the plan no move was named, so that the plan may state any lengths
 sound-plan : (T : Terms) (a b : ℕ) (t : Track) → Sound T t → t .planned ≡ false → Sound T (plannedFor a b t)
@@ -288,7 +272,14 @@ module _ {L : Login} {m : Machine} {p : Port} (h : Ok L m p) where
     abbrev offered : Option Piece
     offered = nextOf (p .terms) d (find (hasTag tag) (p .held))
 
+    abbrev number : ℕ
+    number = numberIn d (find (hasTag tag) (p .held))
+
     module _ (t : Track) (f : tracked m tag ≡ some t) where
+      -- the number handed out for its current move, in the machine and in the port
+      number-of : soFar (here t f) ≡ number
+      number-of = sym (ap (numberIn d) (found tag t f) ∙ ap (λ (s : Side). s .transfer .number) (side-of t f))
+
       -- a command's next piece, in the port and in the machine
       next-of : (v : Option Piece) → offered ≡ v → coming T cut (here t f) (steady-of t f) ≡ v
       next-of v e = sym (ap (nextIn T) (side-of t f)) ∙ sym (ap (nextOf T d) (found tag t f)) ∙ rw (h .terms) at e
@@ -299,11 +290,12 @@ module _ {L : Login} {m : Machine} {p : Port} (h : Ok L m p) where
           wrapped-same (ruleOf T) (atOf T (here t f)) (endOf (here t f .moves)) (here t f .segs) o (steady-of t f .reach) cut (next-of (some o) e)
 
       -- a step hands out the next of the command's own cuts, or says done when there is none
-      right : (v : Option Piece) → offered ≡ v → Right T d (here t f) (handOut p tag d v .reply)
-      right none e = last-right T cut (here t f) (steady-of t f) (next-of none e) d
+      right : (v : Option Piece) → offered ≡ v → Right T d (here t f) (handOut p tag d number v .reply)
+      right none e = subst (λ (k : ℕ). Right T d (here t f) (Done k)) number-of (last-right T cut (here t f) (steady-of t f) d (next-of none e))
       right (some o) e =
-          subst (λ (x : Piece). Right T d (here t f) (Operation (kindOf d) x)) (sym (unwrapped o e))
-          (next-right T cut (here t f) (steady-of t f) o (next-of (some o) e) d)
+          subst (λ (k : ℕ). Right T d (here t f) (Operation (kindOf d) (wrapped o) (k + 1))) number-of
+          (subst (λ (x : Piece). Right T d (here t f) (Operation (kindOf d) x (soFar (here t f) + 1))) (sym (unwrapped o e))
+          (next-right T cut (here t f) (steady-of t f) d o (next-of (some o) e)))
 
     -- the piece goes to the command's operations, in the port and in the machine
     hands-on : (o : Piece) → offered ≡ some o → isPlanned (find (hasTag tag) (p .held)) ≡ true
@@ -317,20 +309,20 @@ module _ {L : Login} {m : Machine} {p : Port} (h : Ok L m p) where
         subst (λ (x : Piece). Steady T (withOperation x (here t f))) (sym (unwrapped t f o e))
         (step-steady T cut (here t f) (steady-of t f) o (next-of t f (some o) e)))
 
-    hand-unrefused : (v : Option Piece) → refusalIn (handOut p tag d v .reply) ≡ none
+    hand-unrefused : (v : Option Piece) → refusalIn (handOut p tag d number v .reply) ≡ none
     hand-unrefused none = refl
     hand-unrefused (some o) = refl
 
     pub step-obeys : Obeys L m (byOwner (stepping L tag d)) (stepDef p tag d)
     step-obeys =
-        owned (stepping L tag d) (firstOf (stepChecks p tag)) (handOut p tag d offered) (rw (h .live, open-same h tag, plan-same tag)) (hand-unrefused offered) λ z.
+        owned (stepping L tag d) (firstOf (stepChecks p tag)) (handOut p tag d number offered) (rw (h .live, open-same h tag, plan-same tag)) (hand-unrefused offered) λ z.
         hands (passes (stepChecks p tag) z) offered refl
       where
-        hands : All (λ c. c .0 ≡ false) (stepChecks p tag) → (v : Option Piece) → offered ≡ v → Unrefused (stepping L tag d) (handOut p tag d v)
-        hands c none e = record { fine = quiet h Done; wrote = refl; answer = λ t f. right t f none e }
+        hands : All (λ c. c .0 ≡ false) (stepChecks p tag) → (v : Option Piece) → offered ≡ v → Unrefused (stepping L tag d) (handOut p tag d number v)
+        hands c none e = record { fine = quiet h (Done number); wrote = refl; answer = λ t f. right t f none e }
         hands c (some o) e =
             record {
-              fine = quiet (hands-on o e (not-false _ (c .1 .1 .0))) (Operation (kindOf d) (wrapped o));
+              fine = quiet (hands-on o e (not-false _ (c .1 .1 .0))) (Operation (kindOf d) (wrapped o) (number + 1));
               wrote = refl;
               answer = λ t f. right t f (some o) e;
             }

@@ -1,4 +1,4 @@
--- Document 01, "Credit", and document 02, job 1: the events of demand 3, each in one definition (specs/Actions.antt has what an event is).
+-- Document 01, "Credit", and document 02, jobs 1 and 4: the events of demand 3, each in one definition (specs/Actions.antt has what an event is).
 use mathlib.Core.Path.{_≡_}
 use mathlib.Core.Logic.{_↔_}
 use mathlib.Core.Bool.{Bool, true, false, cond, not, _&&_, _||_}
@@ -16,16 +16,18 @@ use Rattle.srp.specs.Requests.{isRequest}
 use Rattle.srp.specs.Cutting.{Rule, cutsOf}
 use Rattle.srp.specs.Descriptors.{Segment}
 use Rattle.srp.specs.Credit.{onSide, ruleOf}
+use Rattle.srp.specs.Fewest.{Fewest}
 use Rattle.srp.specs.declared.Terms.{Terms}
 use Rattle.srp.specs.Writing.{response}
 use Rattle.srp.specs.Take.{silent, hasTag, Tables, tablesFit, fieldsFit, aborted, takeDef}
 use Rattle.srp.specs.Calls.{isPlanned, kindOf, badSense, planDef, moveDef, stepDef, finishDef, addDef, withdrawDef, grantDef}
 use Rattle.srp.specs.Answers.{refusalIn, operationIn}
 use Rattle.machine.specs.Actions.{Action, always, anything, atFront, between, Owners, byOwner}
-use Rattle.machine.specs.Machine.{deltaOf, Move, Progress, movableIn, Track, finalBy, newTrack, plannedFor, withMove, withOperation, Machine, lack, unused, wantedBy, tracked, withWire, withWork, withBuffers, withQueue, withTracks, tookRequest, saysLogout, join, Login, read}
+use Rattle.machine.specs.Machine.{deltaOf, Move, Progress, lastOf, soFar, movableIn, Track, finalBy, newTrack, plannedFor, withMove, withOperation, Machine, lack, unused, wantedBy, tracked, withWire, withWork, withBuffers, withQueue, withTracks, tookRequest, saysLogout, join, Login, read}
 use Rattle.srp.specs.declared.Refusal.{Refusal}
 use Rattle.srp.specs.declared.Refusal.the-variants.{TableLength, Fields, Argument, NoCredit, TagOpen, TagNotOpen, CreditResponse, Unanswered, NotOwed, Wanted, Unplanned, Planned, Offset, Unfinished}
 use Rattle.srp.specs.declared.Direction.{Direction}
+use Rattle.srp.specs.declared.Kind.{Kind}
 use Rattle.srp.specs.declared.Piece.{Piece}
 use Rattle.srp.specs.declared.Message.{Message}
 use Rattle.srp.specs.declared.Message.the-variants.{Bad, Cmd, TskMgmt, CredRsp, ILogout}
@@ -190,16 +192,27 @@ naming L tag d offset count =
       answer = anything;
     }
 
--- what a step says of the piece whose turn it is
-abbrev pub saidOf : Direction → Option Piece → Reply
-saidOf d none = Done
-saidOf d (some o) = Operation (kindOf d) o
+-- what a step says of the piece whose turn it is, where n were handed out for the current move before it
+abbrev pub saidOf : Direction → (n : ℕ) → Option Piece → Reply
+saidOf d n none = Done n
+saidOf d n (some o) = Operation (kindOf d) o (n + 1)
 
--- an unrefused step's reply r is the next of them, in its direction's kind; and it "says done exactly when all those of its command and
--- direction were handed out before it"
+abbrev pub SaysDone : Reply → Type 0
+SaysDone r = (n : ℕ) × (r ≡ Done n)
+
+-- n is the number of operations of the current move as a whole: "For a finished move this is the length of its cut list, and every other list .. has at
+-- least as many"
+abbrev pub CurrentFewest : Terms → Progress → ℕ → Type 0
+CurrentFewest T g n = (m : Move) → lastOf (g .moves) ≡ some m → Fewest T (m .from) (m .to) (g .segs) n
+
+-- an unrefused step's reply r is the next of them, in its direction's kind, with "the number handed out so far for the current move"; it "says done exactly
+-- when all those of its command and direction were handed out before it"; and the number that comes with done, and with the last piece before it, is the
+-- least for the move
 pub record Right (T : Terms) (d : Direction) (g : Progress) (r : Reply) : Type 0 where
-  pub in-turn : r ≡ saidOf d (getElem? (wholeOf T g) (length (g .operations)))
-  pub done-iff : (r ≡ Done) ↔ (g .operations ≡ wholeOf T g)
+  pub in-turn : r ≡ saidOf d (soFar g) (getElem? (wholeOf T g) (length (g .operations)))
+  pub done-iff : SaysDone r ↔ (g .operations ≡ wholeOf T g)
+  pub finished : (n : ℕ) → r ≡ Done n → CurrentFewest T g n
+  pub last : (k : Kind) (o : Piece) (n : ℕ) → r ≡ Operation k o n → piecesLeft T (withOperation o g) ≡ false → CurrentFewest T g n
 
 abbrev pub stepping : Login → ℕ → Direction → Owners
 stepping L tag d =

@@ -1,11 +1,12 @@
--- Document 01, "Credit", from "The two-ended machine" on, and document 02, job 1: the initiator, two queues and the port, fed the events' arguments, the
+-- Document 01, "Credit", from "The two-ended machine" on, and document 02, jobs 1 and 4: the initiator, two queues and the port, fed the events' arguments, the
 -- calls' replies and the messages written, as bytes. Of the port's state the machine is given nothing here, and D alone where specs/Demand.antt states
 -- the sum. What each event does to it is specs/Events.antt.
 use mathlib.Core.Bool.{Bool, true, false, cond, _||_}
 use mathlib.Core.List.{List, [], _∷_, _++_}
-use mathlib.Core.Option.{Option, none}
+use mathlib.Core.Option.{Option, none, some}
 use Prim.Native.Nat.{ℕ, _+_, _-_, min}
 use lib.Dec.{eqb}
+use lib.ListN.{length}
 use Rattle.srp.specs.Bytes.{get, typeOf}
 use Rattle.srp.specs.Messages.{delta, rsp, credReq, tLogout}
 use Rattle.srp.specs.Lists.{find}
@@ -57,12 +58,23 @@ pub record Move : Type 0 where
   pub from : ℕ
   pub to : ℕ
 
--- one direction: its segments, R, the moves in the order named, and the operations handed out so far
+-- one direction: its segments, R, the moves in the order named, the operations handed out so far, and how many of these before its last move was named
 pub record Progress : Type 0 where
   pub segs : List Segment
   pub required : ℕ
   pub moves : List Move
   pub operations : List Piece
+  pub earlier : ℕ
+
+-- its current move is the one named last
+abbrev pub lastOf : List Move → Option Move
+lastOf [] = none
+lastOf (m ∷ []) = some m
+lastOf (m ∷ n ∷ ms) = lastOf (n ∷ ms)
+
+-- "the number handed out so far for the current move"
+abbrev pub soFar : Progress → ℕ
+soFar g = length (g .operations) - g .earlier
 
 -- min(R, B)
 abbrev pub movableIn : Progress → ℕ
@@ -73,14 +85,14 @@ abbrev pub Track : Type 0
 Track = Held Progress
 
 abbrev pub fresh : List Segment → Progress
-fresh ss = record { segs = ss; required = 0; moves = []; operations = [] }
+fresh ss = record { segs = ss; required = 0; moves = []; operations = []; earlier = 0 }
 
 -- "its segments those of its message or the tables lent for it"
 abbrev pub newTrack : Command → List ℕ → Tables → Track
 newTrack c s t = newlyHeld fresh c s t
 
 abbrev pub needing : ℕ → Progress → Progress
-needing r g = record { segs = g .segs; required = r; moves = g .moves; operations = g .operations }
+needing r g = record { segs = g .segs; required = r; moves = g .moves; operations = g .operations; earlier = g .earlier }
 
 abbrev pub plannedFor : ℕ → ℕ → Track → Track
 plannedFor out inn t = withSides t true (along needing (record { out = out; inn = inn }) (t .sides))
@@ -93,10 +105,12 @@ withMove offset count g =
       required = g .required;
       moves = g .moves ++ (record { from = offset; to = trimmed offset count (movableIn g) } ∷ []);
       operations = g .operations;
+      earlier = length (g .operations);
     }
 
 abbrev pub withOperation : Piece → Progress → Progress
-withOperation o g = record { segs = g .segs; required = g .required; moves = g .moves; operations = g .operations ++ (o ∷ []) }
+withOperation o g =
+    record { segs = g .segs; required = g .required; moves = g .moves; operations = g .operations ++ (o ∷ []); earlier = g .earlier }
 
 -- "Residual per direction", by the machine's own R, B and h
 abbrev pub residualIn : Progress → Residual

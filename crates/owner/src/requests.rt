@@ -118,14 +118,14 @@ pub fn name_move(port: &mut [u64; PORT], tag: u64, d: Direction, offset: u32, co
 
 // One piece of the current move, or that there is no more.
 pub fn step(port: &mut [u64; PORT], store: &[u8; STORE], tag: u64, d: Direction) {
-    show::stepped(transfer::step(port, store, tag, d), 1);
+    show::stepped(transfer::step(port, store, tag, d));
 }
 
 // Every piece of the current move.
 fn step_all(port: &mut [u64; PORT], store: &[u8; STORE], tag: u64, d: Direction) {
     let mut k: usize = 0;
     while k < PIECES {
-        if !show::stepped(transfer::step(port, store, tag, d), k) {
+        if !show::stepped(transfer::step(port, store, tag, d)) {
             return;
         }
         k += 1;

@@ -13,10 +13,15 @@ pub mod Unread
 pub mod CutLaws
 pub mod Pieces
 pub mod Moves
+pub mod Rivals
+pub mod Bound
+pub mod Fewest
 pub mod Listing
 pub mod Owed
 pub mod Opened
+pub mod Segments
 pub mod Ranges
 pub mod Sent
 pub mod Received
 pub mod Bench
+pub mod MoveRows

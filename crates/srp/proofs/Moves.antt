@@ -69,11 +69,11 @@ cuts-bytes rule R ss m = move-bytes rule 0 (min R (sumOf ss)) ss m (omega arith)
 
 -- ── byte by byte
 
-length-run : (h a n : ℕ) → length (run h a n) ≡ n
+pub length-run : (h a n : ℕ) → length (run h a n) ≡ n
 length-run h a zero = refl
 length-run h a (suc n) = ap suc (length-run h (a + 1) n)
 
-run-add : (h a m n : ℕ) → run h a (m + n) ≡ run h a m ++ run h (a + m) n
+pub run-add : (h a m n : ℕ) → run h a (m + n) ≡ run h a m ++ run h (a + m) n
 run-add h a zero n = rw (zero-add n, add-zero a)
 run-add h a (suc m) n =
     let e : a + 1 + m ≡ a + suc m = omega arith in
@@ -131,7 +131,7 @@ module _ (s : Segment) (ss : List Segment) (to : ℕ) where
           rw all (sym (ap (λ (k : ℕ). take k (r (s .len) ++ rest)) split ∙ take-append-add (r (s .len)) rest (to - s .len)))
 
 -- n bytes and more, without the first k
-drop-across : (h a n k : ℕ) (l : List (ℕ × ℕ)) → run h (a + k) (n - k) ++ drop (k - n) l ≡ drop k (run h a n ++ l)
+pub drop-across : (h a n k : ℕ) (l : List (ℕ × ℕ)) → run h (a + k) (n - k) ++ drop (k - n) l ≡ drop k (run h a n ++ l)
 drop-across h a n k l = go (ltb n k) refl
   where
     go : (b : Bool) → ltb n k ≡ b → run h (a + k) (n - k) ++ drop (k - n) l ≡ drop k (run h a n ++ l)

@@ -1,6 +1,4 @@
--- What every port that a login made and calls changed has: 1 ≤ W ≤ 16, A + H ≤ 16, 1 ≤ M ≤ 2^20; of an open command a tag below
--- 2^64 and in each direction every segment inside 2^64, B the sum of the lengths and below 2^32, h and the current move within min(R, B). And a
--- closed port is one value.
+-- What every port that a login made and calls changed has: the ranges of specs/Ranges.antt. And a closed port is one value.
 -- Assumes nothing.
 use mathlib.Core.Path.{_≡_, refl, ap, sym, _∙_}
 use mathlib.Core.Logic.{inl, inr, ⊎-elim}
@@ -17,12 +15,12 @@ use Rattle.srp.specs.Messages.{tag, outFormat, inFormat, outCount, inCou
 use Rattle.srp.specs.Lists.{find, change, without, All}
 use Rattle.srp.specs.Limits.{bufferSize}
 use Rattle.srp.specs.Refusals.{Conduct, hangsUp, answered, stays, altersNothing, conductOf, firstOf}
-use Rattle.srp.specs.Descriptors.{segmentsIn, segmentsOf, segments, sumOf, reachable, descriptorOf, goodTable, copiesAgree, goodFields}
+use Rattle.srp.specs.Descriptors.{segmentsIn, segmentsOf, segments, sumOf, reachable, descriptorOf, goodTable, fetched, copiesAgree, goodFields}
 use Rattle.srp.specs.Requests.{outAt, inAt, outDescriptor, inDescriptor, commandOf, readMessage}
 use Rattle.srp.specs.Both.{of}
 use Rattle.srp.specs.Credit.{Side, movable, onSide, Open, ruleOf, Port, closedPort, due, withHeld, withWanted, withUnanswered}
-use Rattle.srp.specs.Take.{Outcome, conducted, Tables, fieldsFit, newSide, newOpen, aborted, takeChecks, accepted, takeBy, takeDef, hasTag}
-use Rattle.srp.specs.Calls.{unless, planned as withPlan, planChecks, planDef, moving, moveChecks, moveDef, requiring, handing, nextIn, nextOf, wrapped, handOut, stepChecks, stepDef, finishChecks, finishDef, addChecks, addDef, withdrawChecks, withdrawDef, grantChecks, grantDef, closeDef, closeChecks}
+use Rattle.srp.specs.Take.{Outcome, conducted, Tables, tablesFit, fieldsFit, newSide, newOpen, aborted, takeChecks, accepted, takeBy, takeDef, hasTag}
+use Rattle.srp.specs.Calls.{unless, planned as withPlan, planChecks, planDef, moving, moveChecks, moveDef, requiring, handing, nextIn, nextOf, numberIn, wrapped, handOut, stepChecks, stepDef, finishChecks, finishDef, addChecks, addDef, withdrawChecks, withdrawDef, grantChecks, grantDef, closeDef, closeChecks}
 use Rattle.srp.specs.declared.Refusal.{Refusal}
 use Rattle.srp.specs.declared.Refusal.the-variants.{ShortBuffer, Closed}
 use Rattle.srp.specs.declared.Descriptor.{Descriptor}
@@ -41,6 +39,7 @@ use Rattle.srp.proofs.Reading.{read-has}
 use Rattle.srp.proofs.Refusing.{passed}
 use Rattle.srp.proofs.CutLaws.{Lawful, up-to}
 use Rattle.srp.proofs.Pieces.{piece-fits, wrapped-same}
+use Rattle.srp.proofs.Segments.{few-segments}
 
 -- ── a message's segments
 
@@ -83,26 +82,31 @@ module _ (f count at : ℕ) (s table : List ℕ) (b : Bytes s) where
           omega (arith, eqb-true (desc .total) B sums, total-small (eqb f 2))
       go false e h = rw e (one (eqb f 1))
 
-  new-ranges : goodFields desc s table ≡ true → SideRanges (newSide (segments desc s table))
-  new-ranges good =
+  new-ranges : length table ≡ fetched desc → goodFields desc s table ≡ true → SideRanges (newSide (segments desc s table))
+  new-ranges whole good =
       let g = both (tests (eqb f 2)) (reachable (segments desc s table)) good in
-      record { extent = record { reach = g .1; sum = refl; small = small (g .0) }; highest = omega arith; at = omega arith; end = omega arith; required = omega arith }
+      let tabled : eqb f 2 ≡ true → goodTable (desc .len) ≡ true = λ e. both (goodTable (desc .len)) _ (rw e at (g .0)) .0 in
+      record { extent = record { few = few-segments desc s table tabled whole; reach = g .1; sum = refl; small = small (g .0) }; highest = omega arith; at = omega arith; end = omega arith; number = omega arith; required = omega arith }
 
--- a command that a message of bytes is read as has such segments, where its fields are good
+-- a command that a message of bytes is read as has such segments, where its tables fit and its fields are good
 abbrev Sane : List ℕ → Tables → Message → Type 0
 Sane s t (Bad r) = Unit {0}
-Sane s t (Cmd c) = fieldsFit c s t ≡ true → OpenRanges (newOpen c s t)
+Sane s t (Cmd c) = tablesFit c t ≡ true → fieldsFit c s t ≡ true → OpenRanges (newOpen c s t)
 Sane s t (TskMgmt k) = Unit {0}
 Sane s t (CredRsp g) = Unit {0}
 Sane s t ILogout = Unit {0}
 
 module _ (s : List ℕ) (t : Tables) (b : Bytes s) where
   command-sane : Sane s t (Cmd (commandOf s))
-  command-sane e =
+  command-sane f e =
+      let l = both (eqb (length (t .out)) (fetched (outDescriptor s))) (eqb (length (t .inn)) (fetched (inDescriptor s))) f in
       let g = both (goodFields (outDescriptor s) s (t .out)) (goodFields (inDescriptor s) s (t .inn)) e in
       record {
         tag = get-below tag s b;
-        sides = (new-ranges (get outFormat s) (get outCount s) (outAt s) s (t .out) b (g .0), new-ranges (get inFormat s) (get inCount s) (inAt s) s (t .inn) b (g .1));
+        sides = (
+          new-ranges (get outFormat s) (get outCount s) (outAt s) s (t .out) b (eqb-true _ _ (l .0)) (g .0),
+          new-ranges (get inFormat s) (get inCount s) (inAt s) s (t .inn) b (eqb-true _ _ (l .1)) (g .1),
+        );
         unplanned = λ _. (refl, refl);
       }
 
@@ -163,7 +167,7 @@ module _ {p : Port} (v : Ranges p) where
           inr
           (fewer v (p .announced - 1) (p .held ++ (newOpen c s t ∷ []))
           (omega (arith, v .room, length-append (p .held) (newOpen c s t ∷ []), eqb-false (p .announced) 0 (q .credit)))
-          (all-snoc OpenRanges (p .held) (newOpen c s t) (v .commands) (k (q .fields))))
+          (all-snoc OpenRanges (p .held) (newOpen c s t) (v .commands) (k (q .tables) (q .fields))))
       accept (TskMgmt k) a e = inr (paid (shorter v (p .announced - 1) (aborted k) (omega arith)))
       accept (CredRsp g) k e = inr (asking v false)
       accept ILogout k e = inl refl
@@ -187,7 +191,7 @@ module _ {p : Port} (v : Ranges p) where
       }
     where
       requires : (s : Side) (n : ℕ) → SideRanges s → s .transfer .required ≡ 0 → n < 2 ^ 32 → SideRanges (requiring n s)
-      requires s n r z h = record { extent = r .extent; highest = omega (arith, r .highest); at = r .at; end = omega (arith, r .end); required = h }
+      requires s n r z h = record { extent = r .extent; highest = omega (arith, r .highest); at = r .at; end = omega (arith, r .end); number = r .number; required = h }
 
   -- nothing is required
   abbrev Nothing : Side → Type 0
@@ -209,7 +213,7 @@ module _ {p : Port} (v : Ranges p) where
       changed v (hasTag tag) (onSide d (moving offset count)) λ c f r.
       let low = ltb-false (movable (of d (c .sides))) offset (rw f at (passes (moveChecks p tag d offset) e .1 .1 .1 .0)) in
       side-kept d (moving offset count) c r
-      (λ x. record { extent = x .extent; highest = x .highest; at = omega arith; end = omega arith; required = x .required })
+      (λ x. record { extent = x .extent; highest = x .highest; at = omega arith; end = omega arith; number = omega arith; required = x .required })
       refl
 
   step-kept : (tag : ℕ) (d : Direction) → Ranged (stepDef p tag d .port)
@@ -218,9 +222,9 @@ module _ {p : Port} (v : Ranges p) where
       hands : (s : Side) (o : Piece) → SideRanges s → nextIn (p .terms) s ≡ some o → SideRanges (handing (o .len) s)
       hands s o r e =
           let f = piece-fits (ruleOf (p .terms)) 0 (s .transfer .at) (s .transfer .end) (s .extent .segs) o (cutting v) e in
-          record { extent = r .extent; highest = omega (arith, f .upto, r .highest, r .end); at = f .upto; end = r .end; required = r .required }
+          record { extent = r .extent; highest = omega (arith, f .upto, r .highest, r .end); at = f .upto; end = r .end; number = omega (arith, r .number, f .some); required = r .required }
 
-      go : (o : Option Piece) → nextOf (p .terms) d (find (hasTag tag) (p .held)) ≡ o → Ranged (handOut p tag d o .port)
+      go : (o : Option Piece) → nextOf (p .terms) d (find (hasTag tag) (p .held)) ≡ o → Ranged (handOut p tag d (numberIn d (find (hasTag tag) (p .held))) o .port)
       go none e = inr v
       go (some o) e = changed v (hasTag tag) (onSide d (handing (o .len))) λ c f r. side-kept d (handing (o .len)) c r (λ x. hands (of d (c .sides)) o x (rw f at e)) refl
 

@@ -16,7 +16,7 @@ use Rattle.srp.specs.Messages.{tag}
 use Rattle.srp.specs.Refusals.{Conduct, hangsUp, answered, stays, altersNothing, numberOf, conductOf, Check, firstOf}
 use Rattle.srp.specs.Requests.{commandChecks, commandOf, taskOf, unlessBad, sized, lengthChecks, byType, readMessage}
 use Rattle.srp.specs.Credit.{Port}
-use Rattle.srp.specs.Take.{Outcome, conducted, isOpen, Tables, fieldsFit, laterChecks, takeChecks, accepted, refusedBy, takeBy, takeRead, takeDef}
+use Rattle.srp.specs.Take.{Outcome, conducted, isOpen, Tables, tablesFit, fieldsFit, laterChecks, takeChecks, accepted, refusedBy, takeBy, takeRead, takeDef}
 use Rattle.srp.specs.Calls.{unless}
 use Rattle.srp.specs.Answers.{refusalIn}
 use Rattle.srp.specs.Order.{orderOf, takeOrder}
@@ -119,12 +119,18 @@ module _ (p : Port) (room : ℕ) (s : List ℕ) (t : Tables) where
   pub record Passed (c : Command) : Type 0 where
     pub credit : eqb (p .announced) 0 ≡ false
     pub fresh : isOpen p (c .request .tag) ≡ false
+    pub tables : tablesFit c t ≡ true
     pub fields : fieldsFit c s t ≡ true
 
   pub passed : (c : Command) → firstOf (takeChecks p room s t (Cmd c)) ≡ none → Passed c
   passed c z =
       let q = passes (takeChecks p room s t (Cmd c)) z in
-      record { credit = q .1 .1 .0; fresh = q .1 .1 .1 .0; fields = not-false (fieldsFit c s t) (q .1 .1 .1 .1 .1 .0) }
+      record {
+        credit = q .1 .1 .0;
+        fresh = q .1 .1 .1 .0;
+        tables = not-false (tablesFit c t) (q .1 .1 .1 .1 .0);
+        fields = not-false (fieldsFit c s t) (q .1 .1 .1 .1 .1 .0);
+      }
 
   -- ── the one list
 

@@ -38,14 +38,14 @@ saidBy (NewCommand tag lun cdb) = saying (pos tag ∷ pos lun ∷ pos (cmd .size
 saidBy (TaskAnswered tag lun) = saying (pos tag ∷ pos lun ∷ [])
 saidBy CreditSettled = saying []
 saidBy LoggedOut = saying []
--- kind, handle, address, length, offset in the buffer
-saidBy (Operation k o) =
+-- kind, handle, address, length, offset in the buffer, and the number handed out so far for the move
+saidBy (Operation k o n) =
     record {
       refusal = none;
       operation = some o;
-      values = pos (kindNumber k) ∷ pos (o .handle) ∷ pos (o .address) ∷ pos (o .len) ∷ pos (o .offset) ∷ [];
+      values = pos (kindNumber k) ∷ pos (o .handle) ∷ pos (o .address) ∷ pos (o .len) ∷ pos (o .offset) ∷ pos n ∷ [];
     }
-saidBy Done = saying []
+saidBy (Done n) = saying (pos n ∷ [])
 saidBy Accepted = saying []
 saidBy (Rejected reason) = saying (pos reason ∷ [])
 -- W, A, H, D

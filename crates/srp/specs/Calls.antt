@@ -1,4 +1,4 @@
--- Document 01, and document 02, job 1: the other calls on a port. "Other calls: 1, 21, 11, 24, 30, 29, 26, 27, 28, those that apply"; a refusal alters
+-- Document 01, and document 02, jobs 1 and 4: the other calls on a port. "Other calls: 1, 21, 11, 24, 30, 29, 26, 27, 28, those that apply"; a refusal alters
 -- nothing.
 use mathlib.Core.Path.{_≡_}
 use mathlib.Core.Bool.{Bool, true, false, not, _&&_, _||_}
@@ -56,9 +56,9 @@ planDef p tag out inn = unless (firstOf (planChecks p tag)) p (planOutcome p tag
 
 -- ── move
 
--- the move named is the current one; h stays
+-- the move named is the current one, of which nothing was handed out; h stays
 abbrev pub moving : ℕ → ℕ → Side → Side
-moving offset count s = withTransfer s (withCurrent (s .transfer .highest) offset (trimmed offset count (movable s)) (s .transfer))
+moving offset count s = withTransfer s (withCurrent (s .transfer .highest) offset (trimmed offset count (movable s)) 0 (s .transfer))
 
 -- "31 offset above min(R, B)"
 abbrev pub beyond : Direction → ℕ → Option Open → Bool
@@ -98,10 +98,11 @@ abbrev pub kindOf : Direction → Kind
 kindOf Out = Read
 kindOf In = Write
 
--- n bytes more of the current move are handed out
+-- a piece more of the current move is handed out, of n bytes
 abbrev pub handing : ℕ → Side → Side
 handing n s =
-    let to : ℕ = s .transfer .at + n in withTransfer s (withCurrent (max (s .transfer .highest) to) to (s .transfer .end) (s .transfer))
+    let to : ℕ = s .transfer .at + n in
+    withTransfer s (withCurrent (max (s .transfer .highest) to) to (s .transfer .end) (s .transfer .number + 1) (s .transfer))
 
 -- the next piece of a direction's current move
 abbrev pub nextIn : Terms → Side → Option Piece
@@ -111,21 +112,29 @@ abbrev pub nextOf : Terms → Direction → Option Open → Option Piece
 nextOf T d none = none
 nextOf T d (some c) = nextIn T (of d (c .sides))
 
+-- "the number handed out so far for the current move"
+abbrev pub numberIn : Direction → Option Open → ℕ
+numberIn d none = 0
+numberIn d (some c) = of d (c .sides) .transfer .number
+
 -- an address in 64 bits; for every port that a login made it stays as it is
 abbrev pub wrapped : Piece → Piece
 wrapped o = piece (o .address % 2 ^ 64) (o .handle) (o .len) (o .offset)
 
-abbrev pub handOut : Port → ℕ → Direction → Option Piece → Outcome
-handOut p tag d none = silent p Done
-handOut p tag d (some o) =
-    silent (withHeld p (p .announced) (change (hasTag tag) (onSide d (handing (o .len))) (p .held))) (Operation (kindOf d) (wrapped o))
+-- "Step's answers carry the number handed out so far for the current move, their own piece included": n is the number without it
+abbrev pub handOut : Port → ℕ → Direction → (n : ℕ) → Option Piece → Outcome
+handOut p tag d n none = silent p (Done n)
+handOut p tag d n (some o) =
+    silent (withHeld p (p .announced) (change (hasTag tag) (onSide d (handing (o .len))) (p .held))) (Operation (kindOf d) (wrapped o) (n + 1))
 
 abbrev pub stepChecks : Port → ℕ → List Check
 stepChecks p tag = closed p ∷ (not (isOpen p tag), TagNotOpen) ∷ (not (isPlanned (find (hasTag tag) (p .held))), Unplanned) ∷ []
 
 -- "Step names a tag and a direction and hands out the next piece there, or says done"; "step serves the pieces of that direction's current move"
 abbrev pub stepOutcome : Port → ℕ → Direction → Outcome
-stepOutcome p tag d = handOut p tag d (nextOf (p .terms) d (find (hasTag tag) (p .held)))
+stepOutcome p tag d =
+    let c : Option Open = find (hasTag tag) (p .held) in
+    handOut p tag d (numberIn d c) (nextOf (p .terms) d c)
 
 abbrev pub stepDef : Port → ℕ → Direction → Outcome
 stepDef p tag d = unless (firstOf (stepChecks p tag)) p (stepOutcome p tag d)

@@ -1,4 +1,4 @@
--- Document 01, "Credit", and document 02, job 1: the state of one channel, W, A, H and D, and what moves of its commands' data.
+-- Document 01, "Credit", and document 02, jobs 1 and 4: the state of one channel, W, A, H and D, and what moves of its commands' data.
 use mathlib.Core.Bool.{Bool, false}
 use mathlib.Core.List.{List, []}
 use Prim.Native.Nat.{ℕ, _+_, _-_, min}
@@ -17,8 +17,8 @@ pub record Extent : Type 0 where
   pub segs : List Segment
   pub total : ℕ
 
--- and what moves: R (0 until planned), h ("the highest offset handed out + 1, 0 where nothing was"), and what is left of the current move, the bytes
--- from `at` up to `end`
+-- and what moves: R (0 until planned), h ("the highest offset handed out + 1, 0 where nothing was"), what is left of the current move, the bytes from
+-- `at` up to `end`, and "the number handed out so far for the current move"
 pub record Side : Type 0 where
   pub extent : Extent
   pub transfer : Transfer
@@ -28,14 +28,14 @@ withTransfer s g = record { extent = s .extent; transfer = g }
 
 -- before a plan
 abbrev pub unmoved : Transfer
-unmoved = record { required = 0; highest = 0; at = 0; end = 0 }
+unmoved = record { required = 0; highest = 0; at = 0; end = 0; number = 0 }
 
 -- with another R; with another h and another current move
 abbrev pub withRequired : ℕ → Transfer → Transfer
-withRequired r t = record { required = r; highest = t .highest; at = t .at; end = t .end }
+withRequired r t = record { required = r; highest = t .highest; at = t .at; end = t .end; number = t .number }
 
-abbrev pub withCurrent : (highest at end : ℕ) → Transfer → Transfer
-withCurrent highest at end t = record { required = t .required; highest = highest; at = at; end = end }
+abbrev pub withCurrent : (highest at end number : ℕ) → Transfer → Transfer
+withCurrent highest at end number t = record { required = t .required; highest = highest; at = at; end = end; number = number }
 
 -- min(R, B)
 abbrev pub movable : Side → ℕ

@@ -11,6 +11,7 @@ pub mod Requests
 pub mod Unread
 pub mod Cutting
 pub mod Moves
+pub mod Fewest
 pub mod Writing
 pub mod Answers
 pub mod Take
@@ -25,3 +26,4 @@ pub mod Rows
 pub mod Table
 pub mod FurtherRows
 pub mod Written
+pub mod MoveRows

@@ -3,14 +3,15 @@ use mathlib.Core.Path.{_≡_}
 use mathlib.Core.Logic.{_⊎_}
 use mathlib.Core.Bool.{true, false}
 use mathlib.Core.List.{List}
-use Prim.Native.Nat.{ℕ, _+_, _^_, _≤_, _<_}
+use Prim.Native.Nat.{ℕ, _+_, _-_, _/_, _^_, _≤_, _<_}
 use lib.ListN.{length}
-use Rattle.srp.specs.Limits.{mostBuffers, largestPiece}
+use Rattle.srp.specs.Limits.{mostBuffers, largestPiece, mostCopies}
 use Rattle.srp.specs.Messages.{tag}
 use Rattle.srp.specs.Lists.{All, isSome}
 use Rattle.srp.specs.Descriptors.{sumOf, reachable}
+use Rattle.srp.specs.Cutting.{cutsOf}
 use Rattle.srp.specs.Both.{Each}
-use Rattle.srp.specs.Credit.{Extent, Side, movable, Open, Port, closedPort}
+use Rattle.srp.specs.Credit.{Extent, Side, movable, Open, ruleOf, Port, closedPort}
 use Rattle.srp.specs.Take.{Tables, takeDef}
 use Rattle.srp.specs.Calls.{hasPieces, nextIn, planDef, moveDef, stepDef, finishDef, addDef, withdrawDef, grantDef, closeDef}
 use Rattle.srp.specs.Login.{loginDef}
@@ -19,23 +20,33 @@ use Rattle.srp.specs.declared.Terms.{Terms}
 use Rattle.srp.specs.declared.Direction.{Direction}
 use Rattle.srp.specs.Bytes.{Bytes}
 
--- one direction: its segments end by 2^64, `total` is B
+-- one direction: its segments are at most 32 and end by 2^64, `total` is B
 pub record ExtentRanges (e : Extent) : Type 0 where
+  pub few : length (e .segs) ≤ mostCopies
   pub reach : reachable (e .segs) ≡ true
   pub sum : e .total ≡ sumOf (e .segs)
   pub small : e .total < 2 ^ 32
 
--- its current move and h stay within min(R, B)
+-- its current move and h stay within min(R, B), and as every operation has a byte, there were not more than bytes before the next one
 pub record SideRanges (s : Side) : Type 0 where
   pub extent : ExtentRanges (s .extent)
   pub highest : s .transfer .highest ≤ movable s
   pub at : s .transfer .at ≤ s .transfer .end
   pub end : s .transfer .end ≤ movable s
+  pub number : s .transfer .number ≤ s .transfer .at
   pub required : s .transfer .required < 2 ^ 32
 
 -- of such a direction, 32 is drawn just where step has a piece to hand out
 abbrev pub HasPieces : Type 0
 HasPieces = (T : Terms) (s : Side) → 1 ≤ T .maximum → SideRanges s → hasPieces s ≡ isSome (nextIn T s)
+
+-- so no move of it, up to min(R, B), has more operations than 32, and one for each M of 2^32 - 1 bytes
+abbrev pub mostOperations : ℕ → ℕ
+mostOperations M = mostCopies + (2 ^ 32 - 1) / M
+
+abbrev pub SlotsEnough : Type 0
+SlotsEnough = (T : Terms) (s : Side) (from to : ℕ) → 1 ≤ T .maximum → SideRanges s → to ≤ movable s
+    → length (cutsOf (ruleOf T) from to (s .extent .segs)) ≤ mostOperations (T .maximum)
 
 -- an open command: its tag has 8 bytes, and R is 0 until it is planned
 pub record OpenRanges (c : Open) : Type 0 where

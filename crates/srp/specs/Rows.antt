@@ -18,6 +18,7 @@ use Rattle.srp.specs.declared.Direction.{Direction}
 use Rattle.srp.specs.declared.Direction.the-variants.{Out, In}
 use Rattle.srp.specs.declared.Kind.{Kind}
 use Rattle.srp.specs.declared.Kind.the-variants.{Read, Write}
+use Rattle.srp.specs.declared.Piece.{Piece}
 use Rattle.srp.specs.declared.Record.{Record}
 use Rattle.srp.specs.declared.Reply.{Reply}
 use Rattle.srp.specs.declared.Reply.the-variants.{Refused, Performed, NewCommand, TaskAnswered, CreditSettled, LoggedOut, Operation, Done, Accepted, Rejected, Counts, Listed}
@@ -44,7 +45,7 @@ pub data Act : Type 0 where
   parts : Direction → List ℕ → List ℕ → Act
   prints : List ℕ → Act
 
--- what is seen of a reply; an operation is its kind, handle, address, length and offset
+-- what is seen of a reply; an operation is its kind, handle, address, length and offset, and the number so far
 pub data Seen : Type 0 where
   refused : ℕ → Seen
   performed : Seen
@@ -52,9 +53,9 @@ pub data Seen : Type 0 where
   task : (tag lun : ℕ) → Seen
   settled : Seen
   logged-out : Seen
-  reads : (handle address len offset : ℕ) → Seen
-  writes : (handle address len offset : ℕ) → Seen
-  done : Seen
+  reads : (handle address len offset number : ℕ) → Seen
+  writes : (handle address len offset number : ℕ) → Seen
+  done : (number : ℕ) → Seen
   accepted : Seen
   rejected : ℕ → Seen
   counters : (w a h : ℕ) → ℤ → Seen
@@ -62,9 +63,9 @@ pub data Seen : Type 0 where
   message : List ℕ → Seen
   text : List ℕ → Seen
 
-abbrev pub operation : Kind → ℕ → ℕ → ℕ → ℕ → Seen
-operation Read h a n o = reads h a n o
-operation Write h a n o = writes h a n o
+abbrev pub operation : Kind → Piece → ℕ → Seen
+operation Read o n = reads (o .handle) (o .address) (o .len) (o .offset) n
+operation Write o n = writes (o .handle) (o .address) (o .len) (o .offset) n
 
 abbrev pub row : Record → List ℕ
 row r = r .tag ∷ r .lun ∷ r .out ∷ r .inn ∷ []
@@ -76,8 +77,8 @@ seenOf p (NewCommand tag lun cdb) = command tag lun cdb
 seenOf p (TaskAnswered tag lun) = task tag lun
 seenOf p CreditSettled = settled
 seenOf p LoggedOut = logged-out
-seenOf p (Operation k o) = operation k (o .handle) (o .address) (o .len) (o .offset)
-seenOf p Done = done
+seenOf p (Operation k o n) = operation k o n
+seenOf p (Done n) = done n
 seenOf p Accepted = accepted
 seenOf p (Rejected n) = rejected n
 seenOf p (Counts c) = counters (c .wanted) (c .announced) (c .held) (c .owed)

@@ -38,7 +38,7 @@ in700 = takes-in (table 3 48 700 entries)
 
 -- the first two pieces of that table
 abbrev pub first-two : List Seen
-first-two = writes 7 0x3000 512 0 ∷ writes 7 0x3200 88 512 ∷ []
+first-two = writes 7 0x3000 512 0 1 ∷ writes 7 0x3200 88 512 2 ∷ []
 
 -- a table of two entries
 abbrev pub two-entries : List ℕ
@@ -48,15 +48,15 @@ abbrev pub bench : List Row
 bench =
     -- P1
     on-port (takes-in direct-in ∷ plans-in 1300 ++ steps-in 4)
-    (command 9 0 16 ∷ performed ∷ performed ∷ performed ∷ writes 7 0x1000 512 0 ∷ writes 7 0x1200 512 512 ∷ writes 7 0x1400 276 1024 ∷ done ∷ [])
+    (command 9 0 16 ∷ performed ∷ performed ∷ performed ∷ writes 7 0x1000 512 0 1 ∷ writes 7 0x1200 512 512 2 ∷ writes 7 0x1400 276 1024 3 ∷ done 3 ∷ [])
     -- P2
-    ∷ on-port (in700 ∷ plans-in 700 ++ steps-in 4) (command 9 0 16 ∷ performed ∷ performed ∷ performed ∷ first-two ++ (writes 7 0x5000 100 600 ∷ done ∷ []))
+    ∷ on-port (in700 ∷ plans-in 700 ++ steps-in 4) (command 9 0 16 ∷ performed ∷ performed ∷ performed ∷ first-two ++ (writes 7 0x5000 100 600 3 ∷ done 3 ∷ []))
     -- P3
     ∷ on-port (in700 ∷ plans-in 650 ++ steps-in 4 ++ (finish 9 ∷ []))
-    (command 9 0 16 ∷ performed ∷ performed ∷ performed ∷ first-two ++ (writes 7 0x5000 50 600 ∷ done ∷ performed ∷ rsp-good 1 9 0x20 0 50 ∷ []))
+    (command 9 0 16 ∷ performed ∷ performed ∷ performed ∷ first-two ++ (writes 7 0x5000 50 600 3 ∷ done 3 ∷ performed ∷ rsp-good 1 9 0x20 0 50 ∷ []))
     -- P4
     ∷ on-port (in700 ∷ plans-in 800 ++ steps-in 4 ++ (finish 9 ∷ []))
-    (command 9 0 16 ∷ performed ∷ performed ∷ performed ∷ first-two ++ (writes 7 0x5000 100 600 ∷ done ∷ performed ∷ rsp-good 1 9 0x10 0 100 ∷ []))
+    (command 9 0 16 ∷ performed ∷ performed ∷ performed ∷ first-two ++ (writes 7 0x5000 100 600 3 ∷ done 3 ∷ performed ∷ rsp-good 1 9 0x10 0 100 ∷ []))
     -- P5
     ∷ on-message (no-data 9) (command 9 0 16 ∷ [])
     ∷ on-message (take 47 (no-data 9)) (refused 3 ∷ t-logout 0 0 ∷ [])
@@ -65,9 +65,9 @@ bench =
     ∷ on-message (cmd-bytes 0 0 0 0 9 0 7 []) (refused 3 ∷ t-logout 0 0 ∷ [])
     -- P7
     ∷ on-port (with-table (table 0 32 300 []) two-entries ∷ plans-in 300 ++ steps-in 3)
-    (command 9 0 16 ∷ performed ∷ performed ∷ performed ∷ writes 7 0x2000 100 0 ∷ writes 7 0x4000 200 100 ∷ done ∷ [])
+    (command 9 0 16 ∷ performed ∷ performed ∷ performed ∷ writes 7 0x2000 100 0 1 ∷ writes 7 0x4000 200 100 2 ∷ done 2 ∷ [])
     ∷ on-port (with-table (table 2 32 300 two-entries) [] ∷ plans-in 300 ++ steps-in 3)
-    (command 9 0 16 ∷ performed ∷ performed ∷ performed ∷ writes 7 0x2000 100 0 ∷ writes 7 0x4000 200 100 ∷ done ∷ [])
+    (command 9 0 16 ∷ performed ∷ performed ∷ performed ∷ writes 7 0x2000 100 0 1 ∷ writes 7 0x4000 200 100 2 ∷ done 2 ∷ [])
     -- P8, P9, P10
     ∷ on-port (takes-in (no-data 1) ∷ takes-in (no-data 2) ∷ withdraws 3 ∷ counts ∷ finish 1 ∷ finish 2 ∷ counts
     ∷ takes-in (no-data 3) ∷ finish 3 ∷ takes-in (no-data 4) ∷ finish 4 ∷ [])
@@ -131,11 +131,11 @@ fields =
     on-port (takes 132 (cmd-bytes 0 0x12 0 1 9 0 0 (segment 0x1000 7 700 ++ (segment 0x9000 5 32 ++ bytesOf 4 300 ++ take 16 two-entries)))
     (record { out = []; inn = two-entries }) ∷ plans 9 700 250 ∷ names 9 Out 0 700 ∷ names 9 In 0 250 ∷ steps 9 Out ∷ steps 9 In ∷ steps 9 Out ∷ steps 9 In
     ∷ steps 9 Out ∷ lists 16 ∷ finish 9 ∷ [])
-    (command 9 0 16 ∷ performed ∷ performed ∷ performed ∷ reads 7 0x1000 512 0 ∷ writes 7 0x2000 100 0 ∷ reads 7 0x1200 188 512 ∷ writes 7 0x4000 150 100 ∷ done
+    (command 9 0 16 ∷ performed ∷ performed ∷ performed ∷ reads 7 0x1000 512 0 1 ∷ writes 7 0x2000 100 0 1 ∷ reads 7 0x1200 188 512 2 ∷ writes 7 0x4000 150 100 2 ∷ done 2
     ∷ listed ((9 ∷ 0 ∷ 700 ∷ 250 ∷ []) ∷ []) ∷ performed ∷ rsp-good 1 9 0x20 0 50 ∷ [])
     -- a last piece of one byte
     ∷ on-port (takes-in (cmd-bytes 0 1 0 0 9 0 0 (segment 0x1000 7 513)) ∷ plans-in 513 ++ steps-in 3)
-    (command 9 0 16 ∷ performed ∷ performed ∷ performed ∷ writes 7 0x1000 512 0 ∷ writes 7 0x1200 1 512 ∷ done ∷ [])
+    (command 9 0 16 ∷ performed ∷ performed ∷ performed ∷ writes 7 0x1000 512 0 1 ∷ writes 7 0x1200 1 512 2 ∷ done 2 ∷ [])
     -- address + length = 2^64 is fine, one more is not
     ∷ on-message (cmd-bytes 0 1 0 0 9 0 0 (segment 0xffffffffffffff00 7 256)) (command 9 0 16 ∷ [])
     ∷ bad-fields (cmd-bytes 0 1 0 0 9 0 0 (segment 0xffffffffffffff00 7 257)) []
@@ -205,32 +205,32 @@ calls =
     -- plan, move and step; "Plan alone starts none: step says done"
     ∷ on-port (plans 9 0 0 ∷ names 9 In 1 0 ∷ steps 9 In ∷ takes-in direct-in ∷ names 9 In 1 0 ∷ steps 9 In ∷ plans 9 0 100 ∷ plans 9 0 100 ∷ steps 9 Out
     ∷ steps 9 In ∷ names 9 In 0 200 ∷ steps 9 In ∷ steps 9 In ∷ [])
-    (refused 24 ∷ refused 24 ∷ refused 24 ∷ command 9 0 16 ∷ refused 29 ∷ refused 29 ∷ performed ∷ refused 30 ∷ done ∷ done ∷ performed
-    ∷ writes 7 0x1000 100 0 ∷ done ∷ [])
+    (refused 24 ∷ refused 24 ∷ refused 24 ∷ command 9 0 16 ∷ refused 29 ∷ refused 29 ∷ performed ∷ refused 30 ∷ done 0 ∷ done 0 ∷ performed
+    ∷ writes 7 0x1000 100 0 1 ∷ done 1 ∷ [])
     -- the middle first, then the start; M counts from a move's own offset; the listing and the residual take h; 31 before 32, and 32 until the last piece
     ∷ on-port (in700 ∷ plans 9 0 650 ∷ names 9 In 651 0 ∷ names 9 In 300 310 ∷ steps 9 In ∷ lists 16 ∷ names 9 In 651 0 ∷ names 9 In 0 300
     ∷ names 9 Out 0 9 ∷ steps 9 Out ∷ steps 9 In ∷ lists 16
     ∷ names 9 In 0 300 ∷ steps 9 In ∷ steps 9 In ∷ lists 16 ∷ finish 9 ∷ [])
-    (command 9 0 16 ∷ performed ∷ refused 31 ∷ performed ∷ writes 7 0x312c 300 300 ∷ listed ((9 ∷ 0 ∷ 0 ∷ 600 ∷ []) ∷ []) ∷ refused 31 ∷ refused 32
-    ∷ performed ∷ done ∷ writes 7 0x5000 10 600
-    ∷ listed ((9 ∷ 0 ∷ 0 ∷ 610 ∷ []) ∷ []) ∷ performed ∷ writes 7 0x3000 300 0 ∷ done ∷ listed ((9 ∷ 0 ∷ 0 ∷ 610 ∷ []) ∷ []) ∷ performed
+    (command 9 0 16 ∷ performed ∷ refused 31 ∷ performed ∷ writes 7 0x312c 300 300 1 ∷ listed ((9 ∷ 0 ∷ 0 ∷ 600 ∷ []) ∷ []) ∷ refused 31 ∷ refused 32
+    ∷ performed ∷ done 0 ∷ writes 7 0x5000 10 600 2
+    ∷ listed ((9 ∷ 0 ∷ 0 ∷ 610 ∷ []) ∷ []) ∷ performed ∷ writes 7 0x3000 300 0 1 ∷ done 1 ∷ listed ((9 ∷ 0 ∷ 0 ∷ 610 ∷ []) ∷ []) ∷ performed
     ∷ rsp-good 1 9 0x20 0 90 ∷ [])
     -- empty moves: count 0, and an offset of min(R, B); a move may repeat bytes
     ∷ on-port (in700 ∷ plans 9 0 650 ∷ names 9 In 7 0 ∷ steps 9 In ∷ names 9 In 650 9 ∷ steps 9 In ∷ lists 16 ∷ names 9 In 640 99 ∷ steps 9 In ∷ steps 9 In
     ∷ names 9 In 645 99 ∷ steps 9 In ∷ lists 16 ∷ [])
-    (command 9 0 16 ∷ performed ∷ performed ∷ done ∷ performed ∷ done ∷ listed ((9 ∷ 0 ∷ 0 ∷ 0 ∷ []) ∷ []) ∷ performed ∷ writes 7 0x5028 10 640 ∷ done
-    ∷ performed ∷ writes 7 0x502d 5 645
+    (command 9 0 16 ∷ performed ∷ performed ∷ done 0 ∷ performed ∷ done 0 ∷ listed ((9 ∷ 0 ∷ 0 ∷ 0 ∷ []) ∷ []) ∷ performed ∷ writes 7 0x5028 10 640 1 ∷ done 1
+    ∷ performed ∷ writes 7 0x502d 5 645 1
     ∷ listed ((9 ∷ 0 ∷ 0 ∷ 650 ∷ []) ∷ []) ∷ [])
     -- a sum of offset and count above 2^32 is trimmed, and does not wrap; an unfinished move of data-in stops none of data-out
     ∷ on-port (in700 ∷ plans 9 5 650 ∷ names 9 In 649 0xffffffff ∷ names 9 Out 0 5 ∷ names 9 Out 1 0 ∷ names 9 In 649 0 ∷ steps 9 In ∷ steps 9 In ∷ [])
-    (command 9 0 16 ∷ performed ∷ performed ∷ performed ∷ refused 31 ∷ refused 32 ∷ writes 7 0x5031 1 649 ∷ done ∷ [])
+    (command 9 0 16 ∷ performed ∷ performed ∷ performed ∷ refused 31 ∷ refused 32 ∷ writes 7 0x5031 1 649 1 ∷ done 1 ∷ [])
     -- finish: 1, 11, 24, then sense, UCSOLNT by the status, DOUNDER without a plan
     ∷ on-port (takes-in (cmd-bytes 4 0x10 0 0 9 0 0 (segment 0x1000 7 1300)) ∷ finishes 131 9 0 [] ∷ finishes 132 9 0 (1 ∷ []) ∷ finishes 132 9 2 (replicate 97 1) ∷ finish 8
     ∷ finishes 132 9 2 (0x70 ∷ 0x71 ∷ []) ∷ finish 9 ∷ [])
     (command 9 0 16 ∷ refused 1 ∷ refused 11 ∷ refused 11 ∷ refused 24 ∷ performed ∷ rsp-bytes 1 1 9 0x0a 2 1300 0 2 0 (0x70 ∷ 0x71 ∷ []) ∷ refused 24 ∷ [])
     -- SCSOLNT with status 0; DOOVER has R - B
     ∷ on-port (takes-in (cmd-bytes 2 0x10 0 0 9 0 0 (segment 0x1000 7 1300)) ∷ plans 9 1400 0 ∷ names 9 Out 0 1400 ∷ steps 9 Out ∷ finish 9 ∷ [])
-    (command 9 0 16 ∷ performed ∷ performed ∷ reads 7 0x1000 512 0 ∷ performed ∷ rsp-bytes 1 1 9 0x04 0 100 0 0 0 [] ∷ [])
+    (command 9 0 16 ∷ performed ∷ performed ∷ reads 7 0x1000 512 0 1 ∷ performed ∷ rsp-bytes 1 1 9 0x04 0 100 0 0 0 [] ∷ [])
     -- a status other than 02h, with no sense; UCSOLNT not set
     ∷ on-port (takes-in (cmd-bytes 2 0 0 0 9 0 0 []) ∷ finishes 132 9 8 [] ∷ []) (command 9 0 16 ∷ performed ∷ rsp-bytes 0 1 9 0 8 0 0 0 0 [] ∷ [])
     -- the longest sense
@@ -246,6 +246,6 @@ calls =
     ∷ refused 21 ∷ refused 21 ∷ refused 21 ∷ [])
     -- listing
     ∷ on-port (takes-in direct-in ∷ takes-in (no-data 2) ∷ plans 9 0 1300 ∷ names 9 In 0 1300 ∷ steps 9 In ∷ lists 15 ∷ lists 16 ∷ [])
-    (command 9 0 16 ∷ command 2 0 16 ∷ performed ∷ performed ∷ writes 7 0x1000 512 0 ∷ refused 11 ∷ listed ((9 ∷ 0 ∷ 0 ∷ 512 ∷ []) ∷ (2 ∷ 0 ∷ 0 ∷ 0 ∷ [])
+    (command 9 0 16 ∷ command 2 0 16 ∷ performed ∷ performed ∷ writes 7 0x1000 512 0 1 ∷ refused 11 ∷ listed ((9 ∷ 0 ∷ 0 ∷ 512 ∷ []) ∷ (2 ∷ 0 ∷ 0 ∷ 0 ∷ [])
     ∷ []) ∷ [])
     ∷ []

@@ -44,9 +44,9 @@ answers =
     ∷ TaskAnswered 9 5
     ∷ CreditSettled
     ∷ LoggedOut
-    ∷ Operation Read (piece 0x1000 7 512 1024)
-    ∷ Operation Write (piece 0x1000 7 512 1024)
-    ∷ Done
+    ∷ Operation Read (piece 0x1000 7 512 1024) 3
+    ∷ Operation Write (piece 0x1000 7 512 1024) 3
+    ∷ Done 4
     ∷ Accepted
     ∷ Rejected 0x10003
     ∷ Counts (record { wanted = 1; announced = 2; held = 2; owed = negsuc 2 })
@@ -61,9 +61,9 @@ answerValues =
     ∷ (0, pos 9 ∷ pos 5 ∷ [])
     ∷ (0, [])
     ∷ (0, [])
-    ∷ (0, pos 1 ∷ pos 7 ∷ pos 0x1000 ∷ pos 512 ∷ pos 1024 ∷ [])
-    ∷ (0, pos 2 ∷ pos 7 ∷ pos 0x1000 ∷ pos 512 ∷ pos 1024 ∷ [])
-    ∷ (0, [])
+    ∷ (0, pos 1 ∷ pos 7 ∷ pos 0x1000 ∷ pos 512 ∷ pos 1024 ∷ pos 3 ∷ [])
+    ∷ (0, pos 2 ∷ pos 7 ∷ pos 0x1000 ∷ pos 512 ∷ pos 1024 ∷ pos 3 ∷ [])
+    ∷ (0, pos 4 ∷ [])
     ∷ (0, [])
     ∷ (0, pos 0x10003 ∷ [])
     ∷ (0, pos 1 ∷ pos 2 ∷ pos 2 ∷ negsuc 2 ∷ [])

@@ -77,12 +77,13 @@ pub struct Terms {
 }
 
 // What moves of a command's data in a direction: R, which is 0 until it is planned; h, the highest offset handed out + 1, 0 where nothing was; and
-// what is left of the current move, its bytes from `at` up to `end`, both 0 before any move.
+// what is left of the current move, its bytes from `at` up to `end`, and the number of operations handed out for it, all 0 before any move.
 pub struct Transfer {
     pub required: u32,
     pub highest: u32,
     pub at: u32,
     pub end: u32,
+    pub number: u32,
 }
 
 // An SRP_CMD. Its CDB is the cdb bytes of the message from byte 32 on.
@@ -168,9 +169,9 @@ pub enum Reply {
     TaskAnswered { tag: u64, lun: u64 },
     CreditSettled,
     LoggedOut,
-    // a step: an RDMA operation; done
-    Operation(Kind, Piece),
-    Done,
+    // a step: an RDMA operation; done; each with the number handed out so far for the current move, this operation included
+    Operation(Kind, Piece, u32),
+    Done(u32),
     // a login
     Accepted,
     Rejected(u32),

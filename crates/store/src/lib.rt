@@ -82,6 +82,7 @@ fn new_part(segments: u8, total: u32) -> Part
         highest: 0,
         at: 0,
         end: 0,
+        number: 0,
     };
     Part {
         segments: segments,

@@ -4,7 +4,7 @@ use mathlib.Core.Path.{_≡_, refl, sym, _∙_, ap}
 use mathlib.Core.Bool.{Bool, true, false}
 use mathlib.Core.List.{List}
 use mathlib.Core.Option.{Option, some}
-use Prim.Native.Nat.{ℕ, _≤_, _<_, min}
+use Prim.Native.Nat.{ℕ, _+_, _≤_, _<_, min}
 use native.Mathlib.Omega.{arith}
 use lib.Dec.{ltb}
 use lib.ListN.{getD}
@@ -13,7 +13,7 @@ use Rattle.srp.specs.Lists.{find}
 use Rattle.srp.specs.Both.{of}
 use Rattle.srp.specs.Credit.{Side, movable, onSide, Open, Port}
 use Rattle.srp.specs.Take.{hasTag}
-use Rattle.srp.specs.Calls.{moving, hasPieces, kindOf, handing, nextIn, nextOf, handOut, stepOutcome}
+use Rattle.srp.specs.Calls.{moving, hasPieces, kindOf, handing, nextIn, nextOf, numberIn, handOut, stepOutcome}
 use Rattle.srp.specs.declared.Direction.{Direction}
 use Rattle.srp.specs.declared.Terms.{Terms}
 use Rattle.srp.specs.declared.Kind.{Kind}
@@ -72,8 +72,8 @@ module _ {l : List ℕ} {tag i : ℕ} (F : FoundAt l tag i) (live : headOf l .li
           (refused l st Unfinished)
 
       -- none of them
-      pub begun : {l′ : List ℕ} (to : ℕ) → p .transfer .end ≤ p .transfer .at → SlotChanged l l′ i (movedSlot d (p .transfer .highest) offset to)
-          → ((st : List ℕ) → openOf st (movedSlot d (p .transfer .highest) offset to (getD (slots l) i noSlot)) ≡ onSide d (moving offset count) (here st))
+      pub begun : {l′ : List ℕ} (to : ℕ) → p .transfer .end ≤ p .transfer .at → SlotChanged l l′ i (movedSlot d (p .transfer .highest) offset to 0)
+          → ((st : List ℕ) → openOf st (movedSlot d (p .transfer .highest) offset to 0 (getD (slots l) i noSlot)) ≡ onSide d (moving offset count) (here st))
           → Names l l′ tag d offset count Performed
       begun {l′} to e C a st =
           replies-by (move-passed (view l st) tag d offset count (open-view st) (here st) (found-first F live st) planned (within st) (same-pieces st (le-ltb (p .transfer .at) (p .transfer .end) e)))
@@ -93,23 +93,30 @@ module _ {l : List ℕ} {tag i : ℕ} (F : FoundAt l tag i) (live : headOf l .li
         ∙ ap (λ (t : Terms). nextOf t d (some (here st))) (ap (λ (q : Port). q .terms) (while-open l st live) ∙ sym settled)
         ∙ ap (λ (s : Side). nextIn T s) (side-read st (getD (slots l) i noSlot) d (P .whole) stands)
 
+    -- and so is the number handed out for its current move
+    found-number : numberIn d (find (hasTag tag) (view l st .held)) ≡ p .transfer .number
+    found-number =
+        ap (numberIn d) (found-first F live st)
+        ∙ ap (λ (s : Side). s .transfer .number) (side-read st (getD (slots l) i noSlot) d (P .whole) stands)
+
     -- what step comes to
-    hand-by : {n : Option Piece} → coming ≡ n → stepOutcome (view l st) tag d ≡ handOut (view l st) tag d n
-    hand-by e = ap (handOut (view l st) tag d) (found-next ∙ e)
+    hand-by : {n : Option Piece} → coming ≡ n → stepOutcome (view l st) tag d ≡ handOut (view l st) tag d (p .transfer .number) n
+    hand-by e = λ k. handOut (view l st) tag d (found-number k) ((found-next ∙ e) k)
 
     module _ {r : Cut} (is : r ≡ nextWrapped coming) where
       -- no piece is left
-      pub none-left : r ≡ CutDone → HandsOut l l st tag d Done
-      none-left e = record { replies = replies-by (hand-by (no-piece coming is e)) (performed refl refl refl refl); done = λ q. refl }
+      pub none-left : r ≡ CutDone → HandsOut l l st tag d (Done (p .transfer .number))
+      none-left e = record { replies = replies-by (hand-by (no-piece coming is e)) (performed refl refl refl refl); done = λ n q. refl }
 
       -- a piece is handed out
-      pub one-handed : {l′ : List ℕ} {k : Kind} (h to : ℕ) (m : Piece) → r ≡ CutPiece m → k ≡ kindOf d → SlotChanged l l′ i (movedSlot d h to (p .transfer .end))
-          → openOf st (movedSlot d h to (p .transfer .end) (getD (slots l) i noSlot)) ≡ onSide d (handing (m .len)) (here st)
-          → HandsOut l l′ st tag d (Operation k m)
+      pub one-handed : {l′ : List ℕ} {k : Kind} (h to : ℕ) (m : Piece) → r ≡ CutPiece m → k ≡ kindOf d → SlotChanged l l′ i (movedSlot d h to (p .transfer .end) (p .transfer .number + 1))
+          → openOf st (movedSlot d h to (p .transfer .end) (p .transfer .number + 1) (getD (slots l) i noSlot)) ≡ onSide d (handing (m .len)) (here st)
+          → HandsOut l l′ st tag d (Operation k m (p .transfer .number + 1))
       one-handed {l′} h to m e q C a =
           let o = a-piece coming is e in
+          let number = p .transfer .number + 1 in
           let moved = a ∙ ap (λ (x : Piece). onSide d (handing (x .len)) (here st)) (o .2) in
           record {
-            replies = replies-by (hand-by (o .1)) (performed (ap (λ (x : Kind). Operation x m) q ∙ ap (Operation (kindOf d)) (o .2)) (changed-view l l′ st live F C (onSide d (handing (o .0 .len))) moved) refl refl);
-            done = λ f. let z : _≡_ {A = ℕ} 0 1 = cc in let y : ⊥ = omega arith in absurd y;
+            replies = replies-by (hand-by (o .1)) (performed (ap (λ (x : Kind). Operation x m number) q ∙ ap (λ (x : Piece). Operation (kindOf d) x number) (o .2)) (changed-view l l′ st live F C (onSide d (handing (o .0 .len))) moved) refl refl);
+            done = λ n f. let z : _≡_ {A = ℕ} 0 1 = cc in let y : ⊥ = omega arith in absurd y;
           }

@@ -41,22 +41,22 @@ module _ (st : List ℕ) (c : Slot) (d : Direction) {p : Part} (e : p ≡ partFo
 
   -- with a move named it is the command with that move
   pub named-open : (offset count : ℕ) {to : ℕ} → to ≡ trimmed offset count (min (p .transfer .required) (p .total))
-      → openOf st (movedSlot d (p .transfer .highest) offset to c) ≡ onSide d (moving offset count) (openOf st c)
+      → openOf st (movedSlot d (p .transfer .highest) offset to 0 c) ≡ onSide d (moving offset count) (openOf st c)
   named-open offset count f = rw (f, e) (by d)
     where
       by : (d : Direction)
-          → openOf st (movedSlot d (partFor d c .transfer .highest) offset (trimmed offset count (min (partFor d c .transfer .required) (partFor d c .total))) c)
+          → openOf st (movedSlot d (partFor d c .transfer .highest) offset (trimmed offset count (min (partFor d c .transfer .required) (partFor d c .total))) 0 c)
           ≡ onSide d (moving offset count) (openOf st c)
       by Out = refl
       by In = refl
 
-  -- with n bytes more handed out it is the command with them
+  -- with a piece more of n bytes handed out it is the command with it
   pub handed-open : (n : ℕ) {to h : ℕ} → to ≡ p .transfer .at + n → h ≡ max (p .transfer .highest) to
-      → openOf st (movedSlot d h to (p .transfer .end) c) ≡ onSide d (handing n) (openOf st c)
+      → openOf st (movedSlot d h to (p .transfer .end) (p .transfer .number + 1) c) ≡ onSide d (handing n) (openOf st c)
   handed-open n f g = rw (g, f, e) (by d)
     where
       by : (d : Direction)
-          → openOf st (movedSlot d (max (partFor d c .transfer .highest) (partFor d c .transfer .at + n)) (partFor d c .transfer .at + n) (partFor d c .transfer .end) c)
+          → openOf st (movedSlot d (max (partFor d c .transfer .highest) (partFor d c .transfer .at + n)) (partFor d c .transfer .at + n) (partFor d c .transfer .end) (partFor d c .transfer .number + 1) c)
           ≡ onSide d (handing n) (openOf st c)
       by Out = refl
       by In = refl
@@ -68,9 +68,11 @@ pub next-part : (T : Terms) (st : List ℕ) (place : ℕ) (d : Direction) (p : P
     → next (ruleOf T) (p .transfer .at) (p .transfer .end) (segmentsOf (take (at + p .segments * 16 - at) (drop at st))) ≡ nextIn T (sideOf st (placeAt d place) p)
 next-part T st place d p {at} f = let h : at + p .segments * 16 - at ≡ 16 * p .segments = omega arith in rw (h, f) refl
 
--- it ends by the move's end
-ends-by : (T : Terms) → 1 ≤ T .maximum → (s : Side) (o : Piece) → nextIn T s ≡ some o → s .transfer .at + o .len ≤ s .transfer .end
-ends-by T some-byte s o e = piece-fits (ruleOf T) 0 (s .transfer .at) (s .transfer .end) (s .extent .segs) o (up-to (T .maximum) some-byte) e .upto
+-- it has a byte, and ends by the move's end
+ends-by : (T : Terms) → 1 ≤ T .maximum → (s : Side) (o : Piece) → nextIn T s ≡ some o → (1 ≤ o .len) × (s .transfer .at + o .len ≤ s .transfer .end)
+ends-by T some-byte s o e =
+    let f = piece-fits (ruleOf T) 0 (s .transfer .at) (s .transfer .end) (s .extent .segs) o (up-to (T .maximum) some-byte) e in
+    (f .some, f .upto)
 
 -- ── the next piece as the walk over the memory descriptors answers it
 
@@ -101,10 +103,11 @@ module _ (n : Option Piece) {r : Cut} (is : r ≡ nextWrapped n) where
 
 -- ── the move's next byte
 
--- behind the next piece it stays in 32 bits
+-- the next piece has a byte, and behind it the move's next byte stays in 32 bits
 pub next-fits : (l st : List ℕ) (T : Terms) (at : ℕ) (p : Part) {r : Cut} (m : Piece) → T ≡ headOf l .terms → p .transfer .end < 2 ^ 32
-    → r ≡ nextWrapped (nextIn T (sideOf st at p)) → r ≡ CutPiece m → p .transfer .at + m .len < 2 ^ 32
+    → r ≡ nextWrapped (nextIn T (sideOf st at p)) → r ≡ CutPiece m → (1 ≤ m .len) × (p .transfer .at + m .len < 2 ^ 32)
 next-fits l st T at p m settled small is f =
     let o = a-piece (nextIn T (sideOf st at p)) is f in
     let some-byte : 1 ≤ T .maximum = rw settled (head-fits l .terms .smallest) in
-    rw (o .2) (omega (arith, ends-by T some-byte (sideOf st at p) (o .0) (o .1), small))
+    let e = ends-by T some-byte (sideOf st at p) (o .0) (o .1) in
+    rw (o .2) (e .0, omega (arith, e .1, small))

@@ -20,9 +20,9 @@ Names l l′ tag d offset count r = RepliesWith l l′ r (λ p. moveDef p tag d 
 -- a step that says done alters no word
 pub record Steps (l l′ st : List ℕ) (tag : ℕ) (d : Direction) (r : Reply) : Type 0 where
   pub replies : RepliesAs l st l′ st r (stepDef (view l st) tag d)
-  pub done : r ≡ Done → l′ ≡ l
+  pub done : (n : ℕ) → r ≡ Done n → l′ ≡ l
 
 -- of a planned command
 pub record HandsOut (l l′ st : List ℕ) (tag : ℕ) (d : Direction) (r : Reply) : Type 0 where
   pub replies : RepliesAs l st l′ st r (stepOutcome (view l st) tag d)
-  pub done : r ≡ Done → l′ ≡ l
+  pub done : (n : ℕ) → r ≡ Done n → l′ ≡ l

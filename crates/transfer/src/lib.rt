@@ -64,7 +64,7 @@ fn begin(s: &mut [u64], tag: u64, i: usize, d: Direction, offset: u32, count: u3
         return Reply::Refused(Refusal::Unfinished);
     }
     let end = wire::least((offset as u64) + (count as u64), movable) as u32;
-    commands::set_move(s, i, d, t.highest, offset, end);
+    commands::set_move(s, i, d, t.highest, offset, end, 0);
     Reply::Performed
 }
 
@@ -144,17 +144,18 @@ fn hand_out(s: &mut [u64], store: &[u8], tag: u64, i: usize, d: Direction, terms
     match next_for(store, place, p, d, terms) {
         // next_piece refuses nothing: this arm is shown not to be reached
         Cut::CutRefused(f) => Reply::Refused(f),
-        Cut::CutDone => Reply::Done,
+        Cut::CutDone => Reply::Done(p.transfer.number),
         Cut::CutPiece(piece) => {
             let next = p.transfer.at + piece.len;
             let highest = larger(p.transfer.highest, next);
-            commands::set_move(s, i, d, highest, next, p.transfer.end);
-            Reply::Operation(kind_for(d), piece)
+            let number = p.transfer.number + 1;
+            commands::set_move(s, i, d, highest, next, p.transfer.end, number);
+            Reply::Operation(kind_for(d), piece, number)
         }
     }
 }
 
-// The next piece of a direction's current move, or done. Refused 21, 24, 29.
+// The next piece of a direction's current move, or done, each with the number handed out for the move. Refused 21, 24, 29.
 pub fn step(s: &mut [u64; PORT], store: &[u8; STORE], tag: u64, d: Direction) -> Reply
     ensures { λ r. ⌜ Steps (now (s .entry)) (now (s .exit)) (now (store .entry)) tag d r ⌝ }
 {

@@ -11,16 +11,20 @@ use lib.Seq.{length-take-le, getD-take}
 use Rattle.srp.specs.Credit.{closedPort}
 use Rattle.words.specs.declared.Slot.{Slot}
 use Rattle.words.specs.Sizes.{portWords, mostSlots}
-use Rattle.words.specs.Slots.{slotOf, SlotFits, slotAt, region, slots, noSlot}
+use Rattle.words.specs.Slots.{partAt, partIn, slotOf, PartFits, SlotFits, slotAt, region, slots, noSlot}
+use Rattle.srp.specs.declared.Direction.the-variants.{Out, In}
 use Rattle.words.specs.Head.{headOf, HeadFits}
 use Rattle.words.specs.View.{opens, openOf, shown, view, closedWords, InRanges}
 use Rattle.words.proofs.Slots.{slots-long, slot-at, slot-tag}
 
 -- ── ranges
 
--- the slot that words say is in its ranges
+-- the direction and the slot that words say are in their ranges
+pub part-fits : (r : List ℕ) (k : ℕ) → PartFits (partIn r k)
+part-fits r k = record { few = omega arith; counted = omega arith }
+
 pub said-fits : (r : List ℕ) → SlotFits (slotOf r)
-said-fits r = record { place = omega arith; out = omega arith; inn = omega arith }
+said-fits r = record { place = omega arith; out = part-fits r (partAt Out); inn = part-fits r (partAt In) }
 
 -- a slot of a port is in its ranges
 pub slot-fits : (l : List ℕ) (i : ℕ) → i < mostSlots → SlotFits (getD (slots l) i noSlot)

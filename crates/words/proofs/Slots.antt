@@ -22,7 +22,7 @@ use Rattle.words.specs.declared.Part.{Part}
 use Rattle.words.specs.declared.Slot.{Slot}
 use Rattle.words.specs.declared.Head.{Head}
 use Rattle.words.specs.Sizes.{portWords, mostSlots, headSize, slotWords, usedWords}
-use Rattle.words.specs.Slots.{on, slotRequest, partAt, partIn, slotOf, wordsOf, SlotFits, slotAt, region, slotsFrom, slots, noSlot, partFor}
+use Rattle.words.specs.Slots.{on, slotRequest, partAt, partIn, slotOf, wordsOf, PartFits, SlotFits, slotAt, region, slotsFrom, slots, noSlot, partFor}
 use Rattle.words.specs.Head.{headOf, headWords, HeadFits, SlotChanged, HeadChanged}
 
 -- ── a list with a part written
@@ -146,21 +146,23 @@ on-bit true = refl
 on-bit false = refl
 
 -- the numbers of a direction are in their ranges
-part-kept : (p : Part) (vs : List Val) → Is part.the-row p vs → p .segments ≤ mostCopies
+part-kept : (p : Part) (vs : List Val) → Is part.the-row p vs → PartFits p
     → (min (p .segments) mostCopies ≡ p .segments)
     × (p .total % 2 ^ 32 ≡ p .total)
     × (p .transfer .required % 2 ^ 32 ≡ p .transfer .required)
     × (p .transfer .highest % 2 ^ 32 ≡ p .transfer .highest)
     × (p .transfer .at % 2 ^ 32 ≡ p .transfer .at)
     × (p .transfer .end % 2 ^ 32 ≡ p .transfer .end)
+    × (min (p .transfer .number) (p .transfer .at) ≡ p .transfer .number)
 part-kept p vs g h =
     let t = g .1 .1 .1 .1 .0 in (
-      omega arith,
+      omega (arith, h .few),
       mod-eq-of-lt (g .1 .1 .1 .0 .1),
       mod-eq-of-lt (t .1 .1 .0 .1),
       mod-eq-of-lt (t .1 .1 .1 .0 .1),
       mod-eq-of-lt (t .1 .1 .1 .1 .0 .1),
       mod-eq-of-lt (t .1 .1 .1 .1 .1 .0 .1),
+      omega (arith, h .counted),
     )
 
 -- a slot's words say the slot, whatever stands behind them
@@ -168,7 +170,7 @@ decoded : (c : Slot) (vs : List Val) → Is the-row c vs → SlotFits c → (res
 decoded c vs g F rest =
     let o = part-kept (c .out) _ (g .1 .1 .1 .1 .1 .0) (F .out) in
     let n = part-kept (c .inn) _ (g .1 .1 .1 .1 .1 .1 .0) (F .inn) in
-    simp (o .0, o .1, o .2, o .3, o .4, o .5, n .0, n .1, n .2, n .3, n .4, n .5, mod-eq-of-lt (F .place), on-bit)
+    simp (o .0, o .1, o .2, o .3, o .4, o .5, o .6, n .0, n .1, n .2, n .3, n .4, n .5, n .6, mod-eq-of-lt (F .place), on-bit)
 
 -- a head's words say the head
 head-put : (l : List ℕ) (h : Head) → HeadFits h → headOf (paste l 0 (headWords h) (length (headWords h))) ≡ h

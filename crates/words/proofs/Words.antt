@@ -103,20 +103,27 @@ module _ (l : List ℕ) (long : length l ≡ portWords) (i : ℕ) (h : i < mostS
       (ap (λ (r : List ℕ). slotOf (set (set (set r 4 1) (partAt Out + 2) out) (partAt In + 2) inn)) whole ∙ simp (mod-eq-of-lt o, mod-eq-of-lt n))
 
   -- a move named or handed out
-  pub moved-put : (d : Direction) (n at end : ℕ) → n < 2 ^ 32 → at < 2 ^ 32 → end < 2 ^ 32
-      → SlotChanged l (set (set (set l (slotAt i + (partAt d + 3)) n) (slotAt i + (partAt d + 4)) at) (slotAt i + (partAt d + 5)) end) i (movedSlot d n at end)
+  pub moved-put : (d : Direction) (h at end number : ℕ) → h < 2 ^ 32 → at < 2 ^ 32 → end < 2 ^ 32 → number ≤ at
+      → SlotChanged l (set (set (set (set l (slotAt i + (partAt d + 3)) h) (slotAt i + (partAt d + 4)) at) (slotAt i + (partAt d + 5)) end) (slotAt i + (partAt d + 6)) number) i
+      (movedSlot d h at end number)
   unfolding wordsAt
-  moved-put d n at end bn ba be =
-      changed i (slot-word i (slot-word i (slot-word i (unwritten l i) (partAt d + 3) n (small d 3 (omega arith))) (partAt d + 4) at (small d 4 (omega arith))) (partAt d + 5) end (small d 5 (omega arith))) h
-      (movedSlot d n at end) (said d)
+  moved-put d high at end number bh ba be few =
+      let three = slot-word i (slot-word i (slot-word i (unwritten l i) (partAt d + 3) high (small d 3 (omega arith))) (partAt d + 4) at (small d 4 (omega arith))) (partAt d + 5) end (small d 5 (omega arith)) in
+      changed i (slot-word i three (partAt d + 6) number (small d 6 (omega arith))) h (movedSlot d high at end number) (said d)
     where
+      counted : min number at ≡ number
+      counted = omega arith
+
+      written : Direction → List ℕ → List ℕ
+      written d r = set (set (set (set r (partAt d + 3) high) (partAt d + 4) at) (partAt d + 5) end) (partAt d + 6) number
+
       small : (d : Direction) (k : ℕ) → k < partWords → partAt d + k < slotWords
       small Out k q = omega arith
       small In k q = omega arith
 
-      said : (d : Direction) → slotOf (set (set (set (region l i) (partAt d + 3) n) (partAt d + 4) at) (partAt d + 5) end) ≡ movedSlot d n at end (slotOf (region l i))
-      said Out = ap (λ (r : List ℕ). slotOf (set (set (set r (partAt Out + 3) n) (partAt Out + 4) at) (partAt Out + 5) end)) whole ∙ simp (mod-eq-of-lt bn, mod-eq-of-lt ba, mod-eq-of-lt be)
-      said In = ap (λ (r : List ℕ). slotOf (set (set (set r (partAt In + 3) n) (partAt In + 4) at) (partAt In + 5) end)) whole ∙ simp (mod-eq-of-lt bn, mod-eq-of-lt ba, mod-eq-of-lt be)
+      said : (d : Direction) → slotOf (written d (region l i)) ≡ movedSlot d high at end number (slotOf (region l i))
+      said Out = ap (λ (r : List ℕ). slotOf (written Out r)) whole ∙ simp (mod-eq-of-lt bh, mod-eq-of-lt ba, mod-eq-of-lt be, counted)
+      said In = ap (λ (r : List ℕ). slotOf (written In r)) whole ∙ simp (mod-eq-of-lt bh, mod-eq-of-lt ba, mod-eq-of-lt be, counted)
 
 -- ── a slot's words shifted to another
 

@@ -24,7 +24,7 @@ abbrev pub partsAt : ℕ
 partsAt = 6
 
 abbrev pub partWords : ℕ
-partWords = 6
+partWords = 7
 
 abbrev pub usedWords : ℕ
 usedWords = partsAt + 2 * partWords

@@ -30,9 +30,10 @@ abbrev pub partAt : Direction → ℕ
 partAt Out = partsAt
 partAt In = partsAt + partWords
 
--- one direction, in the words from k on
+-- one direction, in the words from k on; every operation has a byte, so there were no more for the move than bytes before the next one
 abbrev pub partIn : List ℕ → ℕ → Part
 partIn r k =
+    let next : ℕ = getD r (k + 4) 0 % 2 ^ 32 in
     record {
       segments = min (getD r k 0) mostCopies;
       total = getD r (k + 1) 0 % 2 ^ 32;
@@ -40,8 +41,9 @@ partIn r k =
           record {
             required = getD r (k + 2) 0 % 2 ^ 32;
             highest = getD r (k + 3) 0 % 2 ^ 32;
-            at = getD r (k + 4) 0 % 2 ^ 32;
+            at = next;
             end = getD r (k + 5) 0 % 2 ^ 32;
+            number = min (getD r (k + 6) 0) next;
           };
     }
 
@@ -57,7 +59,7 @@ slotOf r =
 
 abbrev pub partWordsOf : Part → List ℕ
 partWordsOf p =
-    p .segments ∷ p .total ∷ p .transfer .required ∷ p .transfer .highest ∷ p .transfer .at ∷ p .transfer .end ∷ []
+    p .segments ∷ p .total ∷ p .transfer .required ∷ p .transfer .highest ∷ p .transfer .at ∷ p .transfer .end ∷ p .transfer .number ∷ []
 
 -- the words of a slot that are used
 abbrev pub wordsOf : Slot → List ℕ
@@ -68,11 +70,15 @@ wordsOf c =
     ∷ partWordsOf (c .out)
     ++ partWordsOf (c .inn)
 
--- a slot that its words can hold
+-- a direction and a slot that their words can hold
+pub record PartFits (p : Part) : Type 0 where
+  pub few : p .segments ≤ mostCopies
+  pub counted : p .transfer .number ≤ p .transfer .at
+
 pub record SlotFits (c : Slot) : Type 0 where
   pub place : c .place < mostSlots
-  pub out : c .out .segments ≤ mostCopies
-  pub inn : c .inn .segments ≤ mostCopies
+  pub out : PartFits (c .out)
+  pub inn : PartFits (c .inn)
 
 -- ── the slots of a port
 
@@ -118,7 +124,7 @@ partFor d c = of d (partsOf c)
 -- a direction that was read
 pub record PartIs (l : List ℕ) (i : ℕ) (d : Direction) (p : Part) : Type 0 where
   pub whole : p ≡ partFor d (getD (slots l) i noSlot)
-  pub few : p .segments ≤ mostCopies
+  pub fits : PartFits p
 
 -- where a direction's memory descriptors stand in the store, by the command's place there
 abbrev pub placeAt : Direction → ℕ → ℕ
@@ -144,5 +150,6 @@ abbrev pub plannedSlot : ℕ → ℕ → Slot → Slot
 plannedSlot out inn c = withParts c true (along requiringOf (record { out = out; inn = inn }) (partsOf c))
 
 -- a slot with another h and another current move of a direction
-abbrev pub movedSlot : Direction → ℕ → ℕ → ℕ → Slot → Slot
-movedSlot d h at end c = withParts c (c .planned) (alter d (λ p. partWith p (withCurrent h at end (p .transfer))) (partsOf c))
+abbrev pub movedSlot : Direction → (highest at end number : ℕ) → Slot → Slot
+movedSlot d highest at end number c =
+    withParts c (c .planned) (alter d (λ p. partWith p (withCurrent highest at end number (p .transfer))) (partsOf c))

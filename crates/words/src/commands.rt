@@ -27,7 +27,7 @@ const IN: usize = OUT + PART;
 // so many are used
 const USED: usize = IN + PART;
 
-// Words of a direction: the number of its segments, B, R, h, and the current move's next byte and end.
+// Words of a direction: the number of its segments, B, R, h, the current move's next byte and end, and the number of operations handed out for it.
 const TOTAL: usize = 1;
 
 const REQUIRED: usize = 2;
@@ -38,7 +38,9 @@ const NEXT: usize = 4;
 
 const END: usize = 5;
 
-const PART: usize = 6;
+const NUMBER: usize = 6;
+
+const PART: usize = 7;
 
 // What a number may be; there are as many places as commands can be open.
 const MOST_SEGMENTS: u64 = limits::MOST_COPIES as u64;
@@ -64,11 +66,14 @@ fn part_of(r: &[u64], at: usize) -> Part
     ensures { λ p. ⌜ p ≡ partIn (now (r .entry)) at ⌝ }
 {
     let segments = wire::least(r[at], MOST_SEGMENTS);
+    let next = r[at + NEXT] % NUMBERS;
+    let number = wire::least(r[at + NUMBER], next);
     let transfer = Transfer {
         required: (r[at + REQUIRED] % NUMBERS) as u32,
         highest: (r[at + HIGHEST] % NUMBERS) as u32,
-        at: (r[at + NEXT] % NUMBERS) as u32,
+        at: next as u32,
         end: (r[at + END] % NUMBERS) as u32,
+        number: number as u32,
     };
     Part {
         segments: segments as u8,
@@ -94,7 +99,7 @@ fn slot_of(r: &[u64]) -> Slot
     }
 }
 
-fn words_of(c: Slot) -> [u64; 18]
+fn words_of(c: Slot) -> [u64; 20]
     ensures { λ r. ⌜ r ≡ wordsOf c ⌝ }
 {
     let request = c.request;
@@ -115,12 +120,14 @@ fn words_of(c: Slot) -> [u64; 18]
         o.highest as u64,
         o.at as u64,
         o.end as u64,
+        o.number as u64,
         inn.segments as u64,
         inn.total as u64,
         i.required as u64,
         i.highest as u64,
         i.at as u64,
         i.end as u64,
+        i.number as u64,
     ]
 }
 
@@ -222,14 +229,16 @@ pub fn set_plan(s: &mut [u64], i: usize, out: u32, inn: u32)
 }
 
 // Another h and another current move of a direction of the command in slot i.
-pub fn set_move(s: &mut [u64], i: usize, d: Direction, highest: u32, next: u32, end: u32)
+pub fn set_move(s: &mut [u64], i: usize, d: Direction, highest: u32, next: u32, end: u32, number: u32)
     requires { ⌜ length (now s) ≡ portWords ⌝ }
     requires { ⌜ i < mostSlots ⌝ }
-    ensures { λ _. ⌜ SlotChanged (now (s .entry)) (now (s .exit)) i (movedSlot d highest next end) ⌝ }
+    requires { ⌜ number ≤ next ⌝ }
+    ensures { λ _. ⌜ SlotChanged (now (s .entry)) (now (s .exit)) i (movedSlot d highest next end number) ⌝ }
 {
     let at = SLOT * i + HEAD;
     let k = part_at(d);
     s[at + (k + HIGHEST)] = highest as u64;
     s[at + (k + NEXT)] = next as u64;
     s[at + (k + END)] = end as u64;
+    s[at + (k + NUMBER)] = number as u64;
 }

@@ -5,6 +5,7 @@ use native.Mathlib.Omega.{arith}
 use Rattle.words.specs.Sizes.{slotWords}
 use Rattle.words.specs.Slots.{partIn, partAt, slotAt, region}
 use Rattle.words.proofs.Slots.{slot-part}
+use Rattle.words.proofs.Ports.{part-fits}
 use borrow.Author.Needs.{needs}
 use Rattle.words.proofs.commands.load_part.Statement.{statement}
 use Rattle.words.proofs.commands.load_part.Tie as tie
@@ -43,7 +44,7 @@ returns c =
     let n : slotAt (a .i) + slotWords - slotAt (a .i) ≡ slotWords = omega arith in
     let there : c .part-of .result ≡ partIn r (c .before .before .part-at .result) = rw n at (c .part-of .ensures) in
     let e : c .part-of .result ≡ partIn r (partAt (a .d)) = there ∙ ap (partIn r) (c .before .before .part-at .ensures .0) in
-    record { whole = e ∙ sym (slot-part (a .s .now) (a .i) (c .before .before .before .before .pre .1) (a .d)); few = rw e (omega arith) }
+    record { whole = e ∙ sym (slot-part (a .s .now) (a .i) (c .before .before .before .before .pre .1) (a .d)); fits = rw e (part-fits r (partAt (a .d))) }
 
 pub load-part-spec : {M : Type 1} → statement M
 load-part-spec =

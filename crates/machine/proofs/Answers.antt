@@ -1,0 +1,85 @@
+-- What a step answers is what demand 3 says: the next of a command's own cuts with the number handed out so far for its move, and of a finished move the least number.
+-- Assumes nothing.
+use mathlib.Core.Path.{_≡_, refl, ap, sym, _∙_, subst}
+use mathlib.Core.Bool.{false}
+use mathlib.Core.List.{List, [], _∷_, _++_, append-nil}
+use mathlib.Core.Option.{Option, none, some}
+use Prim.Native.Nat.{ℕ, _+_}
+use native.Mathlib.Omega.{arith}
+use lib.ListN.{length, drop, length-append, length-drop}
+use lib.Seq.{take-all}
+use borrow.Author.Tests.{ltb-false}
+use Rattle.srp.specs.Cutting.{cutsOf}
+use Rattle.srp.specs.Credit.{ruleOf}
+use Rattle.srp.specs.Fewest.{Fewest}
+use Rattle.srp.specs.Calls.{kindOf}
+use Rattle.srp.specs.declared.Terms.{Terms}
+use Rattle.srp.specs.declared.Direction.{Direction}
+use Rattle.srp.specs.declared.Piece.{Piece}
+use Rattle.srp.specs.declared.Reply.the-variants.{Operation, Done}
+use Rattle.machine.specs.Machine.{Progress, soFar, withOperation}
+use Rattle.machine.specs.Events.{wholeOf, piecesLeft, saidOf, CurrentFewest, Right}
+use Rattle.srp.proofs.CutLaws.{Lawful, stops, some-below, none-above}
+use Rattle.srp.proofs.Fewest.{fewest}
+use Rattle.machine.proofs.Moves.{toOf, endOf, atOf, leftOf, Steady, ends-by, coming, turn, step-steady}
+
+-- ── a finished move
+
+-- where all were handed out, those of the current move are its cuts
+all-counted : (T : Terms) (cut : Lawful (ruleOf T)) (g : Progress) (s : Steady T g) → coming T cut g s ≡ none → CurrentFewest T g (soFar g)
+all-counted T cut g s e m f =
+    let c = s .current m f in
+    let cuts = cutsOf (ruleOf T) (m .from) (m .to) (g .segs) in
+    let handed = drop (g .earlier) (g .operations) in
+    let left : leftOf T g ≡ [] = s .left ∙ stops (ruleOf T) 0 (atOf T g) (endOf (g .moves)) (g .segs) e in
+    let parts : handed ≡ cuts = sym (append-nil handed) ∙ (rw left at (c .parts)) in
+    let n : length cuts ≡ soFar g = sym (ap {B = ℕ} length parts) ∙ length-drop (g .earlier) (g .operations) in
+    subst (Fewest T (m .from) (m .to) (g .segs)) n
+    (fewest T (m .from) (m .to) (g .segs) (omega (arith, cut 0 1 (omega arith))) (c .forward) (omega (arith, ap toOf f, ends-by T cut g s)))
+
+-- and where a step hands out the last piece, they are its cuts with it
+last-counted : (T : Terms) (cut : Lawful (ruleOf T)) (g : Progress) (s : Steady T g) (o : Piece) → coming T cut g s ≡ some o
+    → piecesLeft T (withOperation o g) ≡ false → CurrentFewest T g (soFar g + 1)
+last-counted T cut g s o e h m f =
+    let n : soFar (withOperation o g) ≡ soFar g + 1 = omega (arith, length-append (g .operations) (o ∷ []), s .early) in
+    subst (Fewest T (m .from) (m .to) (g .segs)) n (all-counted T cut (withOperation o g) s′ (ended (coming T cut (withOperation o g) s′) refl) m f)
+  where
+    s′ : Steady T (withOperation o g)
+    s′ = step-steady T cut g s o e
+
+    ended : (v : Option Piece) → coming T cut (withOperation o g) s′ ≡ v → coming T cut (withOperation o g) s′ ≡ none
+    ended none q = q
+    ended (some p) q =
+        let k = length (g .operations ++ (o ∷ [])) in
+        absurd (omega (arith, ltb-false k (length (wholeOf T g)) h, some-below (wholeOf T g) k p (turn T cut (withOperation o g) s′ ∙ q)))
+
+-- ── a step's answer
+
+module _ (T : Terms) (cut : Lawful (ruleOf T)) (g : Progress) (s : Steady T g) (d : Direction) where
+  -- a piece is left
+  pub next-right : (o : Piece) → coming T cut g s ≡ some o → Right T d g (Operation (kindOf d) o (soFar g + 1))
+  next-right o e =
+      let t = turn T cut g s ∙ e in
+      record {
+        in-turn = sym (ap (saidOf d (soFar g)) t);
+        done-iff = ((λ f. absurd (no-done (f .0) (f .1))), λ f. absurd (omega (arith, ap length f, some-below (wholeOf T g) (length (g .operations)) o t)));
+        finished = λ n f. absurd (no-done n f);
+        last = λ k o′ n f h.
+            let same : o ≡ o′ = cc in
+            let number : soFar g + 1 ≡ n = cc in
+            subst (CurrentFewest T g) number (last-counted T cut g s o e (rw (sym same) at h));
+      }
+    where
+      no-done : (n : ℕ) → Operation (kindOf d) o (soFar g + 1) ≡ Done n → ⊥
+      no-done n f = let z : _≡_ {A = ℕ} 0 1 = cc in omega arith
+
+  -- none is
+  pub last-right : coming T cut g s ≡ none → Right T d g (Done (soFar g))
+  last-right e =
+      let t = turn T cut g s ∙ e in
+      record {
+        in-turn = sym (ap (saidOf d (soFar g)) t);
+        done-iff = (λ f. s .order ∙ take-all (length (g .operations)) (wholeOf T g) (none-above (wholeOf T g) (length (g .operations)) t), λ f. (soFar g, refl));
+        finished = λ n f. let number : soFar g ≡ n = cc in subst (CurrentFewest T g) number (all-counted T cut g s e);
+        last = λ k o n f. let z : _≡_ {A = ℕ} 0 1 = cc in absurd (omega arith);
+      }

@@ -1,0 +1,84 @@
+-- Document 02, job 4, worked out by hand: moves with the segments that have a byte in them, their operations and the bound; and lists that cover a move. The rows hold:
+-- proofs/MoveRows.antt.
+use mathlib.Core.Bool.{false}
+use mathlib.Core.List.{List, [], _∷_, map}
+use Prim.Native.Nat.{ℕ, _+_, _-_, _/_}
+use lib.ListN.{length}
+use Rattle.srp.specs.Descriptors.{Segment}
+use Rattle.srp.specs.Cutting.{upTo, piece, cutsOf}
+use Rattle.srp.specs.Fewest.{touched}
+use Rattle.srp.specs.declared.Terms.{Terms}
+use Rattle.srp.specs.declared.Piece.{Piece}
+
+-- a move in segments of so many bytes, and M
+pub record Moving : Type 0 where
+  pub lengths : List ℕ
+  pub from : ℕ
+  pub to : ℕ
+  pub maximum : ℕ
+
+-- the segments with a byte in it, its operations, and the bound
+pub record Counts : Type 0 where
+  pub segments : ℕ
+  pub operations : ℕ
+  pub most : ℕ
+
+abbrev pub segmentsOf : Moving → List Segment
+segmentsOf m = map (λ n. record { address = 0x1000; handle = 7; len = n }) (m .lengths)
+
+abbrev pub countsOf : Moving → Counts
+countsOf m =
+    let t : ℕ = touched 0 (m .from) (m .to) (segmentsOf m) in
+    record { segments = t; operations = length (cutsOf (upTo (m .maximum)) (m .from) (m .to) (segmentsOf m)); most = t + (m .to - m .from) / m .maximum }
+
+abbrev pub moved : List ℕ → ℕ → ℕ → ℕ → Moving
+moved lengths from to maximum = record { lengths = lengths; from = from; to = to; maximum = maximum }
+
+abbrev pub counts : ℕ → ℕ → ℕ → Counts
+counts segments operations most = record { segments = segments; operations = operations; most = most }
+
+abbrev pub rows : List (Moving × Counts)
+rows =
+    -- one segment: the bound is met unless the bytes are a multiple of M
+    (moved (1300 ∷ []) 0 1300 512, counts 1 3 3)
+    ∷ (moved (1024 ∷ []) 0 1024 512, counts 1 2 3)
+    ∷ (moved (3 ∷ []) 0 3 1, counts 1 3 4)
+    ∷ (moved (1300 ∷ []) 500 520 512, counts 1 1 1)
+    -- more: a piece ends where its segment does
+    ∷ (moved (600 ∷ 100 ∷ []) 0 700 512, counts 2 3 3)
+    ∷ (moved (512 ∷ 512 ∷ []) 0 1024 512, counts 2 2 4)
+    ∷ (moved (1 ∷ 1 ∷ 1 ∷ []) 0 3 512, counts 3 3 3)
+    ∷ (moved (513 ∷ 513 ∷ 513 ∷ []) 0 1539 512, counts 3 6 6)
+    -- segments before the move, behind it, and without a byte
+    ∷ (moved (600 ∷ 100 ∷ []) 600 700 512, counts 1 1 1)
+    ∷ (moved (600 ∷ 100 ∷ []) 0 600 512, counts 1 2 2)
+    ∷ (moved (0 ∷ 600 ∷ 0 ∷ 100 ∷ 0 ∷ []) 599 601 512, counts 2 2 2)
+    ∷ (moved (0 ∷ 600 ∷ 0 ∷ 100 ∷ 0 ∷ []) 0 700 512, counts 2 3 3)
+    -- no bytes
+    ∷ (moved (600 ∷ 100 ∷ []) 300 300 512, counts 0 0 0)
+    ∷ (moved (600 ∷ 100 ∷ []) 700 700 512, counts 0 0 0)
+    ∷ []
+
+-- ── lists for the 700 bytes of two segments that adjoin in memory, with M = 512
+
+abbrev pub terms : Terms
+terms = record { maximum = 512; agreed = 64; formats = 0; crsolnt = false; losolnt = false }
+
+abbrev pub two : List Segment
+two = record { address = 0x3000; handle = 7; len = 600 } ∷ record { address = 0x3258; handle = 7; len = 100 } ∷ []
+
+-- 600 bytes in other parts
+abbrev pub halves : List Piece
+halves = piece 0x3000 7 300 0 ∷ piece 0x312c 7 300 300 ∷ piece 0x3258 7 100 600 ∷ []
+
+-- two operations would do if the second might go on from one segment into the other
+abbrev pub crossing : List Piece
+crossing = piece 0x3000 7 512 0 ∷ piece 0x3200 7 188 512 ∷ []
+
+-- or if one might be longer than M
+abbrev pub too-long : List Piece
+too-long = piece 0x3000 7 600 0 ∷ piece 0x3258 7 100 600 ∷ []
+
+-- or if the last bytes might stay where they are
+abbrev pub unfinished : List Piece
+unfinished = piece 0x3000 7 512 0 ∷ piece 0x3200 7 88 512 ∷ []
