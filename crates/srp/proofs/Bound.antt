@@ -3,7 +3,7 @@
 use mathlib.Core.Path.{_≡_, refl, ap, sym, _∙_}
 use mathlib.Core.Bool.{Bool, true, false, cond}
 use mathlib.Core.List.{List, [], _∷_, _++_}
-use Prim.Native.Nat.{ℕ, zero, suc, _+_, _-_, _*_, _/_, _≤_, min, max}
+use Prim.Native.Nat.{ℕ, zero, suc, _+_, _-_, _*_, _/_, _≤_, _<_, min, max}
 use native.Mathlib.Nat.{zero-add, add-mul, suc-mul, zero-mul, one-mul, not-suc-le-zero, le-div-iff-mul-le}
 use native.Mathlib.Omega.{arith}
 use lib.Dec.{ltb, leb}
@@ -85,6 +85,16 @@ none-reached from (s ∷ ss) =
     let n : min (s .len) 0 ≡ 0 = omega arith in
     rw (n, le-ltb from 0 (omega arith), none-reached (from - 0) ss)
 
+-- a place counted from the segment's first byte and from the buffer's
+begins-before : (o from to n : ℕ) → from - o < min n (to - o) → max o from < min (o + n) to
+begins-before o from to n h = omega arith
+
+ends-before : (o from to n : ℕ) → min n (to - o) ≤ from - o → min (o + n) to ≤ max o from
+ends-before o from to n h = omega arith
+
+passed-over : (o k n to : ℕ) → n ≤ to - o → k - o - min n (to - o) ≡ k - (o + n)
+passed-over o k n to h = let e : min n (to - o) ≡ n = omega arith in rw e (omega arith)
+
 -- they are the segments with a byte in the move, each by its own place
 reached-touched : (o from to : ℕ) (ss : List Segment) → reached (from - o) (to - o) ss ≡ touched o from to ss
 reached-touched o from to [] = refl
@@ -97,16 +107,14 @@ reached-touched o from to (s ∷ ss) = λ i. cond (first i) 1 0 + behind (leb (s
     first = go (ltb (from - o) n) refl
       where
         go : (b : Bool) → ltb (from - o) n ≡ b → b ≡ ltb (max o from) (min (o + s .len) to)
-        go true e = sym (lt-ltb (max o from) (min (o + s .len) to) (omega (arith, ltb-true (from - o) n e)))
-        go false e = sym (le-ltb (max o from) (min (o + s .len) to) (omega (arith, ltb-false (from - o) n e)))
+        go true e = sym (lt-ltb (max o from) (min (o + s .len) to) (begins-before o from to (s .len) (ltb-true (from - o) n e)))
+        go false e = sym (le-ltb (max o from) (min (o + s .len) to) (ends-before o from to (s .len) (ltb-false (from - o) n e)))
 
     behind : (b : Bool) → leb (s .len) (to - o) ≡ b → reached (from - (o + s .len)) (to - (o + s .len)) ss ≡ touched (o + s .len) from to ss
         → reached (from - o - n) (to - o - n) ss ≡ touched (o + s .len) from to ss
     behind true e ih =
         let le = leb-true (s .len) (to - o) e in
-        let f : from - o - n ≡ from - (o + s .len) = omega arith in
-        let t : to - o - n ≡ to - (o + s .len) = omega arith in
-        rw (f, t) ih
+        rw (passed-over o from (s .len) to le, passed-over o to (s .len) to le) ih
     behind false e ih =
         let lt = leb-false (s .len) (to - o) e in
         let t : to - o - n ≡ 0 = omega arith in

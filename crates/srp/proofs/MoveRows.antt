@@ -15,14 +15,13 @@ pub halves-rival : Rival terms 0 700 two halves
 halves-rival =
     record {
       covers = refl;
-      in-order = (refl, refl, refl, tt);
+      in-order = (refl, (refl, (refl, tt)));
       inside = (
-        inl (record { after = omega arith; place = refl; ends = omega arith; handle = refl }),
-        inl (record { after = omega arith; place = refl; ends = omega arith; handle = refl }),
+        inl (record { after = omega arith; place = refl; ends = omega arith; handle = refl }), (
+        inl (record { after = omega arith; place = refl; ends = omega arith; handle = refl }), (
         inr (inl (record { after = omega arith; place = refl; ends = omega arith; handle = refl })),
-        tt,
-      );
-      allowed = (omega arith, omega arith, omega arith, tt);
+        tt)));
+      allowed = (omega arith, (omega arith, (omega arith, tt)));
     }
 
 pub crossing-none : Rival terms 0 700 two crossing → ⊥
