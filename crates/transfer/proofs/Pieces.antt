@@ -21,7 +21,7 @@ use Rattle.srp.specs.declared.Cut.the-variants.{CutRefused, CutPiece, CutDone}
 use Rattle.srp.proofs.CutLaws.{up-to}
 use Rattle.srp.proofs.Pieces.{piece-fits}
 use Rattle.cut.specs.Walk.{nextWrapped}
-use Rattle.words.specs.Slots.{partFor, placeAt, placeFor, movedSlot}
+use Rattle.words.specs.Slots.{PartFits, partFor, placeAt, placeFor, movedSlot}
 use Rattle.words.specs.Head.{headOf}
 use Rattle.words.specs.View.{sideOf, openOf}
 use Rattle.words.specs.declared.Part.{Part}
@@ -103,11 +103,11 @@ module _ (n : Option Piece) {r : Cut} (is : r ≡ nextWrapped n) where
 
 -- ── the move's next byte
 
--- the next piece has a byte, and behind it the move's next byte stays in 32 bits
-pub next-fits : (l st : List ℕ) (T : Terms) (at : ℕ) (p : Part) {r : Cut} (m : Piece) → T ≡ headOf l .terms → p .transfer .end < 2 ^ 32
-    → r ≡ nextWrapped (nextIn T (sideOf st at p)) → r ≡ CutPiece m → (1 ≤ m .len) × (p .transfer .at + m .len < 2 ^ 32)
-next-fits l st T at p m settled small is f =
+-- behind the next piece it stays in 32 bits, and is at or behind as many bytes as there are operations then
+pub next-fits : (l st : List ℕ) (T : Terms) (at : ℕ) (p : Part) {r : Cut} (m : Piece) → T ≡ headOf l .terms → PartFits p → p .transfer .end < 2 ^ 32
+    → r ≡ nextWrapped (nextIn T (sideOf st at p)) → r ≡ CutPiece m → (p .transfer .at + m .len < 2 ^ 32) × (p .transfer .number + 1 ≤ p .transfer .at + m .len)
+next-fits l st T at p m settled fits small is f =
     let o = a-piece (nextIn T (sideOf st at p)) is f in
     let some-byte : 1 ≤ T .maximum = rw settled (head-fits l .terms .smallest) in
     let e = ends-by T some-byte (sideOf st at p) (o .0) (o .1) in
-    rw (o .2) (e .0, omega (arith, e .1, small))
+    rw (o .2) (omega (arith, e, small), omega (arith, e, fits .counted))

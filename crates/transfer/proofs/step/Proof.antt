@@ -24,7 +24,7 @@ returns c =
     let a = c .before .before .before .before .args in
     let l = a .s .now in
     let st = a .store .now in
-    record { replies = replies-by (step-closed (view l st) (a .tag) (a .d) (port-closed (c .before .get-head .ensures) st (c .if1 .taken))) (refused l st Closed); done = λ e. refl }
+    record { replies = replies-by (step-closed (view l st) (a .tag) (a .d) (port-closed (c .before .get-head .ensures) st (c .if1 .taken))) (refused l st Closed); done = λ n e. refl }
 
 find-requires : tie.Need-find-requires
 find-requires c κs = search needs
@@ -41,7 +41,7 @@ returns-2 c =
     let l = a .s .now in
     let st = a .store .now in
     let live : headOf l .live ≡ true = head-open (c .before .before .before .before .before .before .get-head .ensures) (c .before .before .before .before .before .if1 .left) in
-    record { replies = replies-by (step-unknown (view l st) (a .tag) (a .d) (view-live l st ∙ live) (found-none l (a .tag) (rw (c .enum-told .given .1) at (c .before .before .find .ensures)) live st)) (refused l st TagNotOpen); done = λ e. refl }
+    record { replies = replies-by (step-unknown (view l st) (a .tag) (a .d) (view-live l st ∙ live) (found-none l (a .tag) (rw (c .enum-told .given .1) at (c .before .before .find .ensures)) live st)) (refused l st TagNotOpen); done = λ n e. refl }
 
 load-planned-requires : tie.Need-load-planned-requires
 load-planned-requires c κs =
@@ -56,7 +56,7 @@ returns-3 c =
     let live : headOf l .live ≡ true = head-open (c .before .before .before .before .before .before .before .before .before .before .before .get-head .ensures) (c .before .before .before .before .before .before .before .before .before .before .if1 .left) in
     let F : FoundAt l (a .tag) (c .before .before .before .before .before .i .given .0 .0) = rw (c .before .before .before .before .before .i .given .1) at (c .before .before .before .before .before .before .before .find .ensures) in
     let st = a .store .now in
-    record { replies = replies-by (step-unplanned (view l st) (a .tag) (a .d) (view-live l st ∙ live) (openOf st (getD (slots l) (c .before .before .before .before .before .i .given .0 .0) noSlot)) (found-first F live st) (ap not (sym (c .before .load-planned .ensures)) ∙ c .if2 .taken)) (refused l st Unplanned); done = λ e. refl }
+    record { replies = replies-by (step-unplanned (view l st) (a .tag) (a .d) (view-live l st ∙ live) (openOf st (getD (slots l) (c .before .before .before .before .before .i .given .0 .0) noSlot)) (found-first F live st) (ap not (sym (c .before .load-planned .ensures)) ∙ c .if2 .taken)) (refused l st Unplanned); done = λ n e. refl }
 
 hand-out-requires : tie.Need-hand-out-requires
 hand-out-requires c κs =
