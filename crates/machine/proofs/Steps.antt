@@ -9,7 +9,6 @@ use Prim.Native.Nat.{ℕ, _+_, _-_, _≤_}
 use native.Mathlib.Omega.{arith}
 use lib.Dec.{ltb}
 use lib.ListN.{length}
-use lib.Seq.{take-all}
 use borrow.Author.Tests.{ltb-false, leb-false, not-false}
 use Rattle.srp.specs.Bytes.{typeOf}
 use Rattle.srp.specs.Lists.{find, change, without, All, isSome}
@@ -24,7 +23,7 @@ use Rattle.srp.specs.Calls.{unless, isPlanned, planned, planChecks, planDef, mo
 use Rattle.srp.specs.Answers.{refusalIn}
 use Rattle.machine.specs.Machine.{deltas, requests, Progress, soFar, movableIn, Track, plannedFor, withMove, withOperation, Work, Machine, tracked, withWork, withTracks, Login}
 use Rattle.machine.specs.Actions.{Owners, byOwner, atFront, between}
-use Rattle.machine.specs.Events.{sending, delivered, delivering, planning, wholeOf, isBeyond, isUnfinished, naming, saidOf, Right, stepping, finishing, adding, withdrawing, granting}
+use Rattle.machine.specs.Events.{sending, delivered, delivering, planning, wholeOf, isBeyond, isUnfinished, naming, Right, stepping, finishing, adding, withdrawing, granting}
 use Rattle.srp.specs.declared.Refusal.{Refusal}
 use Rattle.srp.specs.declared.Direction.{Direction}
 use Rattle.srp.specs.declared.Piece.{Piece}
@@ -33,7 +32,7 @@ use Rattle.srp.proofs.Checks.{passes}
 use Rattle.srp.proofs.ListLaws.{length-change, without-map, change-map, all-without, all-find, all-change}
 use Rattle.srp.proofs.BothLaws.{of-each, alter-each, each-of, each-altered}
 use Rattle.machine.proofs.Tags.{distinct-without, distinct-change, one-goes}
-use Rattle.srp.proofs.CutLaws.{Lawful, some-below, none-above}
+use Rattle.srp.proofs.CutLaws.{Lawful}
 use Rattle.srp.proofs.Pieces.{wrapped-same}
 use Rattle.machine.proofs.Deltas.{response-carries, request-carries}
 use Rattle.srp.proofs.Refusing.{unrefused, unless-iff}

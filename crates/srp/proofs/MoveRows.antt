@@ -2,8 +2,7 @@
 -- Assumes nothing.
 use mathlib.Core.Path.{_≡_, refl}
 use mathlib.Core.Logic.{inl, inr, ⊎-elim}
-use mathlib.Core.List.{List, [], _∷_, map}
-use Prim.Native.Nat.{ℕ, _≤_}
+use mathlib.Core.List.{map}
 use native.Mathlib.Omega.{arith}
 use Rattle.srp.specs.Fewest.{Rival}
 use Rattle.srp.specs.MoveRows.{Moving, Counts, countsOf, rows, terms, two, halves, crossing, too-long, unfinished}
@@ -17,10 +16,15 @@ halves-rival =
       covers = refl;
       in-order = (refl, (refl, (refl, tt)));
       inside = (
-        inl (record { after = omega arith; place = refl; ends = omega arith; handle = refl }), (
-        inl (record { after = omega arith; place = refl; ends = omega arith; handle = refl }), (
-        inr (inl (record { after = omega arith; place = refl; ends = omega arith; handle = refl })),
-        tt)));
+        inl (record { after = omega arith; place = refl; ends = omega arith; handle = refl }),
+        (
+          inl (record { after = omega arith; place = refl; ends = omega arith; handle = refl }),
+          (
+            inr (inl (record { after = omega arith; place = refl; ends = omega arith; handle = refl })),
+            tt,
+          ),
+        ),
+      );
       allowed = (omega arith, (omega arith, (omega arith, tt)));
     }
 

@@ -46,7 +46,7 @@ slot-left l h H pos = omega (arith, H .fits .counts .room, H .announced)
 -- up to 32 descriptors each way are in a slot's ranges
 pub new-fits : (r : Request) (k n m : ℕ) (out inn : List ℕ) → k < mostSlots → Segments out → Segments inn
     → SlotFits (newSlot r k (newPart (length out / 16) n) (newPart (length inn / 16) m))
-new-fits r k n m out inn small So Si = 
+new-fits r k n m out inn small So Si =
     record {
       place = small;
       out = record { few = omega (arith, So .short); counted = omega arith };

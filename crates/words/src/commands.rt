@@ -229,7 +229,15 @@ pub fn set_plan(s: &mut [u64], i: usize, out: u32, inn: u32)
 }
 
 // Another h and another current move of a direction of the command in slot i.
-pub fn set_move(s: &mut [u64], i: usize, d: Direction, highest: u32, next: u32, end: u32, number: u32)
+pub fn set_move(
+    s: &mut [u64],
+    i: usize,
+    d: Direction,
+    highest: u32,
+    next: u32,
+    end: u32,
+    number: u32,
+)
     requires { ⌜ length (now s) ≡ portWords ⌝ }
     requires { ⌜ i < mostSlots ⌝ }
     requires { ⌜ number ≤ next ⌝ }

@@ -1,3 +1,4 @@
+-- `transfer::hand_out` meets its contract. Assumes nothing.
 use mathlib.Core.Path.{refl}
 use Prim.Native.Nat.{_+_}
 use native.Mathlib.Omega.{arith}
@@ -10,40 +11,25 @@ use Rattle.transfer.proofs.Handing.{none-left, one-handed}
 use borrow.Author.Needs.{needs}
 use Rattle.transfer.proofs.hand_out.Statement.{statement}
 use Rattle.transfer.proofs.hand_out.Tie as tie
-use Rattle.transfer.proofs.hand_out.Reads as reads
-use Rattle.transfer.proofs.hand_out.Lts as lts
-use Rattle.transfer.proofs.kind_for.Reads as kind-for-reads
-use Rattle.transfer.proofs.larger.Reads as larger-reads
-use Rattle.transfer.proofs.next_for.Reads as next-for-reads
-use Rattle.words.proofs.commands.load_part.Reads as load-part-reads
-use Rattle.words.proofs.commands.load_place.Reads as load-place-reads
-use Rattle.words.proofs.commands.set_move.Reads as set-move-reads
 
--- src/lib.rt:142:9
 load-part-requires : tie.Need-load-part-requires
 load-part-requires c κs = search needs
 
--- src/lib.rt:143:9
 load-place-requires : tie.Need-load-place-requires
 load-place-requires c κs = search needs
 
--- src/lib.rt:144:11
 next-for-requires : tie.Need-next-for-requires
 next-for-requires c κs = search needs
 
--- src/lib.rt:146:25
 enum-known-f : tie.Need-enum-known-f
 enum-known-f c = search needs
 
--- src/lib.rt:147:25
 enum-told : tie.Need-enum-told
 enum-told c = search needs
 
--- src/lib.rt:148:23
 enum-known-piece : tie.Need-enum-known-piece
 enum-known-piece c = search needs
 
--- src/lib.rt:149:24
 add-next : tie.Need-add-next
 add-next c =
     let a = c .before .before .before .before .before .before .before .before .before .before .before .before .args in
@@ -51,11 +37,9 @@ add-next c =
     let f = next-fits (a .s .now) (a .store .now) (a .terms) (placeAt (a .d) (c .before .before .before .before .before .before .load-place .result)) q (c .before .before .before .piece .given .0 .0) (c .before .before .before .before .before .before .before .before .before .before .before .before .pre .1 .1 .1 .1) (c .before .before .before .before .before .before .before .before .load-part .ensures .fits) (search needs) (c .before .before .before .before .before .next-for .ensures) (c .before .before .before .piece .given .1) in
     record { fits = f .0 }
 
--- src/lib.rt:150:17
 larger-requires : tie.Need-larger-requires
 larger-requires c κs = search needs
 
--- src/lib.rt:151:26
 add-number : tie.Need-add-number
 add-number c =
     let a = c .before .before .before .before .before .before .before .before .before .before .before .before .before .before .args in
@@ -63,7 +47,6 @@ add-number c =
     let f = next-fits (a .s .now) (a .store .now) (a .terms) (placeAt (a .d) (c .before .before .before .before .before .before .before .before .load-place .result)) q (c .before .before .before .before .before .piece .given .0 .0) (c .before .before .before .before .before .before .before .before .before .before .before .before .before .before .pre .1 .1 .1 .1) (c .before .before .before .before .before .before .before .before .before .before .load-part .ensures .fits) (search needs) (c .before .before .before .before .before .before .before .next-for .ensures) (c .before .before .before .before .before .piece .given .1) in
     record { fits = omega (arith, f) }
 
--- src/lib.rt:152:13
 set-move-requires : tie.Need-set-move-requires
 set-move-requires c κs =
     let a = c .before .before .before .before .before .before .before .before .before .before .before .before .before .before .before .args in
@@ -71,36 +54,29 @@ set-move-requires c κs =
     let f = next-fits (a .s .now) (a .store .now) (a .terms) (placeAt (a .d) (c .before .before .before .before .before .before .before .before .before .load-place .result)) q (c .before .before .before .before .before .before .piece .given .0 .0) (c .before .before .before .before .before .before .before .before .before .before .before .before .before .before .before .pre .1 .1 .1 .1) (c .before .before .before .before .before .before .before .before .before .before .before .load-part .ensures .fits) (search needs) (c .before .before .before .before .before .before .before .before .next-for .ensures) (c .before .before .before .before .before .before .piece .given .1) in
     (c .before .before .before .before .before .before .before .before .before .before .before .before .before .before .before .pre .0, (c .before .before .before .before .before .before .before .before .before .before .before .before .before .before .before .pre .1 .1 .1 .0 .small, f .1))
 
--- src/lib.rt:153:30
 kind-for-requires : tie.Need-kind-for-requires
 kind-for-requires c κs = search needs
 
--- src/lib.rt:134:1
 same-length : tie.Need-same-length
 same-length c = search needs
 
--- src/lib.rt:134:1
 returns : tie.Need-returns
 returns c =
     let a = c .before .before .before .before .before .before .before .before .before .before .args in
     absurd (no-refusal (nextIn (a .terms) (sideOf (a .store .now) (placeAt (a .d) (c .before .before .before .before .load-place .result)) (c .before .before .before .before .before .before .load-part .result))) (c .before .before .before .next-for .ensures) (c .before .f .given .1))
 
--- src/lib.rt:134:1
 same-length-2 : tie.Need-same-length-2
 same-length-2 c = search needs
 
--- src/lib.rt:134:1
 returns-2 : tie.Need-returns-2
 returns-2 c =
     let a = c .before .before .before .before .before .before .before .before .before .args in
     let p = c .before .before .before .before .before .before .before .before .before .pre in
     none-left (p .1 .1 .1 .0) (p .1 .1 .0) (a .store .now) (a .terms) (a .d) (p .1 .1 .1 .1) (c .before .before .before .before .before .load-part .ensures) (c .before .before .before .load-place .ensures .0) (c .before .before .next-for .ensures) (c .enum-told .given .1)
 
--- src/lib.rt:134:1
 same-length-3 : tie.Need-same-length-3
 same-length-3 c = search needs
 
--- src/lib.rt:134:1
 returns-3 : tie.Need-returns-3
 returns-3 c =
     let a = c .before .before .before .before .before .before .before .before .before .before .before .before .before .before .before .before .before .before .before .args in

@@ -1,3 +1,4 @@
+-- `exports::give_end` meets its contract. Assumes nothing.
 use mathlib.Core.Path.{sym, _∙_, ap}
 use Rattle.srp.specs.declared.Reply.{Reply}
 use Rattle.srp.specs.Answers as def
@@ -6,30 +7,21 @@ use Rattle.exports.proofs.Plain.{end-wordless}
 use borrow.Author.Needs.{needs}
 use Rattle.exports.proofs.port.give_end.Statement.{statement}
 use Rattle.exports.proofs.port.give_end.Tie as tie
-use Rattle.exports.proofs.port.give_end.Reads as reads
-use Rattle.exports.proofs.port.give_end.Lts as lts
-use Rattle.answer.proofs.done_words.Reads as done-words-reads
-use Rattle.exports.proofs.port.give_nothing.Reads as give-nothing-reads
 
--- src/port.rt:59:21
 enum-known-r : tie.Need-enum-known-r
 enum-known-r c = search needs
 
--- src/port.rt:60:9
 give-nothing-requires : tie.Need-give-nothing-requires
 give-nothing-requires c κs =
     end-wordless (c .before .before .args .r) (c .before .before .pre) (c .before .match .keys2)
 
--- src/port.rt:60:9
 returns : tie.Need-returns
 returns c =
     c .give-nothing .ensures
 
--- src/port.rt:62:15
 done-words-requires : tie.Need-done-words-requires
 done-words-requires c κs = search needs
 
--- src/port.rt:55:1
 returns-2 : tie.Need-returns-2
 returns-2 c =
     let e = c .before .before .r .given .1 in

@@ -1,3 +1,4 @@
+-- `exports::srp_target_step` meets its contract. Assumes nothing.
 use mathlib.Core.Path.{sym, _∙_, ap}
 use Rattle.srp.specs.declared.Reply.{Reply}
 use Rattle.srp.specs.Answers as def
@@ -8,41 +9,28 @@ use Rattle.exports.proofs.Plain.{step-ends}
 use borrow.Author.Needs.{needs}
 use Rattle.exports.proofs.port.srp_target_step.Statement.{statement}
 use Rattle.exports.proofs.port.srp_target_step.Tie as tie
-use Rattle.exports.proofs.port.srp_target_step.Reads as reads
-use Rattle.exports.proofs.port.srp_target_step.Lts as lts
-use Rattle.answer.proofs.operation_words.Reads as operation-words-reads
-use Rattle.exports.proofs.port.direction_of.Reads as direction-of-reads
-use Rattle.exports.proofs.port.give_end.Reads as give-end-reads
-use Rattle.transfer.proofs.step.Reads as step-reads
 
--- src/port.rt:169:9
 direction-of-requires : tie.Need-direction-of-requires
 direction-of-requires c κs = search needs
 
--- src/port.rt:170:9
 step-requires : tie.Need-step-requires
 step-requires c κs = search needs
 
--- src/port.rt:171:26
 enum-known-r : tie.Need-enum-known-r
 enum-known-r c = search needs
 
--- src/port.rt:172:9
 give-end-requires : tie.Need-give-end-requires
 give-end-requires c κs =
     let a = c .before .before .before .before .before .args in
     step-ends (view (a .port .now) (a .store .now)) (a .tag) (c .before .before .before .before .direction-of .result) (c .before .before .step .result) (c .before .before .step .ensures .replies .reply) (c .before .match .keys2)
 
--- src/port.rt:172:9
 returns : tie.Need-returns
 returns c =
     step-in-c (c .before .before .before .before .before .before .args .direction) (c .before .before .before .before .before .direction-of .ensures) (c .before .before .before .step .ensures) (c .give-end .ensures)
 
--- src/port.rt:174:15
 operation-words-requires : tie.Need-operation-words-requires
 operation-words-requires c κs = search needs
 
--- src/port.rt:159:1
 returns-2 : tie.Need-returns-2
 returns-2 c =
     let e = c .before .before .r .given .1 in

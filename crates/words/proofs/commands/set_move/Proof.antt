@@ -1,97 +1,74 @@
+-- `words::set_move` meets its contract. Assumes nothing.
 use native.Mathlib.Omega.{arith}
 use lib.ListN.{length-set}
 use Rattle.words.proofs.Words.{moved-put}
 use borrow.Author.Needs.{needs}
 use Rattle.words.proofs.commands.set_move.Statement.{statement}
 use Rattle.words.proofs.commands.set_move.Tie as tie
-use Rattle.words.proofs.commands.set_move.Reads as reads
-use Rattle.words.proofs.commands.set_move.Lts as lts
-use Rattle.words.proofs.commands.part_at.Reads as part-at-reads
 
--- src/commands.rt:238:14
 mul-at : tie.Need-mul-at
 mul-at c = search needs
 
--- src/commands.rt:238:14
 add-at : tie.Need-add-at
 add-at c = search needs
 
--- src/commands.rt:239:9
 part-at-requires : tie.Need-part-at-requires
 part-at-requires c κs = search needs
 
--- src/commands.rt:240:13
 add-s : tie.Need-add-s
 add-s c = search needs
 
--- src/commands.rt:240:7
 add-s-2 : tie.Need-add-s-2
 add-s-2 c = search needs
 
--- src/commands.rt:240:5
 mul-s : tie.Need-mul-s
 mul-s c = search needs
 
--- src/commands.rt:240:5
 slice-write-s : tie.Need-slice-write-s
 slice-write-s c = search needs
 
--- src/commands.rt:241:13
 add-s-3 : tie.Need-add-s-3
 add-s-3 c = search needs
 
--- src/commands.rt:241:7
 add-s-4 : tie.Need-add-s-4
 add-s-4 c = search needs
 
--- src/commands.rt:241:5
 mul-s-2 : tie.Need-mul-s-2
 mul-s-2 c = search needs
 
--- src/commands.rt:241:5
 slice-write-s-2 : tie.Need-slice-write-s-2
 slice-write-s-2 c =
     simp length-set (omega arith)
 
--- src/commands.rt:242:13
 add-s-5 : tie.Need-add-s-5
 add-s-5 c = search needs
 
--- src/commands.rt:242:7
 add-s-6 : tie.Need-add-s-6
 add-s-6 c = search needs
 
--- src/commands.rt:242:5
 mul-s-3 : tie.Need-mul-s-3
 mul-s-3 c = search needs
 
--- src/commands.rt:242:5
 slice-write-s-3 : tie.Need-slice-write-s-3
 slice-write-s-3 c =
     simp length-set (omega arith)
 
--- src/commands.rt:243:13
 add-s-7 : tie.Need-add-s-7
 add-s-7 c = search needs
 
--- src/commands.rt:243:7
 add-s-8 : tie.Need-add-s-8
 add-s-8 c = search needs
 
--- src/commands.rt:243:5
 mul-s-4 : tie.Need-mul-s-4
 mul-s-4 c = search needs
 
--- src/commands.rt:243:5
 slice-write-s-4 : tie.Need-slice-write-s-4
 slice-write-s-4 c =
     simp length-set (omega arith)
 
--- src/commands.rt:232:1
 same-length : tie.Need-same-length
 same-length c = search needs
 
--- src/commands.rt:232:1
 returns : tie.Need-returns
 returns c =
     let a = c .before .before .args in
