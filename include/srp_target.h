@@ -37,6 +37,9 @@
  *   - For a command taken: srp_target_plan; then for each part of its data, in the order in which the device has them,
  *     srp_target_move, and srp_target_step in that direction until done, each piece posted as the RDMA operation that
  *     the answer names; then srp_target_finish. One move of offset 0 and count R is all of a direction.
+ *   - Each piece needs a slot of the adapter until its operation is complete. A move of k bytes has at most 32 + k / M
+ *     pieces, rounded down, and as few as can be: srp_target_step says more. An owner with fewer slots steps on when
+ *     slots are free again.
  *   - The port does not know EMDP (mode page 02h, byte 12 bit 7). While it is 0, each move in a direction starts at or
  *     behind the end of the one before it.
  *   - Data-out: RDMA Reads complete in any order. Wait for each Read's completion before its data are used. The port
@@ -66,8 +69,9 @@ extern "C" {
 #endif
 
 /* The version of this interface. In version 0 there were no moves: after srp_target_plan, step served all the data.
- * Version 2 has srp_trace; all else is as in version 1. */
-#define SRP_TARGET_VERSION 2
+ * Version 2 has srp_trace; all else is as in version 1. There was no version 3. Version 4 has the number in the answer
+ * of srp_target_step, where version 2 has 0; all else is as in version 2. */
+#define SRP_TARGET_VERSION 4
 
 /* Refusals: from the message or the caller. */
 #define SRP_REFUSED_SHORT_BUFFER 1  /* lent buffer too short */
@@ -315,12 +319,20 @@ uint32_t srp_target_move(uint64_t *port, uint64_t tag, uint32_t direction, uint3
  *   24  tag not open
  *   29  not planned
  *
- * answer after 0, with a piece:   1, operation (1 RDMA Read, 2 RDMA Write), handle, address, length, offset
- * answer after 0, done:           0
+ * answer after 0, with a piece:   1, operation (1 RDMA Read, 2 RDMA Write), handle, address, length, offset, number
+ * answer after 0, done:           0, 0, 0, 0, 0, 0, number
  * A piece is handed out by the call. The first starts at the move's offset, each other one behind the last. It is 1 to
  * M long, with the login's M, and ends at the nearest of M bytes, its segment's end and the move's end; its data stand
  * at the offset in the command's data. Done comes when the current move has no bytes left, or none was named, and then
  * each time again until another is; it alters no word of the port.
+ *
+ * The number is how many pieces of the current move have been handed out, this one included: 1, 2, 3 and so on. Done
+ * has that of the last piece, each time again, and 0 where the move has no bytes or none was named. Each direction has
+ * its own. For a finished move it is the length of the list of its pieces. Then:
+ *   - Every other list of operations that covers the same bytes in order, each inside one segment and at most M long,
+ *     has at least as many.
+ *   - It is at most (segments with a byte in the move) + (bytes of the move / M, rounded down), so at most
+ *     32 + (2^32 - 1) / M: 4,127 with M = 1,048,576. A segment of length 0 has no byte.
  */
 uint32_t srp_target_step(uint64_t *port, const uint8_t *store, uint64_t tag, uint32_t direction, uint64_t answer[8]);
 
