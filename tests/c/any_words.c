@@ -80,6 +80,20 @@ static void let_write(enum call call, uint32_t returned)
         let_change(ANSWER, 8 * SRP_ANSWER_WORDS);
 }
 
+/* Steps that had a piece numbered above 1, and that said done with a number above 0. */
+static unsigned later_pieces, numbered_dones;
+
+/* Each operation had a byte: a piece's number is from 1 to the offset behind it, done's is an offset. */
+static void judge_number(const char *name)
+{
+    const uint64_t *answer = lent_words(ANSWER), number = answer[6];
+    uint64_t most = answer[0] ? answer[5] + answer[4] : UINT32_MAX;
+    if (number < answer[0] || number > most)
+        fail(name, "more operations than bytes, or none");
+    later_pieces += answer[0] && number > 1;
+    numbered_dones += !answer[0] && number > 0;
+}
+
 /* A refusal without a message leaves all as it was, but that a login closes the port, and the answer is 0. */
 static void judge(enum call call, uint32_t returned)
 {
@@ -91,6 +105,8 @@ static void judge(enum call call, uint32_t returned)
         expect(ANSWER, 0, zeros, 8 * SRP_ANSWER_WORDS);
     if (logout || (call == CLOSE && returned == 0) || (call == LOGIN && returned))
         expect(PORT, 0, zeros, sizeof zeros);
+    if (returned == 0 && (call == STEP_OUT || call == STEP_IN))
+        judge_number(rules[call].name);
     compare(rules[call].name, returned, among(rules[call].refusals, returned) ? returned : 0);
 }
 
@@ -171,17 +187,29 @@ static int in_ranges(void)
     return listed == 0 && c[0] >= 1 && c[0] <= 16 && c[1] + c[2] <= 16 && c[3] == c[0] - c[1] - c[2] && l[0] == c[2];
 }
 
+/* A step made again: a piece has the next number, done the same one. */
+static void step_again(enum call call, uint64_t tag)
+{
+    const uint64_t *answer = lent_words(ANSWER), number = answer[6];
+    one_call(call, tag, NO_BYTES);
+    if (answer[6] != number + answer[0])
+        fail(rules[call].name, "the next step has another number");
+}
+
 /* Some calls on one arbitrary port, then a close; the tags are those that it lists, as far as it does. */
 static void some_calls(void)
 {
     unsigned i;
     for (i = 0; i < 34; i++) {
+        enum call call = i < 33 ? (enum call)(i % CLOSE) : CLOSE;
         uint64_t tag;
         lay(RECORDS, NULL, 0);
         if (!in_ranges())
             fail("any words", "counters or listing out of their ranges");
         tag = lent_words(RECORDS)[SRP_RECORD_WORDS * (i % 4)];
-        one_call(i < 33 ? (enum call)(i % CLOSE) : CLOSE, tag, some_message(tag));
+        one_call(call, tag, some_message(tag));
+        if (call == STEP_OUT || call == STEP_IN)
+            step_again(call, tag);
     }
 }
 
@@ -228,7 +256,7 @@ static void copied(void)
     lay(PORT, port, sizeof port);
     lay(STORE, store, sizeof store);
     planned("after the copy", 5, 0, 1300);
-    piece("after the copy", 5, 1, 7, 0x1000, 512, 0);
+    piece("after the copy", 5, 1, 7, 0x1000, 512, 0, 1);
 }
 
 void any_words_cases(void)
@@ -241,6 +269,8 @@ void any_words_cases(void)
         arbitrary_port();
         some_login();
     }
+    if (!later_pieces || !numbered_dones)
+        fail("any words", "no step with a number to judge");
     all_zero();
     copied();
 }

@@ -265,15 +265,16 @@ void planned(const char *name, uint64_t tag, uint32_t r_out, uint32_t r_in)
 }
 
 void piece(const char *name, uint64_t tag, uint32_t direction, uint64_t handle, uint64_t address, uint64_t length,
-           uint64_t offset)
+           uint64_t offset, uint64_t number)
 {
     uint64_t operation = direction ? SRP_RDMA_WRITE : SRP_RDMA_READ;
-    step(name, 0, (struct after){OTHER, {1, operation, handle, address, length, offset}, NULL}, tag, direction);
+    struct after after = {OTHER, {1, operation, handle, address, length, offset, number}, NULL};
+    step(name, 0, after, tag, direction);
 }
 
-void done(const char *name, uint64_t tag, uint32_t direction)
+void done(const char *name, uint64_t tag, uint32_t direction, uint64_t number)
 {
-    step(name, 0, NOTHING, tag, direction);
+    step(name, 0, (struct after){SAME, {0, 0, 0, 0, 0, 0, number}, NULL}, tag, direction);
 }
 
 void finished(const char *name, uint64_t tag, uint32_t delta, struct residuals residuals)

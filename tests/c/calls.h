@@ -60,8 +60,8 @@ void taken(const char *name, struct bytes msg);
 void named(const char *name, uint64_t tag, uint32_t direction, uint32_t offset, uint32_t count);
 void planned(const char *name, uint64_t tag, uint32_t r_out, uint32_t r_in);
 void piece(const char *name, uint64_t tag, uint32_t direction, uint64_t handle, uint64_t address, uint64_t length,
-           uint64_t offset);
-void done(const char *name, uint64_t tag, uint32_t direction);
+           uint64_t offset, uint64_t number);
+void done(const char *name, uint64_t tag, uint32_t direction, uint64_t number);
 void finished(const char *name, uint64_t tag, uint32_t delta, struct residuals residuals);
 
 #endif

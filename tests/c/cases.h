@@ -17,6 +17,7 @@ void transfer_cases(void);
 void move_cases(void);
 void search_cases(void);
 void highest_cases(void);
+void fewest_cases(void);
 void finish_cases(void);
 void credit_cases(void);
 void list_cases(void);

@@ -66,8 +66,8 @@ static void read_command(void)
     take("read", 0, (struct after){OTHER, {0, SRP_KIND_COMMAND, 0xa1, 3, 32, 16}, NULL}, BYTES(read_cmd), NO_BYTES,
          NO_BYTES, 132);
     planned("read, plan", 0xa1, 0, 1300);
-    step("read, first", 0, (struct after){OTHER, {1, SRP_RDMA_WRITE, 7, 0x1000, 512, 0}, NULL}, 0xa1, 1);
-    step("read, second", 0, (struct after){OTHER, {1, SRP_RDMA_WRITE, 7, 0x1200, 512, 512}, NULL}, 0xa1, 1);
+    step("read, first", 0, (struct after){OTHER, {1, SRP_RDMA_WRITE, 7, 0x1000, 512, 0, 1}, NULL}, 0xa1, 1);
+    step("read, second", 0, (struct after){OTHER, {1, SRP_RDMA_WRITE, 7, 0x1200, 512, 512, 2}, NULL}, 0xa1, 1);
     list("read, listed", 0, SRP_LIST_WORDS, 1, part_moved);
     finish("read, finish", 0, (struct after){OTHER, {36}, read_rsp}, 0xa1, 0x00, NO_BYTES, 132);
 }
@@ -78,9 +78,9 @@ static void write_command(void)
     take("write", 0, (struct after){OTHER, {0, SRP_KIND_COMMAND, 0xa2, 3, 32, 20}, NULL}, BYTES(write_cmd),
          BYTES(write_table), NO_BYTES, 132);
     planned("write, plan", 0xa2, 160, 0);
-    step("write, first", 0, (struct after){OTHER, {1, SRP_RDMA_READ, 8, 0x6000, 100, 0}, NULL}, 0xa2, 0);
-    step("write, second", 0, (struct after){OTHER, {1, SRP_RDMA_READ, 9, 0x7000, 50, 100}, NULL}, 0xa2, 0);
-    step("write, done", 0, NOTHING, 0xa2, 0);
+    step("write, first", 0, (struct after){OTHER, {1, SRP_RDMA_READ, 8, 0x6000, 100, 0, 1}, NULL}, 0xa2, 0);
+    step("write, second", 0, (struct after){OTHER, {1, SRP_RDMA_READ, 9, 0x7000, 50, 100, 2}, NULL}, 0xa2, 0);
+    step("write, done", 0, (struct after){SAME, {0, 0, 0, 0, 0, 0, 2}, NULL}, 0xa2, 0);
     finish("write, finish", 0, (struct after){OTHER, {40}, write_rsp}, 0xa2, 0x02, BYTES(write_sense), 132);
 }
 

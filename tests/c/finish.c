@@ -70,9 +70,9 @@ static void moved(const char *name, uint32_t r_out, uint32_t r_in, int all, stru
     both_open(0);
     planned(name, TAG, r_out, r_in);
     if (all && r_out)
-        piece(name, TAG, 0, 7, 0x1000, r_out < 100 ? r_out : 100, 0);
+        piece(name, TAG, 0, 7, 0x1000, r_out < 100 ? r_out : 100, 0, 1);
     if (all && r_in)
-        piece(name, TAG, 1, 9, 0x5000, r_in < 60 ? r_in : 60, 0);
+        piece(name, TAG, 1, 9, 0x5000, r_in < 60 ? r_in : 60, 0, 1);
     finished(name, TAG, 1, residuals);
 }
 
@@ -96,7 +96,7 @@ static void no_buffer(void)
     opened(N, M);
     taken("no data", command(TAG, 0, 0));
     planned("no data, plan", TAG, 5, 0);
-    done("no data, done", TAG, 0);
+    done("no data, done", TAG, 0, 0);
     finished("no data", TAG, 1, (struct residuals){DOOVER, 5, 0});
 }
 

@@ -21,7 +21,7 @@ static void then(const char *name, uint32_t direction, uint32_t offset, uint32_t
 {
     const uint64_t record[1][SRP_RECORD_WORDS] = {{TAG, 0, out, in}};
     move(name, 0, TAG, direction, offset, count);
-    piece(name, TAG, direction, direction ? 9 : 7, (direction ? 0x5000 : 0x1000) + offset, count, offset);
+    piece(name, TAG, direction, direction ? 9 : 7, (direction ? 0x5000 : 0x1000) + offset, count, offset, 1);
     list(name, 0, SRP_LIST_WORDS, 1, record);
 }
 
@@ -58,7 +58,7 @@ static void pieces_count(void)
     move("out", 0, TAG, 0, 100, 1200);
     move("in", 0, TAG, 1, 0, 700);
     list("named", 0, SRP_LIST_WORDS, 1, none);
-    piece("one piece", TAG, 0, 7, 0x1064, 512, 100);
+    piece("one piece", TAG, 0, 7, 0x1064, 512, 100, 1);
     list("one piece", 0, SRP_LIST_WORDS, 1, one);
     finished("one piece", TAG, 1, (struct residuals){DOUNDER | DIUNDER, 688, 700});
 }
@@ -82,8 +82,8 @@ static void over_and_under(void)
 static void again(const char *name)
 {
     planned_alone(TAG, 650, 700);
-    done(name, TAG, 0);
-    done(name, TAG, 1);
+    done(name, TAG, 0, 0);
+    done(name, TAG, 1, 0);
     then(name, 0, 10, 20, 30, 0);
     then(name, 1, 0, 5, 30, 5);
 }
@@ -94,7 +94,7 @@ static void used_again(void)
     both_open(1300, 700);
     then("before the end", 1, 600, 100, 0, 700);
     move("unfinished", 0, TAG, 0, 0, 1300);
-    piece("unfinished", TAG, 0, 7, 0x1000, 512, 0);
+    piece("unfinished", TAG, 0, 7, 0x1000, 512, 0, 1);
     finished("unfinished", TAG, 1, (struct residuals){DOUNDER, 788, 0});
     taken("the tag again", command_both_ways(TAG, 0));
     move("29, the tag again", SRP_REFUSED_UNPLANNED, TAG, 0, 0, 0);
@@ -118,12 +118,12 @@ static void several(void)
         move("one of three", 0, tag, 0, 100 * tag, 600);
     }
     for (tag = 3; tag >= 1; tag--)
-        piece("one of three", tag, 0, 7, 0x1000 + 100 * tag, 512, 100 * tag);
+        piece("one of three", tag, 0, 7, 0x1000 + 100 * tag, 512, 100 * tag, 1);
     finished("the first", 1, 1, (struct residuals){DOUNDER | DIUNDER, 688, 700});
     for (tag = 2; tag <= 3; tag++) {
         move("32, one of two", SRP_REFUSED_UNFINISHED, tag, 0, 0, 1);
-        piece("one of two", tag, 0, 7, 0x1200 + 100 * tag, 88, 512 + 100 * tag);
-        done("one of two", tag, 0);
+        piece("one of two", tag, 0, 7, 0x1200 + 100 * tag, 88, 512 + 100 * tag, 2);
+        done("one of two", tag, 0, 2);
     }
     list("two of three", 0, SRP_LIST_WORDS, 2, left);
 }

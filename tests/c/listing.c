@@ -13,9 +13,9 @@ static void records(void)
     list("none open", 0, SRP_LIST_WORDS, 0, NULL);
     taken("both ways", command_both_ways(0x8000000000000001, 0));
     planned("plan", 0x8000000000000001, 1300, 700);
-    piece("out", 0x8000000000000001, 0, 7, 0x1000, 512, 0);
-    piece("out", 0x8000000000000001, 0, 7, 0x1200, 512, 512);
-    piece("in", 0x8000000000000001, 1, 9, 0x5000, 512, 0);
+    piece("out", 0x8000000000000001, 0, 7, 0x1000, 512, 0, 1);
+    piece("out", 0x8000000000000001, 0, 7, 0x1200, 512, 512, 2);
+    piece("in", 0x8000000000000001, 1, 9, 0x5000, 512, 0, 1);
     taken("no data", command(3, 0xfedcba9876543210, 0));
     list("two open", 0, 65, 2, expected);
     list("list 11", SRP_REFUSED_ARGUMENT, 63, 0, NULL);

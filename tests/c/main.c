@@ -16,6 +16,7 @@ int main(void)
     move_cases();
     search_cases();
     highest_cases();
+    fewest_cases();
     finish_cases();
     credit_cases();
     list_cases();

@@ -71,6 +71,24 @@ struct bytes command_both_ways(uint64_t tag, uint8_t bits)
     return command_with(tag, bits, 0x11, 0, 0, BYTES(both));
 }
 
+struct bytes whole_table(const struct segment *segments, size_t count)
+{
+    static uint8_t descriptors[20 + 32 * 16];
+    uint64_t total = 0;
+    size_t i;
+    for (i = 0; i < count; i++) {
+        put(descriptors, 20 + 16 * i, 8, segments[i].address);
+        put(descriptors, 28 + 16 * i, 4, segments[i].handle);
+        put(descriptors, 32 + 16 * i, 4, segments[i].length);
+        total += segments[i].length;
+    }
+    put(descriptors, 0, 8, 0xa000);
+    put(descriptors, 8, 4, 0xaa);
+    put(descriptors, 12, 4, 16 * count);
+    put(descriptors, 16, 4, total);
+    return (struct bytes){descriptors, 20 + 16 * count};
+}
+
 struct bytes task(uint64_t tag, uint64_t lun, uint8_t bits, uint8_t function, uint64_t managed)
 {
     uint8_t *m = to(0x01, bits, tag);

@@ -29,6 +29,13 @@ struct bytes command_with(uint64_t tag, uint8_t bits, uint8_t formats, uint8_t o
                           struct bytes descriptors);
 /* Both ways direct, whose lengths are unlike: out 1000h/1,300 with handle 7, in 5000h/700 with handle 9. */
 struct bytes command_both_ways(uint64_t tag, uint8_t bits);
+/* The descriptors of an indirect buffer whose table, at A000h with handle AAh, is copied whole: up to 32 segments. What
+ * it returns stays until it is called again. */
+struct segment {
+    uint64_t address;
+    uint32_t handle, length;
+};
+struct bytes whole_table(const struct segment *segments, size_t count);
 struct bytes task(uint64_t tag, uint64_t lun, uint8_t bits, uint8_t function, uint64_t managed);
 struct bytes initiator_logout(uint64_t tag);
 struct bytes credit_response(uint64_t tag);

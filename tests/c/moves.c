@@ -15,21 +15,21 @@ static void both_open(uint32_t r_out, uint32_t r_in)
 static void moves_out(const char *name, uint32_t offset, uint32_t count, uint64_t length)
 {
     move(name, 0, TAG, 0, offset, count);
-    piece(name, TAG, 0, 7, 0x1000ull + offset, length, offset);
-    done(name, TAG, 0);
+    piece(name, TAG, 0, 7, 0x1000ull + offset, length, offset, 1);
+    done(name, TAG, 0, 1);
 }
 
 static void moves_in(const char *name, uint32_t offset, uint32_t count, uint64_t length)
 {
     move(name, 0, TAG, 1, offset, count);
-    piece(name, TAG, 1, 9, 0x5000ull + offset, length, offset);
-    done(name, TAG, 1);
+    piece(name, TAG, 1, 9, 0x5000ull + offset, length, offset, 1);
+    done(name, TAG, 1, 1);
 }
 
 static void moves_nothing(const char *name, uint32_t direction, uint32_t offset, uint32_t count)
 {
     named(name, TAG, direction, offset, count);
-    done(name, TAG, direction);
+    done(name, TAG, direction, 0);
 }
 
 /* h each way, of the only open command. */
@@ -47,16 +47,16 @@ static void highest(const char *name, uint64_t out, uint64_t in)
 static void arguments(void)
 {
     both_open(1300, 700);
-    done("plan alone, out", TAG, 0);
-    done("plan alone, in", TAG, 1);
+    done("plan alone, out", TAG, 0, 0);
+    done("plan alone, in", TAG, 1, 0);
     move("out", 0, TAG, 0, 600, 650);
-    done("in has none yet", TAG, 1);
+    done("in has none yet", TAG, 1, 0);
     move("in", 0, TAG, 1, 100, 90);
-    piece("first out", TAG, 0, 7, 0x1258, 512, 600);
-    piece("all in", TAG, 1, 9, 0x5064, 90, 100);
-    piece("last out", TAG, 0, 7, 0x1458, 138, 1112);
-    done("done out", TAG, 0);
-    done("done in", TAG, 1);
+    piece("first out", TAG, 0, 7, 0x1258, 512, 600, 1);
+    piece("all in", TAG, 1, 9, 0x5064, 90, 100, 1);
+    piece("last out", TAG, 0, 7, 0x1458, 138, 1112, 2);
+    done("done out", TAG, 0, 2);
+    done("done in", TAG, 1, 1);
     highest("both", 1250, 190);
 }
 
@@ -65,12 +65,12 @@ static void directions(void)
 {
     both_open(1300, 700);
     move("direction 2", 0, TAG, 2, 10, 20);
-    piece("direction 2", TAG, 1, 9, 0x500a, 20, 10);
+    piece("direction 2", TAG, 1, 9, 0x500a, 20, 10, 1);
     move("direction 2^31", 0, TAG, 0x80000000, 20, 30);
-    piece("direction 2^31", TAG, 1, 9, 0x5014, 30, 20);
+    piece("direction 2^31", TAG, 1, 9, 0x5014, 30, 20, 1);
     move("direction 256", 0, TAG, 0x100, 30, 40);
-    piece("direction 256", TAG, 1, 9, 0x501e, 40, 30);
-    done("out has none", TAG, 0);
+    piece("direction 256", TAG, 1, 9, 0x501e, 40, 30, 1);
+    done("out has none", TAG, 0, 0);
     highest("in alone", 0, 70);
 }
 
@@ -90,20 +90,20 @@ static void segments(void)
     taken("four segments", command_with(TAG, 0, 0x02, 0, 4, BYTES(four_segments)));
     plan("four segments", 0, TAG, 0, 700);
     move("into the last", 0, TAG, 1, 550, 100);
-    piece("into the last", TAG, 1, 2, 0x3226, 50, 550);
-    piece("into the last", TAG, 1, 4, 0x5000, 50, 600);
-    done("into the last", TAG, 1);
+    piece("into the last", TAG, 1, 2, 0x3226, 50, 550, 1);
+    piece("into the last", TAG, 1, 4, 0x5000, 50, 600, 2);
+    done("into the last", TAG, 1, 2);
     move("the last", 0, TAG, 1, 600, 100);
-    piece("the last", TAG, 1, 4, 0x5000, 100, 600);
-    done("the last", TAG, 1);
+    piece("the last", TAG, 1, 4, 0x5000, 100, 600, 1);
+    done("the last", TAG, 1, 1);
     move("M from 80 on", 0, TAG, 1, 80, 521);
-    piece("M from 80 on", TAG, 1, 2, 0x3050, 512, 80);
-    piece("M from 80 on", TAG, 1, 2, 0x3250, 8, 592);
-    piece("M from 80 on", TAG, 1, 4, 0x5000, 1, 600);
-    done("M from 80 on", TAG, 1);
+    piece("M from 80 on", TAG, 1, 2, 0x3050, 512, 80, 1);
+    piece("M from 80 on", TAG, 1, 2, 0x3250, 8, 592, 2);
+    piece("M from 80 on", TAG, 1, 4, 0x5000, 1, 600, 3);
+    done("M from 80 on", TAG, 1, 3);
     move("from the start", 0, TAG, 1, 0, 1);
-    piece("from the start", TAG, 1, 2, 0x3000, 1, 0);
-    done("from the start", TAG, 1);
+    piece("from the start", TAG, 1, 2, 0x3000, 1, 0, 1);
+    done("from the start", TAG, 1, 1);
 }
 
 /* A move ends at min(R, B): R 650 of 1,300 out, 2,000 of 700 in. */
@@ -122,9 +122,9 @@ static void trimmed(void)
     moves_out("past 2^32", 600, 0xffffffff, 50);
     moves_in("2^32", 690, 0xfffffd4e, 10);
     move("past 2^32, from 5", 0, TAG, 1, 5, 0xffffffff);
-    piece("past 2^32, from 5", TAG, 1, 9, 0x5005, 512, 5);
-    piece("past 2^32, from 5", TAG, 1, 9, 0x5205, 183, 517);
-    done("past 2^32, from 5", TAG, 1);
+    piece("past 2^32, from 5", TAG, 1, 9, 0x5005, 512, 5, 1);
+    piece("past 2^32, from 5", TAG, 1, 9, 0x5205, 183, 517, 2);
+    done("past 2^32, from 5", TAG, 1, 2);
     highest("all", 650, 700);
     finished("all", TAG, 1, (struct residuals){DOUNDER | DIOVER, 650, 1300});
 }
@@ -140,7 +140,7 @@ static void longest(void)
     highest("the last byte", 0xffffffff, 0);
     moves_nothing("behind it", 0, 0xffffffff, 0xffffffff);
     move("half of it", 0, TAG, 0, 0, 0x80000000);
-    piece("half of it", TAG, 0, 7, 0x1000, SRP_LONGEST_PIECE, 0);
+    piece("half of it", TAG, 0, 7, 0x1000, SRP_LONGEST_PIECE, 0, 1);
     highest("half of it", 0xffffffff, 0);
     finished("longest", TAG, 1, NO_RESIDUALS);
 }
@@ -213,13 +213,13 @@ static void unfinished(void)
     move("32, at min(R, B)", SRP_REFUSED_UNFINISHED, TAG, 0, 650, 1);
     move("31 before 32", SRP_REFUSED_OFFSET, TAG, 0, 651, 1);
     move("in, while out has pieces", 0, TAG, 1, 0, 1);
-    piece("first out", TAG, 0, 7, 0x1000, 512, 0);
+    piece("first out", TAG, 0, 7, 0x1000, 512, 0, 1);
     move("32, a piece left", SRP_REFUSED_UNFINISHED, TAG, 0, 620, 10);
     move("32, in", SRP_REFUSED_UNFINISHED, TAG, 1, 1, 1);
-    piece("last out", TAG, 0, 7, 0x1200, 88, 512);
+    piece("last out", TAG, 0, 7, 0x1200, 88, 512, 2);
     moves_out("after the last piece", 620, 10, 10);
     move("32, in, while out has none", SRP_REFUSED_UNFINISHED, TAG, 1, 1, 1);
-    piece("in", TAG, 1, 9, 0x5000, 1, 0);
+    piece("in", TAG, 1, 9, 0x5000, 1, 0, 1);
     moves_in("after the last piece in", 1, 1, 1);
 }
 

@@ -11,10 +11,10 @@ static void p1(void)
     opened(4, M);
     taken("P1", command_with(1, 0, 0x01, 0, 0, BYTES(direct)));
     planned("P1, plan", 1, 0, 1300);
-    piece("P1, first", 1, SRP_DIRECTION_IN, 7, 0x1000, 512, 0);
-    piece("P1, second", 1, SRP_DIRECTION_IN, 7, 0x1200, 512, 512);
-    piece("P1, third", 1, SRP_DIRECTION_IN, 7, 0x1400, 276, 1024);
-    done("P1, done", 1, SRP_DIRECTION_IN);
+    piece("P1, first", 1, SRP_DIRECTION_IN, 7, 0x1000, 512, 0, 1);
+    piece("P1, second", 1, SRP_DIRECTION_IN, 7, 0x1200, 512, 512, 2);
+    piece("P1, third", 1, SRP_DIRECTION_IN, 7, 0x1400, 276, 1024, 3);
+    done("P1, done", 1, SRP_DIRECTION_IN, 3);
 }
 
 /* A table of 48 bytes, all of it copied into the message, total 700: segments 2000h/0, 3000h/600, 5000h/100. */
@@ -31,10 +31,10 @@ static void three(const char *name, uint32_t r, uint64_t last, struct residuals 
     opened(1, M);
     taken(name, command_with(1, 0, 0x02, 0, 3, BYTES(three_segments)));
     planned(name, 1, 0, r);
-    piece(name, 1, SRP_DIRECTION_IN, 7, 0x3000, 512, 0);
-    piece(name, 1, SRP_DIRECTION_IN, 7, 0x3200, 88, 512);
-    piece(name, 1, SRP_DIRECTION_IN, 7, 0x5000, last, 600);
-    done(name, 1, SRP_DIRECTION_IN);
+    piece(name, 1, SRP_DIRECTION_IN, 7, 0x3000, 512, 0, 1);
+    piece(name, 1, SRP_DIRECTION_IN, 7, 0x3200, 88, 512, 2);
+    piece(name, 1, SRP_DIRECTION_IN, 7, 0x5000, last, 600, 3);
+    done(name, 1, SRP_DIRECTION_IN, 3);
     finished(name, 1, 1, residuals);
 }
 

@@ -44,7 +44,7 @@ static void finds(const char *name, struct bytes descriptors, uint32_t b, struct
     taken(name, command_with(TAG, 0, 0x02, 0, (uint8_t)(list.len / SEGMENT), descriptors));
     plan(name, 0, TAG, 0, b);
     move(name, 0, TAG, SRP_DIRECTION_IN, at.offset, b);
-    piece(name, TAG, SRP_DIRECTION_IN, at.handle, at.address, at.length, at.offset);
+    piece(name, TAG, SRP_DIRECTION_IN, at.handle, at.address, at.length, at.offset, 1);
 }
 
 /* At the end there is no piece; on the port that `finds` has left, with a move whose only piece was handed out. */
@@ -53,9 +53,9 @@ static void ends(const char *name, struct bytes descriptors, uint32_t b)
     static const uint8_t nothing[SRP_ANSWER_BYTES];
     struct bytes list = {descriptors.at + TABLE, descriptors.len - TABLE};
     cut(name, 0, nothing, list, M, b, b, SRP_ANSWER_BYTES);
-    done(name, TAG, SRP_DIRECTION_IN);
+    done(name, TAG, SRP_DIRECTION_IN, 1);
     named(name, TAG, SRP_DIRECTION_IN, b, 1);
-    done(name, TAG, SRP_DIRECTION_IN);
+    done(name, TAG, SRP_DIRECTION_IN, 0);
 }
 
 static void nine_segments(void)
@@ -69,22 +69,16 @@ static void nine_segments(void)
 /* One of 32 segments has three bytes, the others none: segment 1 at 1000h, segment 2 at 2000h and so on. */
 static void one_of_32(void)
 {
-    uint8_t descriptors[TABLE + MOST * SEGMENT];
+    struct segment segments[MOST];
     unsigned only, i;
     for (only = 1; only <= MOST; only++) {
-        put(descriptors, 0, 8, 0xa000);
-        put(descriptors, 8, 4, 0xaa);
-        put(descriptors, 12, 4, MOST * SEGMENT);
-        put(descriptors, 16, 4, 3);
-        for (i = 1; i <= MOST; i++) {
-            uint8_t *segment = descriptors + TABLE + (i - 1) * SEGMENT;
-            put(segment, 0, 8, 0x1000 * i);
-            put(segment, 8, 4, i);
-            put(segment, 12, 4, i == only ? 3 : 0);
-        }
-        finds("one of 32, its first byte", BYTES(descriptors), 3, (struct found){0, only, 0x1000 * only, 3});
-        finds("one of 32, its last byte", BYTES(descriptors), 3, (struct found){2, only, 0x1000 * only + 2, 1});
-        ends("one of 32, the end", BYTES(descriptors), 3);
+        struct bytes descriptors;
+        for (i = 1; i <= MOST; i++)
+            segments[i - 1] = (struct segment){0x1000 * i, i, i == only ? 3 : 0};
+        descriptors = whole_table(segments, MOST);
+        finds("one of 32, its first byte", descriptors, 3, (struct found){0, only, 0x1000 * only, 3});
+        finds("one of 32, its last byte", descriptors, 3, (struct found){2, only, 0x1000 * only + 2, 1});
+        ends("one of 32, the end", descriptors, 3);
     }
 }
 

@@ -38,13 +38,13 @@ static void arguments(void)
     take("two tables", 0, now_open, command_with(TAG, 0, 0x22, 1, 0, BYTES(descriptors)), BYTES(out_table),
          BYTES(in_table), 140);
     planned("two tables, plan", TAG, 600, 90);
-    piece("two tables, in", TAG, 1, 0x21, 0x7000, 40, 0);
-    piece("two tables, out", TAG, 0, 0x11, 0x2000, 100, 0);
-    piece("two tables, out", TAG, 0, 0x12, 0x3000, 200, 100);
-    piece("two tables, in", TAG, 1, 0x22, 0x8000, 50, 40);
-    piece("two tables, out", TAG, 0, 0x13, 0x4000, 300, 300);
-    done("two tables, out", TAG, 0);
-    done("two tables, in", TAG, 1);
+    piece("two tables, in", TAG, 1, 0x21, 0x7000, 40, 0, 1);
+    piece("two tables, out", TAG, 0, 0x11, 0x2000, 100, 0, 1);
+    piece("two tables, out", TAG, 0, 0x12, 0x3000, 200, 100, 2);
+    piece("two tables, in", TAG, 1, 0x22, 0x8000, 50, 40, 2);
+    piece("two tables, out", TAG, 0, 0x13, 0x4000, 300, 300, 3);
+    done("two tables, out", TAG, 0, 3);
+    done("two tables, in", TAG, 1, 2);
 }
 
 /* 9: either table with another length, or none where one is named, or one where none is. Nothing is altered. */
@@ -120,7 +120,7 @@ static void cdbs(void)
     opened(N, M);
     taken("63 words more of CDB", BYTES(msg));
     planned("63 words, plan", TAG, 0, 100);
-    piece("63 words, piece", TAG, 1, 7, 0x1000, 100, 0);
+    piece("63 words, piece", TAG, 1, 7, 0x1000, 100, 0, 1);
 }
 
 /* Sixteen commands open, each with its own segment: none overwrites another's in the store. */
@@ -137,9 +137,9 @@ static void sixteen(void)
     }
     for (i = 0; i < 16; i++) {
         uint32_t in = i % 2 ? 0 : 1;
-        piece("one of sixteen, piece", 100 + i, in, 0, (0x40 + i) << 8, 10 + i, 0);
-        done("one of sixteen, done", 100 + i, in);
-        done("one of sixteen, other way", 100 + i, !in);
+        piece("one of sixteen, piece", 100 + i, in, 0, (0x40 + i) << 8, 10 + i, 0, 1);
+        done("one of sixteen, done", 100 + i, in, 1);
+        done("one of sixteen, other way", 100 + i, !in, 0);
     }
 }
 

@@ -18,12 +18,12 @@ static void arguments(void)
 {
     both_open();
     planned("plan", TAG, 650, 90);
-    piece("first out", TAG, SRP_DIRECTION_OUT, 7, 0x1000, 512, 0);
-    piece("all in", TAG, SRP_DIRECTION_IN, 9, 0x5000, 90, 0);
-    piece("last out", TAG, SRP_DIRECTION_OUT, 7, 0x1200, 138, 512);
-    done("done out", TAG, SRP_DIRECTION_OUT);
-    done("done in", TAG, SRP_DIRECTION_IN);
-    done("done again", TAG, SRP_DIRECTION_OUT);
+    piece("first out", TAG, SRP_DIRECTION_OUT, 7, 0x1000, 512, 0, 1);
+    piece("all in", TAG, SRP_DIRECTION_IN, 9, 0x5000, 90, 0, 1);
+    piece("last out", TAG, SRP_DIRECTION_OUT, 7, 0x1200, 138, 512, 2);
+    done("done out", TAG, SRP_DIRECTION_OUT, 2);
+    done("done in", TAG, SRP_DIRECTION_IN, 1);
+    done("done again", TAG, SRP_DIRECTION_OUT, 2);
 }
 
 /* Every direction but 0 is in. */
@@ -31,9 +31,9 @@ static void directions(void)
 {
     both_open();
     planned("plan", TAG, 650, 700);
-    piece("direction 2", TAG, 2, 9, 0x5000, 512, 0);
-    piece("direction 2^31", TAG, 0x80000000, 9, 0x5200, 188, 512);
-    done("direction 256", TAG, 0x100);
+    piece("direction 2", TAG, 2, 9, 0x5000, 512, 0, 1);
+    piece("direction 2^31", TAG, 0x80000000, 9, 0x5200, 188, 512, 2);
+    done("direction 256", TAG, 0x100, 2);
 }
 
 /* R of 0, and R above B. */
@@ -41,10 +41,10 @@ static void lengths(void)
 {
     both_open();
     planned("plan", TAG, 0, 0xffffffff);
-    done("R = 0", TAG, SRP_DIRECTION_OUT);
-    piece("R above B", TAG, SRP_DIRECTION_IN, 9, 0x5000, 512, 0);
-    piece("R above B", TAG, SRP_DIRECTION_IN, 9, 0x5200, 188, 512);
-    done("R above B", TAG, SRP_DIRECTION_IN);
+    done("R = 0", TAG, SRP_DIRECTION_OUT, 0);
+    piece("R above B", TAG, SRP_DIRECTION_IN, 9, 0x5000, 512, 0, 1);
+    piece("R above B", TAG, SRP_DIRECTION_IN, 9, 0x5200, 188, 512, 2);
+    done("R above B", TAG, SRP_DIRECTION_IN, 2);
 }
 
 /* 21 before 24; 24 before 30 and 29. */

@@ -27,6 +27,7 @@ void name_move(struct side *s, uint32_t offset, uint32_t count)
     uint32_t room = data_length(s) - offset;
     s->at = offset;
     s->end = offset + (count < room ? count : room);
+    s->operations = 0;
 }
 
 int next_piece(const struct side *s, uint32_t longest, struct piece *p)
@@ -52,6 +53,7 @@ void hand_out(struct side *s, const struct piece *p)
 {
     s->at += p->length;
     s->handed += p->length;
+    s->operations++;
     if (s->highest < s->at)
         s->highest = s->at;
 }

@@ -16,7 +16,7 @@ struct segment {
 };
 
 /* One direction of a command: its descriptor's format, the copies in the message, the table; R, h and the bytes handed
- * out, each as often as it was; and of the current move the bytes left, from `at` up to `end`. */
+ * out, each as often as it was; and of the current move the bytes left, from `at` up to `end`, and its operations. */
 struct side {
     unsigned format, copies, entries;
     uint64_t table_address;
@@ -24,7 +24,7 @@ struct side {
     struct segment segments[MOST_SEGMENTS];
     uint32_t required, highest;
     uint64_t handed;
-    uint32_t at, end;
+    uint32_t at, end, operations;
 };
 
 struct request {

@@ -58,12 +58,14 @@ static void step_once(const struct channel *c, uint64_t tag, struct side *s, uin
     lend();
     same("step", "returned", srp_target_step(port.words, port.store, tag, in, port.answer), 0);
     if (!next_piece(s, c->longest_piece, &p)) {
-        answered("done", (const uint64_t[SRP_ANSWER_WORDS]){0});
+        answered("done", (const uint64_t[SRP_ANSWER_WORDS]){0, 0, 0, 0, 0, 0, s->operations});
+        if (s->operations > 1)
+            count(DONES);
         return;
     }
-    answered("piece", (const uint64_t[SRP_ANSWER_WORDS]){1, in ? SRP_RDMA_WRITE : SRP_RDMA_READ, p.handle, p.address,
-                                                         p.length, p.offset});
     hand_out(s, &p);
+    answered("piece", (const uint64_t[SRP_ANSWER_WORDS]){1, in ? SRP_RDMA_WRITE : SRP_RDMA_READ, p.handle, p.address,
+                                                         p.length, p.offset, s->operations});
     count(PIECES);
 }
 

@@ -17,7 +17,7 @@ static const char *const names[TALLIES] = {
     "line of SRP_LOGIN_REJ", "line of UNKNOWN",
     "line with *****", "line with RSP_CODE", "line of a count above 32", "line of another length",
     "line of another format", "line of a sense past 2^32", "line of an event report",
-    "RDMA operation", "record",
+    "RDMA operation", "done after several operations", "record",
 };
 static unsigned tallies[TALLIES], comparisons, failures;
 

@@ -20,7 +20,7 @@ enum tally {
     /* of those: a number above 99,999, an RSP_CODE, counts that a port refuses; why a message is UNKNOWN */
     STARS, RSP_CODES, COUNTS_ABOVE_32, OTHER_LENGTHS, OTHER_FORMATS, WRAPPED_SENSES, EVENT_REPORTS,
     /* answers */
-    PIECES, LISTED,
+    PIECES, DONES, LISTED,
     TALLIES
 };
 
