@@ -95,6 +95,18 @@ static void commands(void)
     two_out(TAG);
 }
 
+/* A number that no byte holds. */
+static void many(void)
+{
+    uint32_t i;
+    opened(N, 1);
+    both_planned(TAG);
+    move("300 pieces", 0, TAG, 1, 100, 300);
+    for (i = 0; i < 300; i++)
+        piece("300 pieces", TAG, 1, 9, 0x5064 + i, 1, 100 + i, i + 1);
+    done("300 pieces", TAG, 1, 300);
+}
+
 /* A move of data-in, its pieces and the bound: segments with a byte in it + its bytes / M. */
 struct row {
     const char *name;
@@ -210,6 +222,7 @@ void fewest_cases(void)
     next_moves();
     refusals();
     commands();
+    many();
     for (i = 0; i < sizeof rows / sizeof rows[0]; i++) {
         moved(&rows[i]);
         judged(&rows[i]);
