@@ -95,7 +95,7 @@ static void commands(void)
     two_out(TAG);
 }
 
-/* A number that no byte holds. */
+/* A number above 255. */
 static void many(void)
 {
     uint32_t i;
@@ -189,7 +189,7 @@ static unsigned fewest(const unsigned *segment_of, unsigned from, unsigned to, u
     return least[to];
 }
 
-/* The row's numbers by its bytes. */
+/* The number and the bound of a row, by a table of its bytes. */
 static void judged(const struct row *r)
 {
     unsigned segment_of[BYTES_AT_MOST], b = buffer_of(r, segment_of), from = r->offset, i, with_a_byte = 0;
@@ -202,7 +202,7 @@ static void judged(const struct row *r)
         fail(r->name, "another bound");
 }
 
-/* Each of 32 segments has two bytes; M is 64, of which the move has 63: the bound is met by its segments. */
+/* 32 segments of two bytes, a move of 63 bytes, M = 64: the bound is met by the segments alone. */
 static void thirty_two(void)
 {
     struct row r = {"32 segments", MOST, {0}, 64, 1, 63, MOST, {1}, 32 + 0};
