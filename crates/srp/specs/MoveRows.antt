@@ -3,7 +3,7 @@
 use mathlib.Core.Bool.{false}
 use mathlib.Core.List.{List, [], _∷_, map}
 use Prim.Native.Nat.{ℕ, _+_, _-_, _/_}
-use lib.ListN.{length}
+use lib.ListN.{length, replicate}
 use Rattle.srp.specs.Descriptors.{Segment}
 use Rattle.srp.specs.Cutting.{upTo, piece, cutsOf}
 use Rattle.srp.specs.Fewest.{touched}
@@ -57,6 +57,8 @@ rows =
     -- no bytes
     ∷ (moved (600 ∷ 100 ∷ []) 300 300 512, counts 0 0 0)
     ∷ (moved (600 ∷ 100 ∷ []) 700 700 512, counts 0 0 0)
+    -- the most bytes and segments that a direction can have, with the largest M: the most operations
+    ∷ (moved (4294967264 ∷ replicate 31 1) 0 4294967295 1048576, counts 32 4127 4127)
     ∷ []
 
 -- ── lists for the 700 bytes of two segments that adjoin in memory, with M = 512
