@@ -23,7 +23,8 @@ use Rattle.srp.proofs.Ranges.{cutting, open-ranges}
 use Rattle.srp.proofs.CutLaws.{Lawful}
 use Rattle.machine.proofs.Invariant.{Ok, now, Obeys}
 use Rattle.machine.proofs.Taking.{take-obeys}
-use Rattle.machine.proofs.Steps.{send-obeys, deliver-obeys, add-obeys, withdraw-obeys, grant-obeys, finish-obeys, plan-obeys, move-obeys, step-obeys}
+use Rattle.machine.proofs.Owners.{send-obeys, deliver-obeys, add-obeys, withdraw-obeys, grant-obeys, finish-obeys, plan-obeys}
+use Rattle.machine.proofs.Steps.{move-obeys, step-obeys}
 
 -- every event does what demand 3 says of it, and obeying the invariant until the channel closes
 module _ (L : Login) (cut : Lawful (ruleOf (L .terms))) (m : Machine) (p : Port) (h : Ok L m p) where

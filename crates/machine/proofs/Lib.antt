@@ -4,6 +4,7 @@ pub mod Moves
 pub mod Answers
 pub mod Invariant
 pub mod Taking
+pub mod Owners
 pub mod Steps
 pub mod Demand
 pub mod Itself
