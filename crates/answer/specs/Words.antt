@@ -9,7 +9,7 @@ use Rattle.srp.specs.declared.Reply.the-variants.{Refused, Performed, NewComman
 use Rattle.srp.specs.declared.Answer.{Answer}
 
 -- what stands before a reply's values: the length of the message written, then of a take the kind of message taken; of a step 1 for an operation, and for
--- done the words of an operation, all 0, so that the number of either is the same word
+-- done the words of an operation, all 0, so that the number of either stands in the same word
 abbrev pub leading : ℕ → Reply → List ℤ
 leading wrote (Refused f) = pos wrote ∷ []
 leading wrote Performed = pos wrote ∷ []

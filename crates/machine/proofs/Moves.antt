@@ -55,8 +55,8 @@ pub record Current (T : Terms) (g : Progress) (m : Move) : Type 0 where
   pub forward : m .from ≤ m .to
   pub parts : drop (g .earlier) (g .operations) ++ leftOf T g ≡ cutsOf (ruleOf T) (m .from) (m .to) (g .segs)
 
--- the operations are the first of the moves' cuts; those left are the cuts of what is left of the move named last, which ends by min(R, B); no segment
--- passes 2^64; every move ends by B
+-- the operations are the first of the moves' cuts; those left are the cuts of what is left of the move named last, which ends by min(R, B); of that
+-- move those handed out and those left are its cuts; no segment passes 2^64; every move ends by B
 pub record Steady (T : Terms) (g : Progress) : Type 0 where
   pub order : Prefix T g
   pub left : leftOf T g ≡ cutsOf (ruleOf T) (atOf T g) (endOf (g .moves)) (g .segs)

@@ -11,7 +11,6 @@ use Rattle.srp.specs.Bytes.{typeOf}
 use Rattle.srp.specs.Lists.{find, change, without, isSome}
 use Rattle.srp.specs.Refusals.{firstOf}
 use Rattle.srp.specs.Requests.{isRequest}
-use Rattle.srp.specs.Both.{of}
 use Rattle.srp.specs.Credit.{Open, Port, due, withHeld}
 use Rattle.srp.specs.declared.Terms.{Terms}
 use Rattle.srp.specs.Writing.{response, creditRequest}

@@ -192,25 +192,20 @@ naming L tag d offset count =
       answer = anything;
     }
 
--- what a step says of the piece whose turn it is, where n were handed out for the current move before it
+-- what a step says of the piece whose turn it is: "the number handed out so far for the current move, their own piece included"; n is it without
 abbrev pub saidOf : Direction → (n : ℕ) → Option Piece → Reply
 saidOf d n none = Done n
 saidOf d n (some o) = Operation (kindOf d) o (n + 1)
 
-abbrev pub SaysDone : Reply → Type 0
-SaysDone r = (n : ℕ) × (r ≡ Done n)
-
--- n is the number of operations of the current move as a whole: "For a finished move this is the length of its cut list, and every other list .. has at
--- least as many"
+-- "For a finished move this is the length of its cut list, and every other list .. has at least as many"
 abbrev pub CurrentFewest : Terms → Progress → ℕ → Type 0
 CurrentFewest T g n = (m : Move) → lastOf (g .moves) ≡ some m → Fewest T (m .from) (m .to) (g .segs) n
 
--- an unrefused step's reply r is the next of them, in its direction's kind, with "the number handed out so far for the current move"; it "says done exactly
--- when all those of its command and direction were handed out before it"; and the number that comes with done, and with the last piece before it, is the
--- least for the move
+-- an unrefused step's reply r is the next of them, in its direction's kind, with the number; it "says done exactly when all those of its command and
+-- direction were handed out before it"; and the number that comes with done, and with the last piece before it, is the least for the move
 pub record Right (T : Terms) (d : Direction) (g : Progress) (r : Reply) : Type 0 where
   pub in-turn : r ≡ saidOf d (soFar g) (getElem? (wholeOf T g) (length (g .operations)))
-  pub done-iff : SaysDone r ↔ (g .operations ≡ wholeOf T g)
+  pub done-iff : ((n : ℕ) × (r ≡ Done n)) ↔ (g .operations ≡ wholeOf T g)
   pub finished : (n : ℕ) → r ≡ Done n → CurrentFewest T g n
   pub last : (k : Kind) (o : Piece) (n : ℕ) → r ≡ Operation k o n → piecesLeft T (withOperation o g) ≡ false → CurrentFewest T g n
 

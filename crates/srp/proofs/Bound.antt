@@ -39,18 +39,18 @@ segment-many (suc f) M a h o (suc n) m le pos = go (ltb M (suc n)) refl (λ x y.
         rw (all, no-bytes f M (a + k) h (o + k), one-mul M) (omega arith)
 
 -- the segments with a byte of those from `from` up to `to`, counted from the first of them as the cuts are made
-abbrev reached : (from to : ℕ) → List Segment → ℕ
-reached from to [] = 0
-reached from to (s ∷ ss) =
+abbrev touchedIn : (from to : ℕ) → List Segment → ℕ
+touchedIn from to [] = 0
+touchedIn from to (s ∷ ss) =
     let n : ℕ = min (s .len) to in
-    cond (ltb from n) 1 0 + reached (from - n) (to - n) ss
+    cond (ltb from n) 1 0 + touchedIn (from - n) (to - n) ss
 
 module _ (M : ℕ) where
   -- the pieces of one segment and of those behind it
   both-many : (p q : List Piece) (t e f : ℕ) → length p * M ≤ M + e → length q * M ≤ t * M + f → length (p ++ q) * M ≤ (1 + t) * M + (e + f)
   both-many p q t e f x y = rw (length-append p q, add-mul (length p) (length q) M, add-mul 1 t M, one-mul M) (omega arith)
 
-  many : (o from to : ℕ) (ss : List Segment) → 1 ≤ M → length (cutsFrom (upTo M) o from to ss) * M ≤ reached from to ss * M + (to - from)
+  many : (o from to : ℕ) (ss : List Segment) → 1 ≤ M → length (cutsFrom (upTo M) o from to ss) * M ≤ touchedIn from to ss * M + (to - from)
   many o from to [] m = omega (arith, zero-mul M)
   many o from to (s ∷ ss) m = go (ltb from n) refl (many (o + n) (from - n) (to - n) ss m)
     where
@@ -64,7 +64,7 @@ module _ (M : ℕ) where
       rest = cutsFrom (upTo M) (o + n) (from - n) (to - n) ss
 
       t : ℕ
-      t = reached (from - n) (to - n) ss
+      t = touchedIn (from - n) (to - n) ss
 
       go : (b : Bool) → ltb from n ≡ b → length rest * M ≤ t * M + (to - n - (from - n)) → length (first (n - from) ++ rest) * M ≤ (cond b 1 0 + t) * M + (to - from)
       go true b ih =
@@ -79,11 +79,11 @@ module _ (M : ℕ) where
           let bytes : to - from ≡ to - n - (from - n) = omega arith in
           rw (none, bytes, zero-add t) ih
 
-none-reached : (from : ℕ) (ss : List Segment) → reached from 0 ss ≡ 0
-none-reached from [] = refl
-none-reached from (s ∷ ss) =
+none-touched : (from : ℕ) (ss : List Segment) → touchedIn from 0 ss ≡ 0
+none-touched from [] = refl
+none-touched from (s ∷ ss) =
     let n : min (s .len) 0 ≡ 0 = omega arith in
-    rw (n, le-ltb from 0 (omega arith), none-reached (from - 0) ss)
+    rw (n, le-ltb from 0 (omega arith), none-touched (from - 0) ss)
 
 -- a place counted from the segment's first byte and from the buffer's
 begins-before : (o from to n : ℕ) → from - o < min n (to - o) → max o from < min (o + n) to
@@ -96,9 +96,9 @@ passed-over : (o k n to : ℕ) → n ≤ to - o → k - o - min n (to - o) ≡ k
 passed-over o k n to h = let e : min n (to - o) ≡ n = omega arith in rw e (omega arith)
 
 -- they are the segments with a byte in the move, each by its own place
-reached-touched : (o from to : ℕ) (ss : List Segment) → reached (from - o) (to - o) ss ≡ touched o from to ss
-reached-touched o from to [] = refl
-reached-touched o from to (s ∷ ss) = λ i. cond (first i) 1 0 + behind (leb (s .len) (to - o)) refl (reached-touched (o + s .len) from to ss) i
+same-touched : (o from to : ℕ) (ss : List Segment) → touchedIn (from - o) (to - o) ss ≡ touched o from to ss
+same-touched o from to [] = refl
+same-touched o from to (s ∷ ss) = λ i. cond (first i) 1 0 + behind (leb (s .len) (to - o)) refl (same-touched (o + s .len) from to ss) i
   where
     n : ℕ
     n = min (s .len) (to - o)
@@ -110,8 +110,8 @@ reached-touched o from to (s ∷ ss) = λ i. cond (first i) 1 0 + behind (leb (s
         go true e = sym (lt-ltb (max o from) (min (o + s .len) to) (begins-before o from to (s .len) (ltb-true (from - o) n e)))
         go false e = sym (le-ltb (max o from) (min (o + s .len) to) (ends-before o from to (s .len) (ltb-false (from - o) n e)))
 
-    behind : (b : Bool) → leb (s .len) (to - o) ≡ b → reached (from - (o + s .len)) (to - (o + s .len)) ss ≡ touched (o + s .len) from to ss
-        → reached (from - o - n) (to - o - n) ss ≡ touched (o + s .len) from to ss
+    behind : (b : Bool) → leb (s .len) (to - o) ≡ b → touchedIn (from - (o + s .len)) (to - (o + s .len)) ss ≡ touched (o + s .len) from to ss
+        → touchedIn (from - o - n) (to - o - n) ss ≡ touched (o + s .len) from to ss
     behind true e ih =
         let le = leb-true (s .len) (to - o) e in
         rw (passed-over o from (s .len) to le, passed-over o to (s .len) to le) ih
@@ -119,17 +119,17 @@ reached-touched o from to (s ∷ ss) = λ i. cond (first i) 1 0 + behind (leb (s
         let lt = leb-false (s .len) (to - o) e in
         let t : to - o - n ≡ 0 = omega arith in
         let t′ : to - (o + s .len) ≡ 0 = omega arith in
-        rw t (none-reached (from - o - n) ss) ∙ sym (none-reached (from - (o + s .len)) ss) ∙ (rw t′ at ih)
+        rw t (none-touched (from - o - n) ss) ∙ sym (none-touched (from - (o + s .len)) ss) ∙ (rw t′ at ih)
 
 -- the cuts of a move are at most the segments with a byte in it plus its bytes divided by M
 pub cuts-bound : (M from to : ℕ) (ss : List Segment) → 1 ≤ M → length (cutsOf (upTo M) from to ss) ≤ touched 0 from to ss + (to - from) / M
 cuts-bound M from to ss m = by (length (cutsOf (upTo M) from to ss)) (touched 0 from to ss) (to - from) (omega (arith, many M 0 from to ss m, ap (λ (t : ℕ). t * M) same))
   where
-    same : reached from to ss ≡ touched 0 from to ss
+    same : touchedIn from to ss ≡ touched 0 from to ss
     same =
         let f : from - 0 ≡ from = omega arith in
         let t : to - 0 ≡ to = omega arith in
-        rw (f, t) at (reached-touched 0 from to ss)
+        rw (f, t) at (same-touched 0 from to ss)
 
     by : (n t b : ℕ) → n * M ≤ t * M + b → n ≤ t + b / M
     by n t b h = go (ltb t n) refl

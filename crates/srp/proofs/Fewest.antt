@@ -21,7 +21,7 @@ use Rattle.srp.proofs.ListLaws.{all-weaken}
 use Rattle.srp.proofs.CutLaws.{Lawful, up-to, unrolls, stops, done-iff}
 use Rattle.srp.proofs.Pieces.{piece-fits}
 use Rattle.srp.proofs.Moves.{move-fits, move-consecutive, move-bytes}
-use Rattle.srp.proofs.Rivals.{starts-after}
+use Rattle.srp.proofs.Rivals.{starts-after, rest-of}
 use Rattle.srp.proofs.Bound.{cuts-bound}
 
 -- ── the rule has the longest piece that is allowed
@@ -101,11 +101,8 @@ module _ (T : Terms) (to : ℕ) (ss : List Segment) (cut : Lawful (ruleOf T)) (s
   ahead [] x y h k r =
       let e : cutsOf (ruleOf T) y to ss ≡ [] = stops (ruleOf T) 0 y to ss (done-iff (ruleOf T) y to ss short .1 (omega (arith, r .covers))) in
       rw e (omega arith)
-  ahead (p ∷ ps) x y h k r = go (ltb y (x + p .len)) refl (next (ruleOf T) y to ss) refl (λ y′ u v. ahead ps (x + p .len) y′ u v rest)
+  ahead (p ∷ ps) x y h k r = go (ltb y (x + p .len)) refl (next (ruleOf T) y to ss) refl (λ y′ u v. ahead ps (x + p .len) y′ u v (rest-of r))
     where
-      rest : Rival T (x + p .len) to ss ps
-      rest = record { covers = omega (arith, r .covers); in-order = r .in-order .1; inside = r .inside .1; allowed = r .allowed .1 }
-
       -- what is left of p from y on
       tail-stands : y < x + p .len → Stands 0 y to ss (tailOf (y - x) p)
       tail-stands lt =

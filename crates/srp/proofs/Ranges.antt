@@ -82,14 +82,10 @@ module _ (f count at : ℕ) (s table : List ℕ) (b : Bytes s) where
           omega (arith, eqb-true (desc .total) B sums, total-small (eqb f 2))
       go false e h = rw e (one (eqb f 1))
 
-  good-table : (y : Bool) → y ≡ true → tests y ≡ true → goodTable (desc .len) ≡ true
-  good-table true e h = both (goodTable (desc .len)) _ h .0
-  good-table false e h = absurd (true≢false (sym e))
-
   new-ranges : length table ≡ fetched desc → goodFields desc s table ≡ true → SideRanges (newSide (segments desc s table))
   new-ranges whole good =
       let g = both (tests (eqb f 2)) (reachable (segments desc s table)) good in
-      record { extent = record { few = few-segments desc s table (λ e. good-table (eqb f 2) e (g .0)) whole; reach = g .1; sum = refl; small = small (g .0) }; highest = omega arith; at = omega arith; end = omega arith; number = omega arith; required = omega arith }
+      record { extent = record { few = few-segments desc s table (g .0) whole; reach = g .1; sum = refl; small = small (g .0) }; highest = omega arith; at = omega arith; end = omega arith; number = omega arith; required = omega arith }
 
 -- a command that a message of bytes is read as has such segments, where its tables fit and its fields are good
 abbrev Sane : List ℕ → Tables → Message → Type 0

@@ -53,6 +53,10 @@ piece-bytes o p (s ∷ ss) w = ⊎-elim here (λ v. later v (piece-bytes (o + s 
         let same : k - s .len ≡ p .offset - (o + s .len) = omega arith in
         rw (split, none, same) ih
 
+-- behind its first operation such a list goes on as one
+pub rest-of : {T : Terms} {from to : ℕ} {ss : List Segment} {p : Piece} {ps : List Piece} → Rival T from to ss (p ∷ ps) → Rival T (from + p .len) to ss ps
+rest-of r = record { covers = omega (arith, r .covers); in-order = r .in-order .1; inside = r .inside .1; allowed = r .allowed .1 }
+
 -- up to each operation's end they are the segments' bytes
 rival-bytes : (T : Terms) (from to : ℕ) (ss : List Segment) (ps : List Piece) → Rival T from to ss ps
     → take from (bytesOfSegments ss) ++ bytesOfPieces ps ≡ take to (bytesOfSegments ss)
@@ -63,8 +67,7 @@ rival-bytes T from to ss (p ∷ ps) r =
     let l = bytesOfSegments ss in
     let at : p .offset - 0 ≡ from = omega (arith, r .in-order .0) in
     let bytes : take (p .len) (drop from l) ≡ run (p .handle) (p .address) (p .len) = rw at at (piece-bytes 0 p ss (r .inside .0)) in
-    let rest : Rival T (from + p .len) to ss ps = record { covers = omega (arith, r .covers); in-order = r .in-order .1; inside = r .inside .1; allowed = r .allowed .1 } in
-    rw (sym bytes, sym (append-assoc (take from l) (take (p .len) (drop from l)) (bytesOfPieces ps)), sym (take-add from (p .len) l)) (rival-bytes T (from + p .len) to ss ps rest)
+    rw (sym bytes, sym (append-assoc (take from l) (take (p .len) (drop from l)) (bytesOfPieces ps)), sym (take-add from (p .len) l)) (rival-bytes T (from + p .len) to ss ps (rest-of r))
 
 pub rivals-cover : RivalsCover
 rivals-cover T from to ss ps h r =

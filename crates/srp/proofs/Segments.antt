@@ -1,7 +1,7 @@
 -- A command that was taken has at most 32 segments each way; so how many operations one of its moves has at most.
 -- Assumes nothing.
-use mathlib.Core.Path.{_≡_, refl, ap}
-use mathlib.Core.Bool.{Bool, true, false, cond, not, _&&_}
+use mathlib.Core.Path.{_≡_, refl, ap, sym}
+use mathlib.Core.Bool.{Bool, true, false, cond, not, _&&_, _||_, true≢false}
 use mathlib.Core.List.{List, []}
 use Prim.Native.Nat.{ℕ, zero, suc, _+_, _-_, _*_, _/_, _^_, _≤_}
 use native.Mathlib.Nat.{le-div-iff-mul-le}
@@ -10,8 +10,10 @@ use lib.Dec.{leb, eqb}
 use lib.ListN.{length, take, drop, length-take}
 use borrow.Author.Tests.{leb-true, eqb-true}
 use Rattle.srp.specs.Limits.{mostCopies, longestTable}
-use Rattle.srp.specs.Descriptors.{segmentsIn, goodTable, whole, fetched, copies, segmentBytes, segments}
-use Rattle.srp.specs.Ranges.{SlotsEnough}
+use Rattle.srp.specs.Descriptors.{segmentsIn, goodTable, whole, fetched, copies, segmentBytes, segments, goodIndirect, goodFormat}
+use Rattle.srp.specs.Cutting.{cutsOf}
+use Rattle.srp.specs.Credit.{ruleOf}
+use Rattle.srp.specs.Ranges.{mostOperations, OperationsAtMost}
 use Rattle.srp.specs.declared.Descriptor.{Descriptor}
 use Rattle.srp.proofs.FieldLaws.{both}
 use Rattle.srp.proofs.Bound.{cuts-bound, few-touched}
@@ -29,30 +31,38 @@ short-bytes false true false first copied table a b c = c refl refl
 short-bytes false false w first copied table a b c = omega arith
 
 -- where an indirect table has a good length and the lent one is as long as was fetched
-pub few-segments : (d : Descriptor) (s table : List ℕ) → (eqb (d .format) 2 ≡ true → goodTable (d .len) ≡ true) → length table ≡ fetched d
+pub few-segments : (d : Descriptor) (s table : List ℕ) → goodFormat d s table ≡ true → length table ≡ fetched d
     → length (segments d s table) ≤ mostCopies
 few-segments d s table good e =
     let n = length (segmentBytes d s table) in
     omega (arith, segments-count (n / 16) (segmentBytes d s table), short-bytes (eqb (d .format) 1) (eqb (d .format) 2) (whole d) (take 16 (drop (d .at) s)) (copies d s) table (omega (arith, length-take 16 (drop (d .at) s))) in-message fetched-whole)
   where
+    good-table : (y : Bool) → y ≡ true → (not y || goodIndirect d s table) ≡ true → goodTable (d .len) ≡ true
+    good-table true f h = both (goodTable (d .len)) _ h .0
+    good-table false f h = absurd (true≢false (sym f))
+
+    a-table : eqb (d .format) 2 ≡ true → goodTable (d .len) ≡ true
+    a-table f = good-table (eqb (d .format) 2) f good
+
     at-most : eqb (d .format) 2 ≡ true → d .len ≤ longestTable
-    at-most f = leb-true (d .len) longestTable (both (leb (d .len) longestTable) _ (both (leb 16 (d .len)) _ (good f) .1) .0)
+    at-most f = leb-true (d .len) longestTable (both (leb (d .len) longestTable) _ (both (leb 16 (d .len)) _ (a-table f) .1) .0)
 
     in-message : eqb (d .format) 2 ≡ true → whole d ≡ true → length (copies d s) ≤ longestTable
     in-message f w = omega (arith, at-most f, eqb-true (d .len) (16 * d .count) w, length-take (16 * d .count) (drop (d .at + 20) s))
 
     fetched-whole : eqb (d .format) 2 ≡ true → whole d ≡ false → length table ≤ longestTable
     fetched-whole f w =
-        let n : fetched d ≡ d .len = λ i. cond (f i && (good f i && not (w i))) (d .len) 0 in
+        let n : fetched d ≡ d .len = λ i. cond (f i && (a-table f i && not (w i))) (d .len) 0 in
         omega (arith, at-most f, e, n)
 
 -- ── a move's operations
 
-pub slots-enough : SlotsEnough
-slots-enough T s from to m r h =
+pub operations-at-most : OperationsAtMost
+operations-at-most T s from to m r h =
     let M = T .maximum in
     let ss = s .extent .segs in
     let bytes = to - from in
     let part : bytes / M * M ≤ bytes = le-div-iff-mul-le {k = M} {x = bytes / M} {y = bytes} m .0 (omega arith) in
     let most : bytes / M ≤ (2 ^ 32 - 1) / M = le-div-iff-mul-le {k = M} {x = bytes / M} {y = 2 ^ 32 - 1} m .1 (omega (arith, r .extent .small)) in
-    omega (arith, cuts-bound M from to ss m, few-touched 0 from to ss, r .extent .few)
+    let n : length (cutsOf (ruleOf T) from to ss) ≤ mostOperations M bytes = omega (arith, cuts-bound M from to ss m, few-touched 0 from to ss, r .extent .few) in
+    (n, omega (arith, n, most))

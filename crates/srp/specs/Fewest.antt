@@ -1,4 +1,5 @@
--- Document 02, job 4: a move's operations are as few as can be, and how many there are at most. The laws are proofs/Fewest.antt.
+-- Document 02, job 4: a move's operations are as few as can be, and how many there are at most. The laws are
+-- proofs/Fewest.antt, proofs/Rivals.antt and proofs/Bound.antt.
 use mathlib.Core.Path.{_≡_}
 use mathlib.Core.Bool.{Bool, cond}
 use mathlib.Core.List.{List, [], _∷_}
@@ -15,7 +16,7 @@ use Rattle.srp.specs.declared.Piece.{Piece}
 
 -- ── "every other list of operations that covers the same bytes in order, each inside one segment and at most M long"
 
--- what the login settled for an operation
+-- "at most M long", with the login's M
 abbrev pub Allowed : Terms → Piece → Type 0
 Allowed T p = p .len ≤ T .maximum
 
@@ -44,7 +45,7 @@ touched o from to (s ∷ ss) = cond (touches o from to s) 1 0 + touched (o + s .
 
 -- ── the cuts of a move
 
--- n is their number; they are such a list, and no such list has fewer
+-- n is their number; they are such a list, no such list has fewer, and n is within the bound
 pub record Fewest (T : Terms) (from to : ℕ) (ss : List Segment) (n : ℕ) : Type 0 where
   pub counted : n ≡ length (cutsOf (ruleOf T) from to ss)
   pub attained : Rival T from to ss (cutsOf (ruleOf T) from to ss)

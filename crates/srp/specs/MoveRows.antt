@@ -1,5 +1,5 @@
--- Document 02, job 4, worked out by hand: moves with the segments that have a byte in them, their operations and the bound; and lists that cover a move. The rows hold:
--- proofs/MoveRows.antt.
+-- Document 02, job 4, worked out by hand: moves with the segments that have a byte in them, their operations and the bound; and four lists of operations for a
+-- move, of which one is such as job 4 compares with. The rows hold: proofs/MoveRows.antt.
 use mathlib.Core.Bool.{false}
 use mathlib.Core.List.{List, [], _∷_, map}
 use Prim.Native.Nat.{ℕ, _+_, _-_, _/_}
@@ -69,7 +69,7 @@ terms = record { maximum = 512; agreed = 64; formats = 0; crsolnt = false; losol
 abbrev pub two : List Segment
 two = record { address = 0x3000; handle = 7; len = 600 } ∷ record { address = 0x3258; handle = 7; len = 100 } ∷ []
 
--- 600 bytes in other parts
+-- the 600 bytes in halves
 abbrev pub halves : List Piece
 halves = piece 0x3000 7 300 0 ∷ piece 0x312c 7 300 300 ∷ piece 0x3258 7 100 600 ∷ []
 
@@ -81,6 +81,6 @@ crossing = piece 0x3000 7 512 0 ∷ piece 0x3200 7 188 512 ∷ []
 abbrev pub too-long : List Piece
 too-long = piece 0x3000 7 600 0 ∷ piece 0x3258 7 100 600 ∷ []
 
--- or if the last bytes might stay where they are
+-- or if the last bytes might be left out
 abbrev pub unfinished : List Piece
 unfinished = piece 0x3000 7 512 0 ∷ piece 0x3200 7 88 512 ∷ []

@@ -1,4 +1,5 @@
--- What every port has that a login made and calls changed, whatever they answered. The law is `reached` of proofs/Ranges.antt.
+-- What every port has that a login made and calls changed, whatever they answered. The laws are `reached` of proofs/Ranges.antt, `has-pieces` of
+-- proofs/Moves.antt and `operations-at-most` of proofs/Segments.antt.
 use mathlib.Core.Path.{_≡_}
 use mathlib.Core.Logic.{_⊎_}
 use mathlib.Core.Bool.{true, false}
@@ -27,7 +28,7 @@ pub record ExtentRanges (e : Extent) : Type 0 where
   pub sum : e .total ≡ sumOf (e .segs)
   pub small : e .total < 2 ^ 32
 
--- its current move and h stay within min(R, B), and as every operation has a byte, there were not more than bytes before the next one
+-- its current move and h stay within min(R, B), and it had at most as many operations as the next byte's offset says, since each had a byte
 pub record SideRanges (s : Side) : Type 0 where
   pub extent : ExtentRanges (s .extent)
   pub highest : s .transfer .highest ≤ movable s
@@ -40,13 +41,14 @@ pub record SideRanges (s : Side) : Type 0 where
 abbrev pub HasPieces : Type 0
 HasPieces = (T : Terms) (s : Side) → 1 ≤ T .maximum → SideRanges s → hasPieces s ≡ isSome (nextIn T s)
 
--- so no move of it, up to min(R, B), has more operations than 32, and one for each M of 2^32 - 1 bytes
-abbrev pub mostOperations : ℕ → ℕ
-mostOperations M = mostCopies + (2 ^ 32 - 1) / M
+-- a move of it has at most one operation for each of 32 segments, and one more for each M bytes; and no move has 2^32 bytes
+abbrev pub mostOperations : (M bytes : ℕ) → ℕ
+mostOperations M bytes = mostCopies + bytes / M
 
-abbrev pub SlotsEnough : Type 0
-SlotsEnough = (T : Terms) (s : Side) (from to : ℕ) → 1 ≤ T .maximum → SideRanges s → to ≤ movable s
-    → length (cutsOf (ruleOf T) from to (s .extent .segs)) ≤ mostOperations (T .maximum)
+abbrev pub OperationsAtMost : Type 0
+OperationsAtMost = (T : Terms) (s : Side) (from to : ℕ) → 1 ≤ T .maximum → SideRanges s → to ≤ movable s
+    → let n : ℕ = length (cutsOf (ruleOf T) from to (s .extent .segs)) in
+    (n ≤ mostOperations (T .maximum) (to - from)) × (n ≤ mostOperations (T .maximum) (2 ^ 32 - 1))
 
 -- an open command: its tag has 8 bytes, and R is 0 until it is planned
 pub record OpenRanges (c : Open) : Type 0 where

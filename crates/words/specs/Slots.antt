@@ -30,7 +30,7 @@ abbrev pub partAt : Direction → ℕ
 partAt Out = partsAt
 partAt In = partsAt + partWords
 
--- one direction, in the words from k on; every operation has a byte, so there were no more for the move than bytes before the next one
+-- one direction, in the words from k on; the move had at most as many operations as the next byte's offset says, since each had a byte
 abbrev pub partIn : List ℕ → ℕ → Part
 partIn r k =
     let next : ℕ = getD r (k + 4) 0 % 2 ^ 32 in
