@@ -54,6 +54,17 @@ pub struct Operation {
     pub offset: u32,
 }
 
+/// What [`Port::step`](crate::Port::step) came to.
+#[derive(Clone, Copy, Debug, PartialEq, Eq, Hash)]
+#[must_use = "an operation that is handed out is to be posted"]
+pub struct Step {
+    /// The next operation of the current move; none where step says done.
+    pub operation: Option<Operation>,
+    /// The operations handed out so far for the current move, this one included; 0 before any move. With done it is the
+    /// length of the move's cut list.
+    pub number: u32,
+}
+
 /// W, A, H and D of an open channel; A + H + D = W.
 #[derive(Clone, Copy, Debug, PartialEq, Eq, Hash)]
 pub struct Counters {

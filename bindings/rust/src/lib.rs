@@ -7,13 +7,14 @@
 //!
 //! For each SRP_CMD, [`look`] names the tables to fetch; then come [`Port::take`], [`Port::plan`], [`Port::pieces`] for
 //! each move of its data, and [`Port::finish`]. A refusal of [`Port::take`] that comes with a message carries it: see
-//! [`TakeRefusal`]. [`cut`] is the cut alone, without a port; [`trace`] writes any message, of either end, as a line for
-//! a terminal.
+//! [`TakeRefusal`]. A [`Step`], and [`Pieces::number`], tell the operations handed out for a move, each of which is an
+//! adapter slot. [`cut`] is the cut alone, without a port; [`trace`] writes any message, of either end, as a line for a
+//! terminal.
 //!
 //! A login; then a command that reads 1,300 bytes to address 1000h, handle 7, in RDMA operations of up to 512 bytes:
 //!
 //! ```
-//! use srp_target::{Direction, Kind, Port, Settings, Tables, Taken, MESSAGE_BYTES};
+//! use srp_target::{Direction, Kind, Port, Settings, Step, Tables, Taken, MESSAGE_BYTES};
 //!
 //! let settings = Settings { buffers: 4, maximum: 512, longest: 1364, indirect: true, solicited: false };
 //! let own = [0xa5; 16];
@@ -47,6 +48,7 @@
 //!     }
 //! }
 //! assert_eq!(pieces, [(0x1000, 512, 0), (0x1200, 512, 512), (0x1400, 276, 1024)]);
+//! assert_eq!(port.step(tag, Direction::In)?, Step { operation: None, number: 3 }); // done, by 3 operations
 //!
 //! let message = port.finish(tag, 0x00, &[], &mut buf)?; // the owner sends it
 //! let mut response = [0; 36]; // SRP_RSP: status GOOD, no residual
@@ -78,7 +80,7 @@ mod port;
 mod refusal;
 mod stateless;
 
-pub use answer::{Counters, Kind, Operation, Record, Taken};
+pub use answer::{Counters, Kind, Operation, Record, Step, Taken};
 pub use argument::{Direction, Settings, Tables};
 pub use message::Message;
 pub use pieces::Pieces;

@@ -3,7 +3,7 @@
 
 use srp_target_sys::{KIND_COMMAND, KIND_CREDIT_RESPONSE, KIND_LOGOUT, KIND_TASK, RDMA_READ, RDMA_WRITE};
 
-use crate::answer::{Kind, Operation, Taken};
+use crate::answer::{Kind, Operation, Step, Taken};
 use crate::ffi::Outcome;
 use crate::message::Message;
 use crate::refusal::Refusal;
@@ -41,8 +41,13 @@ fn kind_of(number: u64) -> Kind {
     }
 }
 
+/// What an unrefused step came to.
+pub fn stepped(outcome: &Outcome) -> Step {
+    Step { operation: operation(outcome), number: outcome.words[6] as u32 }
+}
+
 /// The operation of an unrefused step, or none where it says done.
-pub fn operation(outcome: &Outcome) -> Option<Operation> {
+fn operation(outcome: &Outcome) -> Option<Operation> {
     let [1, kind, handle, address, length, offset, ..] = outcome.words else {
         return None;
     };

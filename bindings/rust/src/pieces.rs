@@ -2,7 +2,7 @@
 
 use core::iter::FusedIterator;
 
-use crate::answer::Operation;
+use crate::answer::{Operation, Step};
 use crate::argument::Direction;
 use crate::port::Port;
 
@@ -13,12 +13,20 @@ pub struct Pieces<'p> {
     port: &'p mut Port,
     tag: u64,
     direction: Direction,
+    /// As the last step told it.
+    number: u32,
 }
 
 impl<'p> Pieces<'p> {
     /// Of a move that was named: its command is open and planned, and nobody else has the port.
     pub(crate) fn new(port: &'p mut Port, tag: u64, direction: Direction) -> Self {
-        Pieces { port, tag, direction }
+        Pieces { port, tag, direction, number: 0 }
+    }
+
+    /// The operations handed out so far of the move: the adapter slots that it took. At its end no other list of
+    /// operations that covers the same bytes in order, each inside one segment and at most M long, has fewer.
+    pub fn number(&self) -> u32 {
+        self.number
     }
 }
 
@@ -26,7 +34,10 @@ impl Iterator for Pieces<'_> {
     type Item = Operation;
 
     fn next(&mut self) -> Option<Operation> {
-        self.port.step(self.tag, self.direction).expect("libexports.a refuses no step of a move that it took")
+        let step = self.port.step(self.tag, self.direction);
+        let Step { operation, number } = step.expect("libexports.a refuses no step of a move that it took");
+        self.number = number;
+        operation
     }
 }
 

@@ -4,11 +4,11 @@ use core::fmt;
 
 use srp_target_sys::{Store, Words, PORT_WORDS, STORE_BYTES};
 
-use crate::answer::{Counters, Operation, Record, Taken};
+use crate::answer::{Counters, Record, Step, Taken};
 use crate::argument::{Direction, Settings, Tables};
 use crate::ffi::{self, Outcome};
 use crate::message::Message;
-use crate::outcome::{checked, operation, taken, written};
+use crate::outcome::{checked, stepped, taken, written};
 use crate::pieces::Pieces;
 use crate::refusal::{LoginRefusal, Refusal, TakeRefusal};
 
@@ -116,7 +116,8 @@ impl Port {
 
     /// Names a move of an open command: the bytes of a direction that [`Port::step`] hands out next, from `offset` up to
     /// the smaller of `offset + count`, which does not wrap, and min(R, B). Moves may come in any order, overlap and be
-    /// repeated. With a count of 0, or an offset of min(R, B), a move has no bytes and is lawful.
+    /// repeated. With a count of 0, or an offset of min(R, B), a move has no bytes and is lawful. The number of
+    /// operations handed out starts at 0 with each move; one that is refused leaves it.
     ///
     /// # Errors
     /// Refused: 21 closed; 24 tag not open; 29 not planned; 31 `offset` above min(R, B); 32 the direction's earlier
@@ -126,14 +127,16 @@ impl Port {
     }
 
     /// Hands out the next RDMA operation of a direction's current move, or says done by none: the move has no bytes
-    /// left, or there is none.
+    /// left, or there is none. Either way it tells how many were handed out for that move. Done, no other list of
+    /// operations that covers the same bytes in order, each inside one segment and at most M long, has fewer; and they
+    /// are at most (segments with a byte in the move) + (bytes of the move divided by M, rounded down).
     ///
     /// # Errors
     /// Refused: 21 closed; 24 tag not open; 29 not planned.
-    pub fn step(&mut self, tag: u64, direction: Direction) -> Result<Option<Operation>, Refusal> {
+    pub fn step(&mut self, tag: u64, direction: Direction) -> Result<Step, Refusal> {
         let outcome = ffi::step(&mut self.words, &self.store, tag, direction.number());
         checked(outcome.number)?;
-        Ok(operation(&outcome))
+        Ok(stepped(&outcome))
     }
 
     /// Names a move, and hands out its operations as the iterator is asked for them. One move of offset 0 and count R
@@ -143,15 +146,20 @@ impl Port {
     /// As [`Port::name_move`]. After that no step is refused: the iterator has the port to itself.
     ///
     /// # Examples
-    /// Data-in of 1,300 bytes, of which the device server has those from 512 on first:
+    /// Data-in of 1,300 bytes, of which the device server has those from 512 on first; it returns the adapter slots
+    /// used:
     /// ```
     /// use srp_target::{Direction, Operation, Port, Refusal};
     ///
-    /// fn read(port: &mut Port, tag: u64, mut rdma: impl FnMut(Operation)) -> Result<(), Refusal> {
+    /// fn read(port: &mut Port, tag: u64, mut rdma: impl FnMut(Operation)) -> Result<u32, Refusal> {
     ///     port.plan(tag, 0, 1300)?;
-    ///     port.pieces(tag, Direction::In, 512, 788)?.for_each(&mut rdma);
-    ///     port.pieces(tag, Direction::In, 0, 512)?.for_each(&mut rdma);
-    ///     Ok(())
+    ///     let mut slots = 0;
+    ///     for (offset, count) in [(512, 788), (0, 512)] {
+    ///         let mut pieces = port.pieces(tag, Direction::In, offset, count)?;
+    ///         pieces.by_ref().for_each(&mut rdma);
+    ///         slots += pieces.number();
+    ///     }
+    ///     Ok(slots)
     /// }
     /// ```
     pub fn pieces(&mut self, tag: u64, direction: Direction, offset: u32, count: u32) -> Result<Pieces<'_>, Refusal> {

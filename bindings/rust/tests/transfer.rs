@@ -3,7 +3,7 @@
 mod messages;
 
 use messages::*;
-use srp_target::{Direction, Kind, Message, Operation, Port, Record, Refusal, Tables, Taken, SENSE_BYTES};
+use srp_target::{Direction, Kind, Message, Operation, Port, Record, Refusal, Step, Tables, Taken, SENSE_BYTES};
 
 /// Data-out: 3000h, handle 5, 600 bytes. Data-in: a table in the message, the segments of P2.
 fn both_ways(tag: u64) -> Vec<u8> {
@@ -18,6 +18,16 @@ fn read(handle: u32, address: u64, length: u32, offset: u32) -> Operation {
 
 fn write(handle: u32, address: u64, length: u32, offset: u32) -> Operation {
     Operation { kind: Kind::Write, handle, address, length, offset }
+}
+
+/// A step with an operation, and the operations of its move so far.
+fn stepped(operation: Operation, number: u32) -> Result<Step, Refusal> {
+    Ok(Step { operation: Some(operation), number })
+}
+
+/// A step that says done, after so many operations.
+fn done(number: u32) -> Result<Step, Refusal> {
+    Ok(Step { operation: None, number })
 }
 
 /// The pieces of a move of a direction's first bytes.
@@ -35,13 +45,13 @@ fn both_directions() {
     let mut port = open_port();
     take_command(&mut port, &both_ways(9));
     port.plan(9, 600, 700).unwrap();
-    assert_eq!(port.step(9, Direction::In), Ok(None), "plan alone starts no move");
+    assert_eq!(port.step(9, Direction::In), done(0), "plan alone starts no move");
     assert_eq!(port.name_move(9, Direction::In, 0, 700), Ok(()));
-    assert_eq!(port.step(9, Direction::In), Ok(Some(write(6, 0x3000, 512, 0))));
+    assert_eq!(port.step(9, Direction::In), stepped(write(6, 0x3000, 512, 0), 1));
     assert_eq!(first(&mut port, 9, Direction::Out, 600), [read(5, 0x3000, 512, 0), read(5, 0x3200, 88, 512)]);
-    assert_eq!(port.step(9, Direction::In), Ok(Some(write(6, 0x3200, 88, 512))));
-    assert_eq!(port.step(9, Direction::In), Ok(Some(write(8, 0x5000, 100, 600))));
-    assert_eq!((port.step(9, Direction::In), port.step(9, Direction::Out)), (Ok(None), Ok(None)));
+    assert_eq!(port.step(9, Direction::In), stepped(write(6, 0x3200, 88, 512), 2));
+    assert_eq!(port.step(9, Direction::In), stepped(write(8, 0x5000, 100, 600), 3));
+    assert_eq!((port.step(9, Direction::In), port.step(9, Direction::Out)), (done(3), done(2)));
     let mut buf = lent();
     assert_eq!(outcome(port.finish(9, 0, &[], &mut buf).unwrap()), (0, 0, [0; 4], [0; 4]));
 }
@@ -119,11 +129,76 @@ fn a_move_goes_on_where_it_stopped() {
     assert_eq!(port.name_move(9, Direction::In, 1300, 0), Err(Refusal::Unfinished));
     assert_eq!(port.name_move(9, Direction::In, 1301, 0), Err(Refusal::Offset));
     assert_eq!(port.name_move(9, Direction::Out, 0, 1), Ok(()), "the other direction");
-    assert_eq!(port.step(9, Direction::In), Ok(Some(write(7, 0x1200, 512, 512))));
-    assert_eq!(port.step(9, Direction::In), Ok(Some(write(7, 0x1400, 276, 1024))));
+    assert_eq!(port.step(9, Direction::In), stepped(write(7, 0x1200, 512, 512), 2));
+    assert_eq!(port.step(9, Direction::In), stepped(write(7, 0x1400, 276, 1024), 3));
     let mut pieces = port.pieces(9, Direction::In, 1024, 276).unwrap();
     assert_eq!(pieces.next(), Some(write(7, 0x1400, 276, 1024)));
     assert_eq!((pieces.next(), pieces.next()), (None, None));
+}
+
+/// Each move has its own number, an empty one too, and each direction. A refused move or plan leaves it.
+#[test]
+fn the_number_of_a_move() {
+    let mut port = open_port();
+    take_command(&mut port, &both_ways(9));
+    assert_eq!(port.step(9, Direction::In), Err(Refusal::Unplanned));
+    port.plan(9, 600, 700).unwrap();
+    assert_eq!((port.step(9, Direction::Out), port.step(9, Direction::In)), (done(0), done(0)), "before any move");
+    port.name_move(9, Direction::In, 0, 700).unwrap();
+    assert_eq!(port.step(9, Direction::In), stepped(write(6, 0x3000, 512, 0), 1));
+    assert_eq!(port.step(9, Direction::In), stepped(write(6, 0x3200, 88, 512), 2));
+    assert_eq!(port.name_move(9, Direction::In, 0, 700), Err(Refusal::Unfinished));
+    assert_eq!(port.name_move(9, Direction::In, 701, 0), Err(Refusal::Offset));
+    assert_eq!(port.plan(9, 600, 700), Err(Refusal::Planned));
+    assert_eq!(port.step(8, Direction::In), Err(Refusal::TagNotOpen));
+    port.name_move(9, Direction::Out, 0, 600).unwrap();
+    assert_eq!(port.step(9, Direction::Out), stepped(read(5, 0x3000, 512, 0), 1));
+    assert_eq!(port.step(9, Direction::In), stepped(write(8, 0x5000, 100, 600), 3));
+    assert_eq!([port.step(9, Direction::In), port.step(9, Direction::In)], [done(3), done(3)], "done, and done again");
+    assert_eq!((port.name_move(9, Direction::In, 701, 0), port.step(9, Direction::In)), (Err(Refusal::Offset), done(3)));
+    port.name_move(9, Direction::In, 0, 1).unwrap();
+    assert_eq!(port.step(9, Direction::In), stepped(write(6, 0x3000, 1, 0), 1), "another move");
+    assert_eq!((port.step(9, Direction::In), port.name_move(9, Direction::In, 5, 0)), (done(1), Ok(())));
+    assert_eq!((port.step(9, Direction::In), port.step(9, Direction::In)), (done(0), done(0)), "an empty move");
+    assert_eq!(port.step(9, Direction::Out), stepped(read(5, 0x3200, 88, 512), 2));
+    assert_eq!((port.step(9, Direction::Out), port.step(9, Direction::In)), (done(2), done(0)));
+}
+
+/// A command in the place of another, with its tag: no move was named of it.
+#[test]
+fn the_number_of_a_tag_used_again() {
+    let mut port = open_port();
+    for _ in 0..2 {
+        take_command(&mut port, &both_ways(9));
+        port.plan(9, 600, 700).unwrap();
+        assert_eq!((port.step(9, Direction::Out), port.step(9, Direction::In)), (done(0), done(0)));
+        assert_eq!(first(&mut port, 9, Direction::Out, 600).len(), 2);
+        assert_eq!(first(&mut port, 9, Direction::In, 700).len(), 3);
+        assert_eq!((port.step(9, Direction::Out), port.step(9, Direction::In)), (done(2), done(3)));
+        assert_eq!(port.finish(9, 0, &[], &mut lent()).unwrap()[0], 0xc1);
+        assert_eq!(port.step(9, Direction::In), Err(Refusal::TagNotOpen));
+    }
+}
+
+/// An iterator tells the operations of its own move, which a step goes on counting.
+#[test]
+fn pieces_are_numbered() {
+    let mut port = open_port();
+    take_command(&mut port, &p1(9));
+    port.plan(9, 0, 1300).unwrap();
+    for _ in 0..2 {
+        let mut pieces = port.pieces(9, Direction::In, 0, 1300).unwrap();
+        let mut numbers = vec![pieces.number()];
+        while pieces.next().is_some() {
+            numbers.push(pieces.number());
+        }
+        assert_eq!((numbers, pieces.next(), pieces.number()), (vec![0, 1, 2, 3], None, 3));
+    }
+    let mut empty = port.pieces(9, Direction::In, 1300, 1).unwrap();
+    assert_eq!((empty.next(), empty.number()), (None, 0));
+    let mut pieces = port.pieces(9, Direction::In, 512, 788).unwrap();
+    assert_eq!((pieces.next(), pieces.number()), (Some(write(7, 0x1200, 512, 512)), 1));
+    assert_eq!(port.step(9, Direction::In), stepped(write(7, 0x1400, 276, 1024), 2));
 }
 
 #[test]
