@@ -140,7 +140,7 @@ impl Search {
         let stepped = self.port.call(&Call::Step { tag: TAG, direction });
         let operation = u64::from(direction) + 1;
         let answer = expected
-            .map_or([0; 8], |[handle, address, length, offset]| [1, operation, handle, address, length, offset, 0, 0]);
+            .map_or([0; 8], |[handle, address, length, offset]| [1, operation, handle, address, length, offset, 1, 0]);
         let lengths = lengths_of(list);
         assert_eq!((named.returned, stepped.returned), (0, 0), "move and step at {from}, {lengths:?}");
         assert_eq!(stepped.answer, answer, "step at {from}, count {count}, {lengths:?}");

@@ -1,4 +1,4 @@
-//! P1 to P7 of document 01, and moves of P2's segments, with the bytes written out.
+//! P1 to P7 of document 01, and moves of P2's segments and their numbers, with the bytes written out.
 
 use srp_tests::interface::{Port, PORT_WORDS, STORE_BYTES};
 use srp_tests::port::plain::{login, OWN};
@@ -158,7 +158,6 @@ fn p7_one_indirect() {
 const TAG: u64 = 1;
 const OUT: u32 = 0;
 const IN: u32 = 1;
-const DONE_STEP: [u64; 8] = [0; 8];
 
 /// A port that has taken a command with P2's segments each way, M 512.
 struct Taken {
@@ -173,9 +172,13 @@ impl Taken {
         let Call::Login { msg, .. } = login(&mut Random::new(1), 1, 512, LONGEST, 0b110) else { unreachable!() };
         let mut buf = [0; 132];
         assert_eq!(taken.port().login(&[1, 512, LONGEST, 1, 1], &OWN, &msg, &mut buf), 0);
-        let msg = joined(&[&head(0x22, 3, 3, 0), &TABLE, &SEGMENTS, &TABLE, &SEGMENTS]);
-        assert_eq!(taken.port().take(&msg, [&[], &[]], &mut buf), 0);
+        taken.take();
         taken
+    }
+
+    fn take(&mut self) {
+        let msg = joined(&[&head(0x22, 3, 3, 0), &TABLE, &SEGMENTS, &TABLE, &SEGMENTS]);
+        assert_eq!(self.port().take(&msg, [&[], &[]], &mut [0; 132]), 0);
     }
 
     fn port(&mut self) -> Port<'_> {
@@ -206,12 +209,16 @@ impl Taken {
     }
 }
 
-fn read(address: u64, length: u64, offset: u64) -> [u64; 8] {
-    [1, 1, 7, address, length, offset, 0, 0]
+fn read(address: u64, length: u64, offset: u64, number: u64) -> [u64; 8] {
+    [1, 1, 7, address, length, offset, number, 0]
 }
 
-fn write(address: u64, length: u64, offset: u64) -> [u64; 8] {
-    [1, 2, 7, address, length, offset, 0, 0]
+fn write(address: u64, length: u64, offset: u64, number: u64) -> [u64; 8] {
+    [1, 2, 7, address, length, offset, number, 0]
+}
+
+fn done(number: u64) -> [u64; 8] {
+    [0, 0, 0, 0, 0, 0, number, 0]
 }
 
 /// P3 out and P4 in, one move each way, offset 0, count R.
@@ -220,14 +227,13 @@ fn p3_and_p4_residuals() {
     let mut taken = Taken::new();
     assert_eq!(taken.port().plan(TAG, 650, 800), 0);
     assert_eq!((taken.name(OUT, 0, 650), taken.name(IN, 0, 800)), (0, 0));
-    for pieces in [[read(0x3000, 512, 0), write(0x3000, 512, 0)], [read(0x3200, 88, 512), write(0x3200, 88, 512)]] {
-        assert_eq!([taken.step(OUT), taken.step(IN)], pieces);
-    }
-    assert_eq!([taken.step(OUT), taken.step(IN)], [read(0x5000, 50, 600), write(0x5000, 100, 600)]);
-    assert_eq!([taken.step(OUT), taken.step(IN)], [DONE_STEP; 2]);
+    assert_eq!([taken.step(OUT), taken.step(IN)], [read(0x3000, 512, 0, 1), write(0x3000, 512, 0, 1)]);
+    assert_eq!([taken.step(OUT), taken.step(IN)], [read(0x3200, 88, 512, 2), write(0x3200, 88, 512, 2)]);
+    assert_eq!([taken.step(OUT), taken.step(IN)], [read(0x5000, 50, 600, 3), write(0x5000, 100, 600, 3)]);
+    assert_eq!([taken.step(OUT), taken.step(IN)], [done(3); 2]);
     assert_eq!([taken.name(OUT, 650, 50), taken.name(OUT, 651, 0)], [0, 31], "R is below B");
     assert_eq!([taken.name(IN, 700, 100), taken.name(IN, 701, 0)], [0, 31], "B is below R");
-    assert_eq!([taken.step(OUT), taken.step(IN)], [DONE_STEP; 2]);
+    assert_eq!([taken.step(OUT), taken.step(IN)], [done(0); 2]);
     assert_eq!(taken.finish(), (0b01_1000, [0, 0, 0, 50, 0, 0, 0, 100]), "DOUNDER by 50, DIOVER by 100");
 }
 
@@ -237,16 +243,40 @@ fn the_middle_first() {
     let mut taken = Taken::new();
     assert_eq!(taken.name(OUT, 0, 1), 29, "not planned");
     assert_eq!(taken.port().plan(TAG, 700, 700), 0);
-    assert_eq!(taken.step(OUT), DONE_STEP, "plan alone starts no move");
+    assert_eq!(taken.step(OUT), done(0), "plan alone starts no move");
     assert_eq!((taken.name(OUT, 701, 0), taken.name(OUT, 50, 600)), (31, 0));
-    assert_eq!(taken.step(OUT), read(0x3032, 512, 50));
+    assert_eq!(taken.step(OUT), read(0x3032, 512, 50, 1));
     assert_eq!((taken.name(OUT, 0, 50), taken.name(OUT, 701, 0)), (32, 31), "38 and 50 bytes are left");
-    assert_eq!((taken.name(IN, 600, 0), taken.step(IN)), (0, DONE_STEP), "the other direction has a move of its own");
-    assert_eq!([taken.step(OUT), taken.step(OUT)], [read(0x3232, 38, 562), read(0x5000, 50, 600)]);
-    assert_eq!((taken.step(OUT), taken.listed()), (DONE_STEP, [650, 0]));
-    assert_eq!((taken.name(OUT, 0, 50), taken.step(OUT), taken.step(OUT)), (0, read(0x3000, 50, 0), DONE_STEP));
+    assert_eq!((taken.name(IN, 600, 0), taken.step(IN)), (0, done(0)), "the other direction has a move of its own");
+    assert_eq!([taken.step(OUT), taken.step(OUT)], [read(0x3232, 38, 562, 2), read(0x5000, 50, 600, 3)]);
+    assert_eq!((taken.step(OUT), taken.listed()), (done(3), [650, 0]));
+    assert_eq!((taken.name(OUT, 0, 50), taken.step(OUT), taken.step(OUT)), (0, read(0x3000, 50, 0, 1), done(1)));
     assert_eq!(taken.listed(), [650, 0], "h does not fall");
-    assert_eq!((taken.name(IN, 699, u32::MAX), taken.step(IN)), (0, write(0x5063, 1, 699)), "no sum wraps");
-    assert_eq!((taken.name(IN, 700, 1), taken.step(IN), taken.listed()), (0, DONE_STEP, [650, 700]));
+    assert_eq!((taken.name(IN, 699, u32::MAX), taken.step(IN)), (0, write(0x5063, 1, 699, 1)), "no sum wraps");
+    assert_eq!((taken.name(IN, 700, 1), taken.step(IN), taken.listed()), (0, done(0), [650, 700]));
     assert_eq!(taken.finish(), (0b00_1000, [0, 0, 0, 50, 0, 0, 0, 0]), "DOUNDER by 50, data-in none: h is B");
+}
+
+/// The number goes with the current move of its own direction, and no refusal changes it.
+#[test]
+fn the_number_handed_out() {
+    let mut taken = Taken::new();
+    for _ in 0..2 {
+        assert_eq!((taken.port().step(TAG, OUT), taken.answer), (29, [0; 8]));
+        assert_eq!(taken.port().plan(TAG, 700, 700), 0);
+        assert_eq!([taken.step(OUT), taken.step(IN)], [done(0); 2], "before any move");
+        assert_eq!(taken.name(OUT, 0, 700), 0);
+        assert_eq!([taken.step(OUT), taken.step(OUT)], [read(0x3000, 512, 0, 1), read(0x3200, 88, 512, 2)]);
+        assert_eq!([taken.name(OUT, 0, 700), taken.name(OUT, 701, 0), taken.port().plan(TAG, 0, 0)], [32, 31, 30]);
+        assert_eq!((taken.name(IN, 650, 50), taken.step(IN), taken.step(IN)), (0, write(0x5032, 50, 650, 1), done(1)));
+        assert_eq!((taken.port().step(TAG + 1, OUT), taken.answer), (24, [0; 8]));
+        assert_eq!([taken.step(OUT), taken.step(OUT), taken.step(OUT)], [read(0x5000, 100, 600, 3), done(3), done(3)]);
+        assert_eq!((taken.name(OUT, 701, 0), taken.step(OUT)), (31, done(3)), "refused");
+        assert_eq!((taken.name(OUT, 599, 2), taken.step(IN)), (0, done(1)), "of the other direction");
+        assert_eq!([taken.step(OUT), taken.step(OUT)], [read(0x3257, 1, 599, 1), read(0x5000, 1, 600, 2)]);
+        assert_eq!((taken.step(OUT), taken.name(OUT, 9, 0), taken.step(OUT)), (done(2), 0, done(0)), "an empty move");
+        assert_eq!([taken.step(OUT), taken.step(IN)], [done(0), done(1)]);
+        taken.finish();
+        taken.take(); // the tag once more
+    }
 }

@@ -76,17 +76,19 @@ fn the_longest_buffers() {
     // The move's end would be 2^33 - 3; behind its one byte only an empty one begins.
     assert_eq!(name(&mut both, 1, 0, u32::MAX - 1, u32::MAX), 0);
     assert_eq!(step(&mut both, 1, 0).answer[4..6], [1, u64::from(u32::MAX - 1)], "the last byte");
-    assert_eq!(step(&mut both, 1, 0).answer, [0; 8], "done");
+    assert_eq!(step(&mut both, 1, 0).answer, [0, 0, 0, 0, 0, 0, 1, 0], "done, after one operation");
     assert_eq!([u32::MAX, 0].map(|count| name(&mut both, 1, 0, u32::MAX, count)), [0, 0]);
     assert_eq!(name(&mut both, 1, 1, u32::MAX, 0), 31, "one above min(R, B)");
     for direction in [0, 1] {
         assert_eq!(name(&mut both, 1, direction, 0, u32::MAX), 0);
-        let mut moved = 0;
-        while let [1, _, _, _, length, offset, ..] = step(&mut both, 1, direction).answer {
-            assert_eq!(offset, moved, "in order");
+        let (mut moved, mut number) = (0, 0);
+        while let [1, _, _, _, length, offset, counted, _] = step(&mut both, 1, direction).answer {
+            number += 1;
+            assert_eq!((offset, counted), (moved, number), "in order");
             moved += length;
         }
-        assert_eq!(moved, u64::from(u32::MAX - direction), "all of it");
+        assert_eq!((moved, number), (u64::from(u32::MAX - direction), 4096), "all of it");
+        assert_eq!(step(&mut both, 1, direction).answer[6], 4096, "done again");
     }
     let response = both.call(&finish(1));
     assert_eq!(response.buf[18..28], [0b10_0000, 0, 0, 0, 0, 0, 0, 0, 0, 1], "DIUNDER by 1");

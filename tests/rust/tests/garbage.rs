@@ -1,8 +1,13 @@
 //! Words that no login made.
 
+use std::collections::BTreeSet;
+
+use srp_tests::interface::PORT_WORDS;
+use srp_tests::model::MemoryDescriptor;
 use srp_tests::port::garbage::{Garbage, InMemory};
-use srp_tests::port::generate::Generator;
-use srp_tests::port::{kinds, library::Library, Target};
+use srp_tests::port::generate::{command, Data, Generator};
+use srp_tests::port::plain::{fetched, login, take};
+use srp_tests::port::{kinds, library::Library, Call, Target};
 use srp_tests::random::Random;
 
 #[test]
@@ -28,5 +33,57 @@ fn login_uses_no_earlier_port() {
         let login = generator.login();
         assert_eq!(one.call(&login), other.call(&login));
         assert_eq!(one.memory().words, other.memory().words, "{login:02x?}");
+    }
+}
+
+const TAG: u64 = 0x7777;
+const STEP: Call = Call::Step { tag: TAG, direction: 1 };
+
+/// A port that has handed out three operations of 100 bytes of a move of 5,000 from offset 0 on.
+fn three_handed_out() -> Library {
+    let (mut port, mut random) = (Library::new(23), Random::new(23));
+    port.call(&login(&mut random, 4, 100, 1364, 0b110));
+    let data = fetched(&[MemoryDescriptor { address: 0x1000, handle: 7, length: 5_000 }]);
+    let msg = command(&mut random, TAG, 0, 0, &[Data::none(), data.clone()]);
+    assert_eq!(port.call(&take(&msg, [&[], &data.table])).returned, 0, "taken");
+    assert_eq!(port.call(&Call::Plan { tag: TAG, r_out: 0, r_in: 5_000 }).returned, 0, "planned");
+    assert_eq!(port.call(&Call::Move { tag: TAG, direction: 1, offset: 0, count: 5_000 }).returned, 0, "named");
+    let numbers = [0; 3].map(|_| port.call(&STEP).answer[6]);
+    assert_eq!(numbers, [1, 2, 3]);
+    port
+}
+
+/// Each word of a port in turn holds another number. The count of operations stands in one of them, and is read as the
+/// smaller of that word and of the next byte's offset.
+#[test]
+fn the_number_in_altered_words() {
+    const NUMBERS: [u64; 9] = [0, 1, 2, 4, 299, 300, 301, 1 << 32, u64::MAX];
+    let mut port = three_handed_out();
+    let before = port.memory.clone();
+    let (mut pieces, mut done, mut counts) = (0, 0, BTreeSet::new());
+    for (at, word) in (0..PORT_WORDS).flat_map(|at| NUMBERS.map(|word| (at, word))) {
+        port.memory.clone_from(&before);
+        port.memory.words[at] = word;
+        let stepped = port.call(&STEP);
+        let [piece, _, _, _, _, offset, number, _] = stepped.answer;
+        match (stepped.returned, piece) {
+            (0, 1) if number == offset.min(3) + 1 => pieces += 1,
+            (0, 1) => {
+                assert_eq!((offset, number), (300, word.min(300) + 1), "word {at} holds {word}");
+                counts.insert(at);
+            }
+            (0, _) => {
+                assert_eq!(number, 3, "done, word {at} holds {word}");
+                done += 1;
+            }
+            _ => assert!([21, 24, 29].contains(&stepped.returned), "{stepped:x?}"),
+        }
+    }
+    println!("altered words: {pieces} pieces, {done} done");
+    assert!(counts.len() == 1 && pieces > 8 * 500 && done > 10, "words {counts:?}, {pieces} pieces, {done} done");
+    for (at, word) in counts.into_iter().flat_map(|at| NUMBERS.map(|word| (at, word))) {
+        port.memory.clone_from(&before);
+        port.memory.words[at] = word;
+        assert_eq!(port.call(&STEP).answer[5..7], [300, word.min(300) + 1], "the count's word holds {word}");
     }
 }

@@ -3,16 +3,21 @@
 use srp_tests::port::{library::Library, machine::Machine};
 use srp_tests::position;
 
-const STATES: [&str; 12] = [
+const STATES: [&str; 17] = [
     "16 commands open",
     "SRP_CRED_REQ lifts 1",
     "SRP_CRED_REQ lifts more",
     "SRP_RSP lifts 0",
     "SRP_RSP lifts 1",
     "SRP_RSP lifts more",
+    "done after none",
+    "done after one",
+    "done after several",
     "ended with pieces left",
     "h above the bytes handed out",
     "h below the bytes handed out",
+    "move after operations",
+    "move after operations, refused",
     "owed 0",
     "owed above 0",
     "owed below 0",

@@ -1,6 +1,6 @@
 //! Moves on a port, judged byte by byte by the words of documents 01 and 02 and not by the model: the pieces of a move
-//! cover its bytes from its offset to the smaller of offset + count and min(R, B), cut from there as document 01 cuts;
-//! the listing and the residual take the highest offset handed out + 1.
+//! cover its bytes from its offset to the smaller of offset + count and min(R, B), cut from there as document 01 cuts,
+//! and are numbered from 1 on; the listing and the residual take the highest offset handed out + 1.
 
 use srp_tests::judge::{bytes_of, judge, Byte, ENDS};
 use srp_tests::model::MemoryDescriptor;
@@ -21,6 +21,8 @@ struct Command {
     r: usize,
     /// The highest offset handed out + 1.
     h: usize,
+    /// Operations since the current move was named.
+    number: u64,
 }
 
 /// Up to 32 segments, some without a byte.
@@ -45,7 +47,7 @@ impl Command {
         let mut required = [random.any_size(), random.any_size()];
         required[direction] = r as u32;
         assert_eq!(port.call(&Call::Plan { tag: TAG, r_out: required[0], r_in: required[1] }).returned, 0, "planned");
-        Command { port, direction: direction as u32, m, bytes, r, h: 0 }
+        Command { port, direction: direction as u32, m, bytes, r, h: 0, number: 0 }
     }
 
     /// min(R, B).
@@ -55,20 +57,26 @@ impl Command {
 
     fn name(&mut self, offset: usize, count: u32) -> u32 {
         let (direction, offset) = (self.direction, offset as u32);
-        self.port.call(&Call::Move { tag: TAG, direction, offset, count }).returned
+        let returned = self.port.call(&Call::Move { tag: TAG, direction, offset, count }).returned;
+        if returned == 0 {
+            self.number = 0;
+        }
+        returned
     }
 
-    /// The next piece and its offset, None for done.
+    /// The next piece and its offset, None for done; both with the number of operations.
     fn step(&mut self) -> Option<(MemoryDescriptor, u32)> {
         let outcome = self.port.call(&Call::Step { tag: TAG, direction: self.direction });
         assert_eq!(outcome.returned, 0, "step");
         match outcome.answer {
-            [1, _, handle, address, length, offset, 0, 0] => {
+            [1, _, handle, address, length, offset, number, 0] => {
                 self.h = self.h.max((offset + length) as usize);
+                self.number += 1;
+                assert_eq!(number, self.number, "their own piece included");
                 Some((MemoryDescriptor { address, handle: handle as u32, length: length as u32 }, offset as u32))
             }
             answer => {
-                assert_eq!(answer, [0; 8], "done");
+                assert_eq!(answer, [0, 0, 0, 0, 0, 0, self.number, 0], "done");
                 None
             }
         }

@@ -59,6 +59,8 @@ pub struct Transfer {
     pub required: u32,
     /// What is left of the current move, as offsets in the buffer; empty where none was named.
     pub current: Range<u64>,
+    /// "The number handed out so far for the current move": operations; "0 before any move".
+    pub number: u64,
     /// h: "the highest offset handed out + 1, 0 where nothing was".
     pub reached: u64,
 }
@@ -100,7 +102,7 @@ impl Channel {
 
 impl Transfer {
     pub fn new(segments: Vec<u8>) -> Self {
-        Transfer { segments, required: 0, current: 0..0, reached: 0 }
+        Transfer { segments, required: 0, current: 0..0, number: 0, reached: 0 }
     }
 
     /// B.

@@ -63,6 +63,7 @@ impl Port {
         }
         // "A move is trimmed at min(R, B)."
         transfer.current = start..due.min(start + u64::from(count));
+        transfer.number = 0;
         0
     }
 
@@ -81,13 +82,16 @@ impl Port {
     }
 }
 
-/// "An operation is kind, handle, address, length, offset in the buffer."
+/// "An operation is kind, handle, address, length, offset in the buffer." "Step's answers carry the number handed out so
+/// far for the current move, their own piece included": done's too.
 fn hand_out(transfer: &mut Transfer, operation: u64, m: u32, answer: &mut Answer) {
     let current = &mut transfer.current;
     if let Some(piece) = next_piece(&transfer.segments, u64::from(m), current.start, current.end) {
         let (memory, offset) = (piece.memory, u64::from(piece.offset));
         current.start += u64::from(memory.length);
         transfer.reached = transfer.reached.max(current.start);
+        transfer.number += 1;
         *answer = [1, operation, u64::from(memory.handle), memory.address, u64::from(memory.length), offset, 0, 0];
     }
+    answer[6] = transfer.number;
 }

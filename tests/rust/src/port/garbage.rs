@@ -56,6 +56,7 @@ impl<T: InMemory> Garbage<T> {
             let outcome = self.target.call(&call);
             self.assert_lawful(&call, &outcome);
             self.tally.add(kinds::outcome(&call, &outcome));
+            self.assert_counted(&call, &outcome);
             let open = self.assert_ranges();
             if matches!(call, Call::Login { .. }) || !open && self.random.one_in(3) {
                 return;
@@ -112,9 +113,22 @@ impl<T: InMemory> Garbage<T> {
             };
             assert_eq!(outcome.answer[0], length, "{call:02x?}\n{outcome:02x?}");
         }
-        if let (Call::Step { direction, .. }, [1, operation, _, _, length, ..]) = (call, outcome.answer) {
+        if let (Call::Step { direction, .. }, [1, operation, _, _, length, offset, number, _]) = (call, outcome.answer) {
             assert_eq!(operation, if *direction == 0 { 1 } else { 2 }, "RDMA Read or Write");
             assert!((1..=1_048_576).contains(&length), "a piece of {length} bytes");
+            // Each operation before it had a byte below its offset.
+            assert!((1..=offset + 1).contains(&number), "{number} operations up to a piece at {offset}");
+        }
+    }
+
+    /// A step that is not refused, made once more: its number goes on from the first one's.
+    fn assert_counted(&mut self, call: &Call, first: &Outcome) {
+        if let (Call::Step { .. }, 0) = (call, first.returned) {
+            let second = self.target.call(call);
+            self.assert_lawful(call, &second);
+            assert_eq!(second.returned, 0, "{call:x?}");
+            assert_eq!(second.answer[6], first.answer[6] + second.answer[0], "{call:x?}\n{first:x?}\n{second:x?}");
+            assert!(first.answer[0] == 1 || second.answer[0] == 0, "a piece after done");
         }
     }
 

@@ -1,8 +1,9 @@
 //! The two-ended machine of document 01: an initiator with its limit, two queues, and a port with its owner. It "is fed
 //! the events' arguments, the calls' refusals and the messages written; of the port's state it is given D alone, as
-//! owed". Its own counts say what each message lifts, which operations are handed out, and which call is refused for
-//! what went before; what is in a command it reads with the model (`expected`). All of it is asserted of each event, as
-//! demand 3 has it, and so is the type of the message that is written. Each message sent is traced too (`lines`).
+//! owed". Its own counts say what each message lifts, which operations are handed out and how many of a move, and which
+//! call is refused for what went before; what is in a command it reads with the model (`expected`). All of it is
+//! asserted of each event, as demand 3 has it, and so is the type of the message that is written. Each message sent is
+//! traced too (`lines`).
 
 mod ends;
 mod expected;

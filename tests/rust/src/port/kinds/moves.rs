@@ -5,15 +5,17 @@ use crate::model::channel::{OpenCommand, Transfer};
 use crate::model::segments;
 use crate::position;
 
-/// Several a call: where a move begins and ends, why one is refused, how far a piece goes. `position` has where among
-/// the segments a move begins.
-pub const FEATURES: [&str; 22] = [
+/// Several a call: where a move begins and ends, why one is refused, how far a piece goes, what its number is.
+/// `position` has where among the segments a move begins.
+pub const FEATURES: [&str; 31] = [
     "move, across a segment's end",
+    "move, after several operations",
     "move, all of a direction",
     "move, at min(R, B)",
     "move, back to what was handed out",
     "move, both ways at once",
     "move, count 0",
+    "move, empty after several operations",
     "move, from inside a segment",
     "move, of some bytes",
     "move, offset + count above 2^32 - 1",
@@ -24,10 +26,17 @@ pub const FEATURES: [&str; 22] = [
     "refused 29, offset above 0",
     "refused 31, far above",
     "refused 31, one above min(R, B)",
+    "refused 31, operations handed out",
     "refused 31, pieces left",
     "refused 32, in",
+    "refused 32, operations handed out",
     "refused 32, out",
     "step, beyond h",
+    "step, done after no operation",
+    "step, done after one operation",
+    "step, done after several operations",
+    "step, several operations the other way",
+    "step, the first of its move",
     "step, up to h at most",
     "step, without a piece ever",
 ];
@@ -47,7 +56,7 @@ pub fn features(call: &Call, outcome: &Outcome, command: &OpenCommand) -> Vec<St
                 refusal => of_refusal(refusal, moved, direction == 0, start),
             }
         }
-        Call::Step { direction, .. } if outcome.returned == 0 => of_step(&outcome.answer, sides(direction)[0]),
+        Call::Step { direction, .. } if outcome.returned == 0 => of_step(&outcome.answer, sides(direction)),
         _ => Vec::new(),
     };
     kinds.into_iter().filter(|(fits, _)| *fits).map(|(_, kind)| kind.into()).collect()
@@ -61,11 +70,13 @@ fn of_move(moved: &Transfer, other: &Transfer, start: u64, stop: u64) -> Kinds {
     let some = start < end;
     let mut kinds = vec![
         (some && ends(moved).any(|at| start < at && at < end), "move, across a segment's end"),
+        (some && moved.number > 1, "move, after several operations"),
         (some && start == 0 && end == due, "move, all of a direction"),
         (due > 0 && start == due && stop > start, "move, at min(R, B)"),
         (some && start < h, "move, back to what was handed out"),
         (some && !other.current.is_empty(), "move, both ways at once"),
         (start < due && start == stop, "move, count 0"),
+        (!some && moved.number > 1, "move, empty after several operations"),
         (some && start > 0 && ends(moved).all(|at| at != start), "move, from inside a segment"),
         (some && end < due, "move, of some bytes"),
         (some && stop > u64::from(u32::MAX), "move, offset + count above 2^32 - 1"),
@@ -96,17 +107,24 @@ fn of_refusal(refusal: u32, moved: &Transfer, out: bool, start: u64) -> Kinds {
         (refusal == 29 && start > 0, "refused 29, offset above 0"),
         (refusal == 31 && start > moved.due() + 1, "refused 31, far above"),
         (refusal == 31 && start == moved.due() + 1, "refused 31, one above min(R, B)"),
+        (refusal == 31 && moved.number > 0, "refused 31, operations handed out"),
         (refusal == 31 && pieces_left, "refused 31, pieces left"),
         (refusal == 32 && !out, "refused 32, in"),
+        (refusal == 32 && moved.number > 0, "refused 32, operations handed out"),
         (refusal == 32 && out, "refused 32, out"),
     ]
 }
 
-fn of_step(answer: &[u64; 8], moved: &Transfer) -> Kinds {
-    let [piece, _, _, _, length, offset, ..] = *answer;
+fn of_step(answer: &[u64; 8], [moved, other]: [&Transfer; 2]) -> Kinds {
+    let [piece, _, _, _, length, offset, number, _] = *answer;
     let end = offset + length;
     vec![
         (piece == 1 && end > moved.reached, "step, beyond h"),
+        (piece == 0 && number == 0, "step, done after no operation"),
+        (piece == 0 && number == 1, "step, done after one operation"),
+        (piece == 0 && number > 1, "step, done after several operations"),
+        (piece == 1 && other.number > 1 && other.number != number, "step, several operations the other way"),
+        (piece == 1 && number == 1, "step, the first of its move"),
         (piece == 1 && end <= moved.reached, "step, up to h at most"),
         (piece == 0 && moved.due() > 0 && moved.reached == 0, "step, without a piece ever"),
     ]

@@ -142,9 +142,13 @@ impl<T: Target> Machine<T> {
         let call = Call::Move { tag, direction: direction as u32, offset, count };
         let outcome = self.counted(&call);
         assert_eq!(outcome.returned, self.ends.refusal_of_move(tag, direction, offset), "{call:x?}");
+        if pieces.number > 0 {
+            let refused = if outcome.returned == 0 { "" } else { ", refused" };
+            self.states.add(format!("move after operations{refused}"));
+        }
         if let (0, Some(place)) = (outcome.returned, place) {
             let pieces = &mut self.ends.open[place].pieces[direction];
-            pieces.name(offset, count);
+            pieces.name(offset, count, self.ends.login.m);
             if pieces.are_left() {
                 pieces.position(offset).for_each(|kind| self.states.add(kind));
             }
@@ -152,19 +156,27 @@ impl<T: Target> Machine<T> {
     }
 
     /// "A command's operations are now the cuts of its moves in the order named." "An unrefused step says done exactly
-    /// when all those of its command and direction were handed out before it."
+    /// when all those of its command and direction were handed out before it." Its number is what was handed out since
+    /// the move was named, "their own piece included".
     pub(super) fn step(&mut self) {
         let (tag, direction) = self.tag_and_direction(Pieces::are_left);
         let outcome = self.counted(&Call::Step { tag, direction: direction as u32 });
         assert_eq!(outcome.returned, self.ends.refusal_of_step(tag), "step");
         if let (0, Some(place)) = (outcome.returned, self.ends.place_of(tag)) {
-            let expected = match self.ends.open[place].pieces[direction].next(self.ends.login.m) {
+            let pieces = &mut self.ends.open[place].pieces[direction];
+            pieces.number += u64::from(outcome.answer[0] == 1);
+            let expected = match pieces.next(self.ends.login.m) {
                 Some([handle, address, length, offset]) => {
-                    [1, direction as u64 + 1, handle, address, length, offset, 0, 0]
+                    [1, direction as u64 + 1, handle, address, length, offset, pieces.number, 0]
                 }
-                None => [0; 8],
+                None => [0, 0, 0, 0, 0, 0, pieces.number, 0],
             };
             assert_eq!(outcome.answer, expected, "the operation, or done");
+            if outcome.answer[0] == 0 {
+                assert_eq!(outcome.answer[6], pieces.list, "\"the length of its cut list\"");
+                let many = ["none", "one", "several"][pieces.number.min(2) as usize];
+                self.states.add(format!("done after {many}"));
+            }
         }
     }
 

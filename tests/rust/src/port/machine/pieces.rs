@@ -21,6 +21,9 @@ pub struct Pieces {
     /// What is left of the current move, its last part first, and the offset in the buffer where that begins.
     left: Vec<Part>,
     at: u64,
+    /// The length of the current move's cut list, and how many operations were handed out since it was named.
+    pub list: u64,
+    pub number: u64,
     /// h: "the highest offset handed out + 1".
     pub highest: u64,
     /// Bytes handed out, once or again.
@@ -32,7 +35,7 @@ impl Pieces {
     pub fn new(segments: &[MemoryDescriptor]) -> Self {
         let numbers = |segment: &MemoryDescriptor| (segment.address, segment.handle.into(), segment.length.into());
         let segments = segments.iter().map(numbers).collect();
-        Pieces { segments, required: 0, due: 0, left: Vec::new(), at: 0, highest: 0, handed: 0 }
+        Pieces { segments, required: 0, due: 0, left: Vec::new(), at: 0, list: 0, number: 0, highest: 0, handed: 0 }
     }
 
     /// Whether the current move has pieces left.
@@ -92,8 +95,9 @@ impl Pieces {
         }
     }
 
-    /// Names a move that is not refused. "A move is trimmed at min(R, B)."
-    pub fn name(&mut self, offset: u32, count: u32) {
+    /// Names a move that is not refused. "A move is trimmed at min(R, B)." Its cut list has as many operations of each
+    /// segment's part as pieces of M bytes cover that.
+    pub fn name(&mut self, offset: u32, count: u32, m: u32) {
         self.at = offset.into();
         let (mut before, mut wanted) = (self.at, (self.due - self.at).min(count.into()));
         for &(address, handle, length) in &self.segments {
@@ -105,6 +109,8 @@ impl Pieces {
                 self.left.insert(0, (address + skipped, handle, part));
             }
         }
+        self.list = self.left.iter().map(|(_, _, part)| part.div_ceil(m.into())).sum();
+        self.number = 0;
     }
 
     /// The next of the operations that are cut from the current move: "segment by segment, zero-length segments
