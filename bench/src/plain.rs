@@ -114,8 +114,9 @@ pub unsafe extern "C" fn plain_step<S: Search>(
     let operation = if direction == 0 { 1 } else { 2 };
     let outcome = port.step::<S>(tag, direction_of(direction));
     let words = match &outcome {
-        Ok(Some(p)) => [1, operation, p.handle.into(), p.address, p.length.into(), p.offset.into()],
-        _ => [0; 6],
+        Ok((Some(p), n)) => [1, operation, p.handle.into(), p.address, p.length.into(), p.offset.into(), (*n).into()],
+        Ok((None, n)) => [0, 0, 0, 0, 0, 0, (*n).into()],
+        Err(_) => [0; 7],
     };
     unsafe { put(answer, words) };
     number(outcome)

@@ -90,8 +90,8 @@ impl Port {
         command.transfers[direction as usize].name_move(list, offset, count)
     }
 
-    /// The next piece of a direction's current move, or None: done.
-    pub fn step<S: Search>(&mut self, tag: u64, direction: Direction) -> Result<Option<Piece>, Refusal> {
+    /// The next piece of a direction's current move, or None: done; and the operations handed out for it.
+    pub fn step<S: Search>(&mut self, tag: u64, direction: Direction) -> Result<(Option<Piece>, u32), Refusal> {
         let channel = self.channel.as_mut().ok_or(Refusal::Closed)?;
         let slot = channel.slot(tag)?;
         let command = channel.commands[slot].as_mut().ok_or(Refusal::TagNotOpen)?;
@@ -99,7 +99,9 @@ impl Port {
             return Err(Refusal::Unplanned);
         }
         let list = &self.lists[slot][direction as usize];
-        Ok(command.transfers[direction as usize].next_piece::<S>(list, channel.max_piece))
+        let transfer = &mut command.transfers[direction as usize];
+        let piece = transfer.next_piece::<S>(list, channel.max_piece);
+        Ok((piece, transfer.number()))
     }
 
     /// Answers a command and ends it; gives the length of the SRP_RSP.

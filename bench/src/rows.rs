@@ -59,6 +59,10 @@ fn run_moves(side: &'static Side) {
     port::rows::run_job_1(&mut closed_port(side), side.name);
 }
 
+fn run_numbers(side: &'static Side) {
+    port::rows::run_job_4(&mut closed_port(side), side.name);
+}
+
 fn run_cut(side: &'static Side) {
     // SAFETY: as above.
     rows::run_cut(side.name, |call, buf| unsafe {
@@ -74,6 +78,11 @@ fn port_rows() {
 #[test]
 fn move_rows() {
     run_moves(&PLAIN);
+}
+
+#[test]
+fn number_rows() {
+    run_numbers(&PLAIN);
 }
 
 #[test]
@@ -105,6 +114,11 @@ fn port_rows_by_the_yardstick() {
 #[test]
 fn move_rows_by_the_yardstick() {
     run_moves(&YARDSTICK);
+}
+
+#[test]
+fn number_rows_by_the_yardstick() {
+    run_numbers(&YARDSTICK);
 }
 
 #[test]

@@ -38,9 +38,10 @@ pub struct Transfer {
     pub required: u32,
     /// The highest offset handed out + 1, h.
     pub reached: u32,
-    /// What is left of the current move.
+    /// What is left of the current move, and the operations handed out for it.
     at: u32,
     end: u32,
+    number: u32,
     /// The segment at hand, and the place in it of the next byte.
     segment: usize,
     within: u32,
@@ -97,7 +98,7 @@ impl Transfer {
         if total.is_some_and(|total| total != length) {
             return None;
         }
-        Some(Transfer { length, required: 0, reached: 0, at: 0, end: 0, segment: 0, within: 0 })
+        Some(Transfer { length, required: 0, reached: 0, at: 0, end: 0, number: 0, segment: 0, within: 0 })
     }
 
     /// Begins a move of `count` bytes from `offset` on, trimmed at min(R, B).
@@ -111,6 +112,7 @@ impl Transfer {
         }
         self.at = offset;
         self.end = offset.saturating_add(count).min(due);
+        self.number = 0;
         (self.segment, self.within) = list.place(offset);
         Ok(())
     }
@@ -135,8 +137,14 @@ impl Transfer {
         let piece = Piece { handle: segment.handle, address, length, offset: self.at };
         self.within += length;
         self.at += length;
+        self.number += 1;
         self.reached = self.reached.max(self.at);
         Some(piece)
+    }
+
+    /// The operations handed out so far for the current move.
+    pub fn number(&self) -> u32 {
+        self.number
     }
 
     pub fn residual(&self) -> Residual {
@@ -187,17 +195,18 @@ mod tests {
         let (list, mut transfer) = transfer(&[0, 600, 0, 100], 650);
         assert_eq!(transfer.name_move(&list, 0, 1), Err(Refusal::Unfinished));
         while transfer.next_piece::<Plain>(&list, 512).is_some() {}
-        assert_eq!(transfer.name_move(&list, 651, 0), Err(Refusal::Offset));
+        assert_eq!((transfer.name_move(&list, 651, 0), transfer.number()), (Err(Refusal::Offset), 3));
         for (offset, count, expected) in [
             (599, u32::MAX, vec![(8192 + 599, 1, 599), (16384, 50, 600)]),
             (50, 513, vec![(8192 + 50, 512, 50), (8192 + 562, 1, 562)]),
             (600, 1, vec![(16384, 1, 600)]),
             (650, 9, vec![]),
         ] {
-            assert_eq!(transfer.name_move(&list, offset, count), Ok(()));
+            assert_eq!((transfer.name_move(&list, offset, count), transfer.number()), (Ok(()), 0));
             let pieces = std::iter::from_fn(|| transfer.next_piece::<Plain>(&list, 512));
             let pieces: Vec<_> = pieces.map(|piece| (piece.address, piece.length, piece.offset)).collect();
             assert_eq!(pieces, expected, "{count} bytes from {offset} on");
+            assert_eq!(transfer.number(), expected.len() as u32, "{count} bytes from {offset} on");
         }
         assert_eq!((transfer.reached, transfer.residual()), (650, Residual::Under(50)));
     }

@@ -44,6 +44,7 @@ impl Answer {
 pub const BASE: &str = "base.rows";
 pub const JOB_1: &str = "job1.rows";
 pub const JOB_2: &str = "job2.rows";
+pub const JOB_4: &str = "job4.rows";
 
 /// Runs the rows of look.
 pub fn run_look(through: &str, look: impl Fn(&Look, &mut [u8]) -> u32) {
@@ -57,13 +58,15 @@ pub fn run_look(through: &str, look: impl Fn(&Look, &mut [u8]) -> u32) {
     });
 }
 
-/// Runs the rows of the cut, of both files.
+/// Runs the rows of the cut, of all files that have some.
 pub fn run_cut(through: &str, cut: impl Fn(&Cut, &mut [u8]) -> u32) {
     run(BASE, &[("cut", 267)], through, |words| cut_row(words, &cut));
-    run(JOB_1, &[("cut", 480)], through, |words| {
-        let row = job::in_base_words(words);
-        cut_row(&row.split(' ').collect::<Vec<&str>>(), &cut)
-    });
+    for (file, count) in [(JOB_1, 480), (JOB_4, 237)] {
+        run(file, &[("cut", count)], through, |words| {
+            let row = job::in_base_words(words);
+            cut_row(&row.split(' ').collect::<Vec<&str>>(), &cut)
+        });
+    }
 }
 
 fn cut_row(words: &[&str], cut: impl Fn(&Cut, &mut [u8]) -> u32) -> Result<(), String> {
@@ -75,16 +78,20 @@ fn cut_row(words: &[&str], cut: impl Fn(&Cut, &mut [u8]) -> u32) -> Result<(), S
     judge(lent, fill, answer, |buf| cut(&call, buf))
 }
 
-/// Runs the rows of the trace, which are all of job2.rows.
+/// Runs the rows of the trace, which are all of job2.rows and some of job4.rows.
 pub fn run_trace(through: &str, trace: impl Fn(&Trace, &mut [u8]) -> u32) {
-    run(JOB_2, &[("trace", 3000)], through, |words| {
-        let ["trace", way, msg, lent, fill, "=", answer @ ..] = words else {
-            panic!("not a trace row: {words:?}");
-        };
-        let lent = number(lent) as usize;
-        let call = Trace { msg: bytes(msg), direction: direction(way), lent };
-        judge(lent, fill, answer, |buf| trace(&call, buf))
-    });
+    for (file, count) in [(JOB_2, 3000), (JOB_4, 243)] {
+        run(file, &[("trace", count)], through, |words| trace_row(words, &trace));
+    }
+}
+
+fn trace_row(words: &[&str], trace: impl Fn(&Trace, &mut [u8]) -> u32) -> Result<(), String> {
+    let ["trace", way, msg, lent, fill, "=", answer @ ..] = words else {
+        panic!("not a trace row: {words:?}");
+    };
+    let lent = number(lent) as usize;
+    let call = Trace { msg: bytes(msg), direction: direction(way), lent };
+    judge(lent, fill, answer, |buf| trace(&call, buf))
 }
 
 /// Towards the port, or from it.

@@ -28,3 +28,8 @@ fn port_rows() {
 fn move_rows() {
     port::rows::run_job_1(&mut Library::new(1), "the C interface");
 }
+
+#[test]
+fn number_rows() {
+    port::rows::run_job_4(&mut Library::new(1), "the C interface");
+}

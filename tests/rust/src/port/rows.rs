@@ -37,11 +37,28 @@ const JOB_1: [(&str, usize); 13] = [
     ("counters", 1383),
 ];
 
+/// Those of job4.rows.
+const JOB_4: [(&str, usize); 13] = [
+    ("session", 160),
+    ("login", 182),
+    ("take", 912),
+    ("plan", 459),
+    ("move", 438),
+    ("step", 276),
+    ("finish", 289),
+    ("add", 358),
+    ("withdraw", 292),
+    ("grant", 682),
+    ("close", 32),
+    ("list", 1119),
+    ("counters", 1372),
+];
+
 /// Runs the rows of base.rows in their order. "There is one current port. `login` replaces it, whatever its answer."
 /// They know no moves: after each plan that is not refused each direction gets one, offset 0, count R.
 pub fn run_base(target: &mut impl Target, through: &str) {
     rows::run(rows::BASE, &BASE, through, |words| {
-        let (call, returned) = judge(target, words)?;
+        let (call, returned) = judge(target, words, 0)?;
         if let (Call::Plan { tag, r_out, r_in }, 0) = (call, returned) {
             for (direction, count) in [(0, r_out), (1, r_in)] {
                 let named = target.call(&Call::Move { tag, direction, offset: 0, count });
@@ -52,14 +69,23 @@ pub fn run_base(target: &mut impl Target, through: &str) {
     });
 }
 
-/// Runs the rows of job1.rows in their order. A session begins with a closed port.
 pub fn run_job_1(target: &mut impl Target, through: &str) {
-    rows::run(rows::JOB_1, &JOB_1, through, |words| {
+    run_job(rows::JOB_1, &JOB_1, 1, target, through);
+}
+
+pub fn run_job_4(target: &mut impl Target, through: &str) {
+    run_job(rows::JOB_4, &JOB_4, 4, target, through);
+}
+
+/// Runs the rows of a job's file in their order. A session begins with a closed port.
+fn run_job(file: &str, kinds: &[(&str, usize)], level: u32, target: &mut impl Target, through: &str) {
+    rows::run(file, kinds, through, |words| {
         if words[0] == "session" {
+            assert_eq!(number(words[1]), level, "the level of {file}");
             return close(target);
         }
         let row = job::in_base_words(words);
-        judge(target, &row.split(' ').collect::<Vec<&str>>()).map(|_| ())
+        judge(target, &row.split(' ').collect::<Vec<&str>>(), level).map(|_| ())
     });
 }
 
@@ -72,12 +98,16 @@ fn close(target: &mut impl Target) -> Result<(), String> {
     }
 }
 
-/// Makes a row's call and compares; the call, and what it returned.
-fn judge(target: &mut impl Target, words: &[&str]) -> Result<(Call, u32), String> {
+/// Makes a row's call and compares; the call, and what it returned. The number of a step "is 0 and says nothing below
+/// level 4".
+fn judge(target: &mut impl Target, words: &[&str], level: u32) -> Result<(Call, u32), String> {
     let equals = words.iter().position(|&word| word == "=").expect("an answer");
     let (call, answer) = (read_call(&words[..equals]), &words[equals + 1..]);
     let expected = read_outcome(&call, answer);
-    let outcome = target.call(&call).in_order();
+    let mut outcome = target.call(&call).in_order();
+    if level < 4 && matches!(call, Call::Step { .. }) {
+        outcome.answer[6] = 0;
+    }
     if outcome != expected {
         return Err(format!("{call:02x?}\nexpected {expected:02x?}\n     got {outcome:02x?}"));
     }
@@ -183,13 +213,15 @@ fn signed(word: &str) -> i64 {
     word.parse().expect("a decimal number")
 }
 
+/// base.rows has no number; it is read as 0.
 fn step_answer(words: &[&str]) -> Answer {
+    let said = |number: &[&str]| number.first().map_or(0, |number| long(number));
     match words {
-        ["piece", kind @ ("R" | "W"), handle, address, length, offset] => {
+        ["piece", kind @ ("R" | "W"), handle, address, length, offset, number @ ..] if number.len() < 2 => {
             let operation = if *kind == "R" { 1 } else { 2 };
-            [1, operation, long(handle), long(address), long(length), long(offset), 0, 0]
+            [1, operation, long(handle), long(address), long(length), long(offset), said(number), 0]
         }
-        ["done"] => [0; 8],
+        ["done", number @ ..] if number.len() < 2 => [0, 0, 0, 0, 0, 0, said(number), 0],
         _ => panic!("not an answer of step: {words:?}"),
     }
 }
@@ -206,5 +238,10 @@ mod tests {
     #[test]
     fn move_rows() {
         super::run_job_1(&mut model::Port::default(), "the model");
+    }
+
+    #[test]
+    fn number_rows() {
+        super::run_job_4(&mut model::Port::default(), "the model");
     }
 }
