@@ -8,9 +8,9 @@ use crate::tally::Tally;
 /// One byte of a buffer: the segment that has it, its handle and its address.
 #[derive(Clone, Copy, Debug, PartialEq)]
 pub struct Byte {
-    segment: usize,
-    handle: u32,
-    address: u64,
+    pub segment: usize,
+    pub handle: u32,
+    pub address: u64,
 }
 
 /// A buffer, byte after byte, segment by segment.

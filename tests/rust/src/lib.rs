@@ -1,8 +1,8 @@
 //! The C interface of the SRP target port, called from Rust (`interface`), and what its tests need: the port, look and
 //! the cut written anew from documents 01 and 02, and the trace page (`model`), calls on a port and what is checked of
 //! each (`port`), generated arguments of look, the cut and the trace (`generate`), pieces judged byte by byte (`judge`),
-//! the piece at an offset (`search`), where in its buffer that stands (`position`), a line's columns (`line`), and the
-//! rows of tests/rows (`rows`).
+//! every list of operations for some bytes (`rivals`), the piece at an offset (`search`), where in its buffer that
+//! stands (`position`), a line's columns (`line`), and the rows of tests/rows (`rows`).
 
 pub mod calls;
 pub mod generate;
@@ -14,6 +14,7 @@ pub mod model;
 pub mod port;
 pub mod position;
 pub mod random;
+pub mod rivals;
 pub mod rows;
 pub mod search;
 pub mod tally;

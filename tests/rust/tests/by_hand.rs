@@ -1,9 +1,7 @@
 //! P1 to P7 of document 01, and moves of P2's segments and their numbers, with the bytes written out.
 
-use srp_tests::interface::{Port, PORT_WORDS, STORE_BYTES};
-use srp_tests::port::plain::{login, OWN};
-use srp_tests::port::Call;
-use srp_tests::random::Random;
+use srp_tests::interface::Port;
+use srp_tests::port::plain::Plain;
 
 const LONGEST: u32 = 1364;
 const BOTH_FORMATS: u32 = 0b110;
@@ -160,18 +158,11 @@ const OUT: u32 = 0;
 const IN: u32 = 1;
 
 /// A port that has taken a command with P2's segments each way, M 512.
-struct Taken {
-    words: Vec<u64>,
-    store: Vec<u8>,
-    answer: [u64; 8],
-}
+struct Taken(Plain);
 
 impl Taken {
     fn new() -> Self {
-        let mut taken = Taken { words: vec![0; PORT_WORDS], store: vec![0; STORE_BYTES], answer: [0; 8] };
-        let Call::Login { msg, .. } = login(&mut Random::new(1), 1, 512, LONGEST, 0b110) else { unreachable!() };
-        let mut buf = [0; 132];
-        assert_eq!(taken.port().login(&[1, 512, LONGEST, 1, 1], &OWN, &msg, &mut buf), 0);
+        let mut taken = Taken(Plain::after_login(1, 512));
         taken.take();
         taken
     }
@@ -182,7 +173,7 @@ impl Taken {
     }
 
     fn port(&mut self) -> Port<'_> {
-        Port::new(&mut self.words, &mut self.store, &mut self.answer)
+        self.0.port()
     }
 
     fn name(&mut self, direction: u32, offset: u32, count: u32) -> u32 {
@@ -191,13 +182,13 @@ impl Taken {
 
     fn step(&mut self, direction: u32) -> [u64; 8] {
         assert_eq!(self.port().step(TAG, direction), 0);
-        self.answer
+        self.0.answer
     }
 
     /// h of data-out and of data-in, as they are listed.
     fn listed(&mut self) -> [u64; 2] {
         let mut records = [0; 64];
-        assert_eq!((self.port().list(&mut records), self.answer[0]), (0, 1));
+        assert_eq!((self.port().list(&mut records), self.0.answer[0]), (0, 1));
         [records[2], records[3]]
     }
 
@@ -262,14 +253,14 @@ fn the_middle_first() {
 fn the_number_handed_out() {
     let mut taken = Taken::new();
     for _ in 0..2 {
-        assert_eq!((taken.port().step(TAG, OUT), taken.answer), (29, [0; 8]));
+        assert_eq!((taken.port().step(TAG, OUT), taken.0.answer), (29, [0; 8]));
         assert_eq!(taken.port().plan(TAG, 700, 700), 0);
         assert_eq!([taken.step(OUT), taken.step(IN)], [done(0); 2], "before any move");
         assert_eq!(taken.name(OUT, 0, 700), 0);
         assert_eq!([taken.step(OUT), taken.step(OUT)], [read(0x3000, 512, 0, 1), read(0x3200, 88, 512, 2)]);
         assert_eq!([taken.name(OUT, 0, 700), taken.name(OUT, 701, 0), taken.port().plan(TAG, 0, 0)], [32, 31, 30]);
         assert_eq!((taken.name(IN, 650, 50), taken.step(IN), taken.step(IN)), (0, write(0x5032, 50, 650, 1), done(1)));
-        assert_eq!((taken.port().step(TAG + 1, OUT), taken.answer), (24, [0; 8]));
+        assert_eq!((taken.port().step(TAG + 1, OUT), taken.0.answer), (24, [0; 8]));
         assert_eq!([taken.step(OUT), taken.step(OUT), taken.step(OUT)], [read(0x5000, 100, 600, 3), done(3), done(3)]);
         assert_eq!((taken.name(OUT, 701, 0), taken.step(OUT)), (31, done(3)), "refused");
         assert_eq!((taken.name(OUT, 599, 2), taken.step(IN)), (0, done(1)), "of the other direction");

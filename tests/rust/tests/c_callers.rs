@@ -3,35 +3,21 @@
 
 use srp_target_sys::srp_trace;
 use srp_tests::guarded::{reserved, GuardedMemory, Side};
-use srp_tests::interface::{self, Port, PORT_WORDS, STORE_BYTES};
-use srp_tests::port::plain::{self, OWN};
+use srp_tests::interface;
+use srp_tests::port::plain::{self, Plain, OWN};
 use srp_tests::port::Call;
 use srp_tests::random::Random;
 
 /// A length whose lower 32 bits are 0.
 const LONG: usize = 1 << 32;
 
-struct Lent {
-    words: Vec<u64>,
-    store: Vec<u8>,
-    answer: [u64; 8],
+/// A port after a login.
+fn open() -> Plain {
+    Plain::after_login(4, 512)
 }
 
-impl Lent {
-    /// A port after a login.
-    fn new() -> Self {
-        let mut lent = Lent { words: vec![1; PORT_WORDS], store: vec![1; STORE_BYTES], answer: [1; 8] };
-        assert_eq!((lent.login(&login_request(), &mut [0; 132]), lent.answer[0]), (0, 52));
-        lent
-    }
-
-    fn port(&mut self) -> Port<'_> {
-        Port::new(&mut self.words, &mut self.store, &mut self.answer)
-    }
-
-    fn login(&mut self, msg: &[u8], buf: &mut [u8]) -> u32 {
-        self.port().login(&[4, 512, 1364, 1, 1], &OWN, msg, buf)
-    }
+fn login(plain: &mut Plain, msg: &[u8], buf: &mut [u8]) -> u32 {
+    plain.port().login(&[4, 512, 1364, 1, 1], &OWN, msg, buf)
 }
 
 fn login_request() -> Vec<u8> {
@@ -65,32 +51,32 @@ const LONG_UNKNOWN: &str = "< UNKNOWN                                        ***
 #[test]
 fn messages_and_tables_above_2_32() {
     let (none, mut buf): ([&[u8]; 2], _) = ([&[], &[]], [0; 132]);
-    assert_eq!(Lent::new().login(reserved(LONG + 64, &login_request()), &mut buf), 3);
-    assert_eq!(Lent::new().port().take(reserved(LONG + 48, &command()), none, &mut buf), 3);
+    assert_eq!(login(&mut open(), reserved(LONG + 64, &login_request()), &mut buf), 3);
+    assert_eq!(open().port().take(reserved(LONG + 48, &command()), none, &mut buf), 3);
     let table: &[u8] = reserved(LONG, &[]);
-    assert_eq!(Lent::new().port().take(&command(), [table, &[]], &mut buf), 9);
-    assert_eq!(Lent::new().port().take(&command(), [&[], table], &mut buf), 9);
+    assert_eq!(open().port().take(&command(), [table, &[]], &mut buf), 9);
+    assert_eq!(open().port().take(&command(), [&[], table], &mut buf), 9);
     assert_eq!(interface::look(reserved(LONG + 48, &command()), 1364, 6, &mut buf), 3);
     assert_eq!(interface::cut(reserved(LONG + 16, &[]), 512, 0, 0, &mut buf), 11);
 
-    let mut lent = Lent::new();
-    assert_eq!(lent.port().take(&command(), none, &mut buf), 0);
-    assert_eq!(lent.port().finish(9, 2, reserved(LONG + 18, &[]), &mut buf), 11);
-    assert_eq!(lent.port().finish(9, 0, reserved(LONG, &[]), &mut buf), 11);
-    assert_eq!(lent.port().finish(9, 0, &[], &mut buf), 0);
+    let mut plain = open();
+    assert_eq!(plain.port().take(&command(), none, &mut buf), 0);
+    assert_eq!(plain.port().finish(9, 2, reserved(LONG + 18, &[]), &mut buf), 11);
+    assert_eq!(plain.port().finish(9, 0, reserved(LONG, &[]), &mut buf), 11);
+    assert_eq!(plain.port().finish(9, 0, &[], &mut buf), 0);
 }
 
 #[test]
 fn buffers_and_lists_above_2_32() {
-    let (mut lent, none, buf): (_, [&[u8]; 2], _) = (Lent::new(), [&[], &[]], reserved(LONG, &[]));
-    assert_eq!(lent.login(&login_request(), buf), 0);
-    assert_eq!(lent.port().take(&command(), none, buf), 0);
-    assert_eq!(lent.port().list(reserved(LONG, &[])), 0);
-    assert_eq!(lent.answer, [1, 0, 0, 0, 0, 0, 0, 0]);
-    assert_eq!(lent.port().finish(9, 0, &[], buf), 0);
-    assert_eq!(lent.port().add(1), 0);
-    assert_eq!(lent.port().grant(buf), 0);
-    assert_eq!(lent.port().close(0, buf), 0);
+    let (mut plain, none, buf): (_, [&[u8]; 2], _) = (open(), [&[], &[]], reserved(LONG, &[]));
+    assert_eq!(login(&mut plain, &login_request(), buf), 0);
+    assert_eq!(plain.port().take(&command(), none, buf), 0);
+    assert_eq!(plain.port().list(reserved(LONG, &[])), 0);
+    assert_eq!(plain.answer, [1, 0, 0, 0, 0, 0, 0, 0]);
+    assert_eq!(plain.port().finish(9, 0, &[], buf), 0);
+    assert_eq!(plain.port().add(1), 0);
+    assert_eq!(plain.port().grant(buf), 0);
+    assert_eq!(plain.port().close(0, buf), 0);
     assert_eq!(interface::look(&command(), 1364, 6, buf), 0);
     assert_eq!(interface::cut(&[], 512, 0, 0, buf), 0);
     assert_eq!((interface::trace(&[], 0, buf), buf[0]), (0, b'>'));
@@ -150,10 +136,10 @@ mod wide {
 #[test]
 fn arguments_below_other_bits() {
     const ABOVE: u64 = 0xdead_beef << 32;
-    let (mut lent, mut buf) = (Lent::new(), [0; 132]);
-    assert_eq!(lent.port().take(&command(), [&[], &[]], &mut buf), 0);
-    let Lent { words, store, answer } = &mut lent;
-    let (port, answered) = (words.as_mut_ptr(), answer.as_mut_ptr());
+    let (mut plain, mut buf) = (open(), [0; 132]);
+    assert_eq!(plain.port().take(&command(), [&[], &[]], &mut buf), 0);
+    let Plain { memory, answer } = &mut plain;
+    let (port, store, answered) = (memory.words.as_mut_ptr(), memory.store.as_ptr(), answer.as_mut_ptr());
     // SAFETY: as in `interface`; registers are as wide as 64-bit arguments.
     unsafe {
         assert_eq!(wide::srp_target_add(port, ABOVE), 11);
@@ -163,11 +149,11 @@ fn arguments_below_other_bits() {
         // Of a command without data min(R, B) is 0.
         assert_eq!(wide::srp_target_move(port, 9, ABOVE, ABOVE, ABOVE | 4), 0);
         assert_eq!(wide::srp_target_move(port, 9, ABOVE, ABOVE | 1, ABOVE), 31);
-        assert_eq!(wide::srp_target_step(port, store.as_ptr(), 9, ABOVE, answered), 0);
+        assert_eq!(wide::srp_target_step(port, store, 9, ABOVE, answered), 0);
     }
-    assert_eq!(lent.port().finish(9, 0, &[], &mut buf), 0);
+    assert_eq!(plain.port().finish(9, 0, &[], &mut buf), 0);
     assert_eq!(buf[18..28], [0b100, 0, 0, 0, 0, 5, 0, 0, 0, 0], "DOOVER by 5");
-    let (port, answered) = (lent.words.as_mut_ptr(), lent.answer.as_mut_ptr());
+    let (port, answered) = (plain.memory.words.as_mut_ptr(), plain.answer.as_mut_ptr());
     // SAFETY: as above.
     unsafe {
         assert_eq!(wide::srp_target_close(port, ABOVE | 7, buf.as_mut_ptr(), buf.len(), answered), 0);

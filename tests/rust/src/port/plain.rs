@@ -1,8 +1,11 @@
-//! Calls without a fault, for tests that bring a port to a certain state.
+//! Calls without a fault, for tests that bring a port to a certain state, and a port in plain memory.
 
-use super::call::Call;
+use super::call::{Call, UNWRITTEN};
+use super::frame::Memory;
 use super::generate::Data;
 use crate::generate::{list_of, Descriptor};
+use crate::interface::Port;
+use crate::model::writing::Answer;
 use crate::model::MemoryDescriptor;
 use crate::random::Random;
 
@@ -25,11 +28,43 @@ pub fn login(random: &mut Random, n: u32, m: u32, agreed: u32, formats: u16) -> 
     Call::Login { settings: [n, m, 1364, 1, 1], own: OWN, msg, buf: buffer(132) }
 }
 
-/// A direction with these segments behind a table at 9000h, none of them in the message.
-pub fn fetched(segments: &[MemoryDescriptor]) -> Data {
+/// A port in memory that nothing guards, and the answer words of the last call.
+pub struct Plain {
+    pub memory: Memory,
+    pub answer: Answer,
+}
+
+impl Plain {
+    /// After a login with the longest messages and both formats.
+    pub fn after_login(n: u32, m: u32) -> Self {
+        let Call::Login { settings, own, msg, mut buf } = login(&mut Random::new(1), n, m, 1364, 0b110) else {
+            unreachable!("a login");
+        };
+        let mut plain = Plain { memory: Memory::default(), answer: UNWRITTEN };
+        assert_eq!((plain.port().login(&settings, &own, &msg, &mut buf), plain.answer[0]), (0, 52), "accepted");
+        plain
+    }
+
+    pub fn port(&mut self) -> Port<'_> {
+        Port::new(&mut self.memory.words, &mut self.memory.store, &mut self.answer)
+    }
+}
+
+/// A direction with these segments in a table at 9000h, and its first ones, so many, in the message too.
+fn indirect(segments: &[MemoryDescriptor], copied: usize) -> Descriptor {
     let table = MemoryDescriptor { address: 0x9000, handle: 8, length: 16 * segments.len() as u32 };
     let total = segments.iter().map(|segment| segment.length).sum();
-    Data { descriptor: Descriptor::Indirect { table, total, copies: Vec::new() }, table: list_of(segments) }
+    Descriptor::Indirect { table, total, copies: segments[..copied].to_vec() }
+}
+
+/// None of the segments in the message.
+pub fn fetched(segments: &[MemoryDescriptor]) -> Data {
+    Data { descriptor: indirect(segments, 0), table: list_of(segments) }
+}
+
+/// All of the segments, one at least, in the message: nothing is to be fetched.
+pub fn copied(segments: &[MemoryDescriptor]) -> Data {
+    Data { descriptor: indirect(segments, segments.len()), table: Vec::new() }
 }
 
 pub fn take(msg: &[u8], tables: [&[u8]; 2]) -> Call {

@@ -1,0 +1,84 @@
+//! Every list of operations that moves the same bytes, found by trying: no rule here says how long an operation is to
+//! be.
+
+use crate::judge::Byte;
+
+/// All lists for some bytes: how many there are, and the operations of one that has the fewest.
+#[derive(Debug, PartialEq, Eq)]
+pub struct Rivals {
+    pub lists: u64,
+    pub fewest: u64,
+}
+
+/// Tries every list that "covers the same bytes in order", from `at` to `end`: operations of 1 to M bytes, one behind
+/// the other. None leaves the part of memory that it starts in; `parts` says of each byte which one has it.
+pub fn rivals(parts: &[usize], at: usize, end: usize, m: usize) -> Rivals {
+    if at == end {
+        return Rivals { lists: 1, fewest: 0 };
+    }
+    let mut all = Rivals { lists: 0, fewest: u64::MAX };
+    for next in at + 1..=end.min(at + m) {
+        if parts[next - 1] != parts[at] {
+            break;
+        }
+        let rest = rivals(parts, next, end, m);
+        all.lists += rest.lists;
+        all.fewest = all.fewest.min(1 + rest.fewest);
+    }
+    all
+}
+
+/// Of each byte the segment that has it: "each inside one segment".
+pub fn by_segment(bytes: &[Byte]) -> Vec<usize> {
+    bytes.iter().map(|byte| byte.segment).collect()
+}
+
+/// Of each byte the stretch of memory that has it: segments that adjoin, with the same handle, are one. Operations that
+/// stay in these alone are no rivals.
+pub fn by_stretch(bytes: &[Byte]) -> Vec<usize> {
+    let apart = |at: usize| {
+        let (last, byte) = (bytes[at - 1], bytes[at]);
+        byte.handle != last.handle || byte.address != last.address + 1
+    };
+    let mut stretch = 0;
+    let stretch_of = |at: usize| {
+        stretch += usize::from(at > 0 && apart(at));
+        stretch
+    };
+    (0..bytes.len()).map(stretch_of).collect()
+}
+
+#[cfg(test)]
+mod tests {
+    use super::*;
+
+    /// 11 bytes, as the parts that have them: two, one and two adjoining, and the rest.
+    const PARTS: [usize; 11] = [0, 0, 1, 2, 2, 3, 3, 3, 3, 3, 3];
+
+    #[test]
+    fn lists_counted_by_hand() {
+        for (from, to, m, lists, fewest) in [
+            (0, 0, 5, 1, 0),
+            (0, 1, 5, 1, 1),
+            (0, 2, 1, 1, 2),      // 1 1
+            (0, 2, 5, 2, 1),      // 1 1, 2
+            (0, 5, 5, 4, 3),      // of each two bytes 1 1 or 2, and 1 between them
+            (1, 4, 5, 1, 3),      // 1, 1, 1
+            (5, 8, 2, 3, 2),      // 1 1 1, 1 2, 2 1
+            (5, 9, 2, 5, 2),      // 1 1 1 1, 1 1 2, 1 2 1, 2 1 1, 2 2
+            (5, 9, 3, 7, 2),      // these, 1 3 and 3 1
+            (5, 9, 4, 8, 1),      // these, and 4
+            (4, 7, 9, 2, 2),      // 1, then 1 1 or 2
+        ] {
+            assert_eq!(rivals(&PARTS, from, to, m), Rivals { lists, fewest }, "{from} to {to}, M {m}");
+        }
+    }
+
+    #[test]
+    fn stretches_of_memory() {
+        let byte = |segment, handle, address| Byte { segment, handle, address };
+        let bytes = [byte(0, 7, 8), byte(0, 7, 9), byte(1, 7, 10), byte(3, 8, 11), byte(4, 8, 13), byte(5, 8, 13)];
+        assert_eq!(by_segment(&bytes), [0, 0, 1, 3, 4, 5]);
+        assert_eq!(by_stretch(&bytes), [0, 0, 0, 1, 2, 3]);
+    }
+}
