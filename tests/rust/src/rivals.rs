@@ -52,7 +52,7 @@ pub fn by_stretch(bytes: &[Byte]) -> Vec<usize> {
 mod tests {
     use super::*;
 
-    /// 11 bytes, as the parts that have them: two, one and two adjoining, and the rest.
+    /// Of 11 bytes the parts that have them: 2, 1, 2 and 6 bytes.
     const PARTS: [usize; 11] = [0, 0, 1, 2, 2, 3, 3, 3, 3, 3, 3];
 
     #[test]
@@ -60,15 +60,15 @@ mod tests {
         for (from, to, m, lists, fewest) in [
             (0, 0, 5, 1, 0),
             (0, 1, 5, 1, 1),
-            (0, 2, 1, 1, 2),      // 1 1
-            (0, 2, 5, 2, 1),      // 1 1, 2
-            (0, 5, 5, 4, 3),      // of each two bytes 1 1 or 2, and 1 between them
-            (1, 4, 5, 1, 3),      // 1, 1, 1
-            (5, 8, 2, 3, 2),      // 1 1 1, 1 2, 2 1
-            (5, 9, 2, 5, 2),      // 1 1 1 1, 1 1 2, 1 2 1, 2 1 1, 2 2
-            (5, 9, 3, 7, 2),      // these, 1 3 and 3 1
-            (5, 9, 4, 8, 1),      // these, and 4
-            (4, 7, 9, 2, 2),      // 1, then 1 1 or 2
+            (0, 2, 1, 1, 2), // 1 1
+            (0, 2, 5, 2, 1), // 1 1, 2
+            (0, 5, 5, 4, 3), // of each two bytes 1 1 or 2, and 1 between them
+            (1, 4, 5, 1, 3), // 1, 1, 1
+            (5, 8, 2, 3, 2), // 1 1 1, 1 2, 2 1
+            (5, 9, 2, 5, 2), // 1 1 1 1, 1 1 2, 1 2 1, 2 1 1, 2 2
+            (5, 9, 3, 7, 2), // these, 1 3 and 3 1
+            (5, 9, 4, 8, 1), // these, and 4
+            (4, 7, 9, 2, 2), // 1, then 1 1 or 2
         ] {
             assert_eq!(rivals(&PARTS, from, to, m), Rivals { lists, fewest }, "{from} to {to}, M {m}");
         }

@@ -113,7 +113,8 @@ impl<T: InMemory> Garbage<T> {
             };
             assert_eq!(outcome.answer[0], length, "{call:02x?}\n{outcome:02x?}");
         }
-        if let (Call::Step { direction, .. }, [1, operation, _, _, length, offset, number, _]) = (call, outcome.answer) {
+        if let (Call::Step { direction, .. }, [1, operation, _, _, length, offset, number, _]) = (call, outcome.answer)
+        {
             assert_eq!(operation, if *direction == 0 { 1 } else { 2 }, "RDMA Read or Write");
             assert!((1..=1_048_576).contains(&length), "a piece of {length} bytes");
             // Each operation before it had a byte below its offset.
