@@ -155,7 +155,10 @@ fn the_number_of_a_move() {
     assert_eq!(port.step(9, Direction::Out), stepped(read(5, 0x3000, 512, 0), 1));
     assert_eq!(port.step(9, Direction::In), stepped(write(8, 0x5000, 100, 600), 3));
     assert_eq!([port.step(9, Direction::In), port.step(9, Direction::In)], [done(3), done(3)], "done, and done again");
-    assert_eq!((port.name_move(9, Direction::In, 701, 0), port.step(9, Direction::In)), (Err(Refusal::Offset), done(3)));
+    assert_eq!(
+        (port.name_move(9, Direction::In, 701, 0), port.step(9, Direction::In)),
+        (Err(Refusal::Offset), done(3))
+    );
     port.name_move(9, Direction::In, 0, 1).unwrap();
     assert_eq!(port.step(9, Direction::In), stepped(write(6, 0x3000, 1, 0), 1), "another move");
     assert_eq!((port.step(9, Direction::In), port.name_move(9, Direction::In, 5, 0)), (done(1), Ok(())));
