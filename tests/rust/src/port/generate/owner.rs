@@ -91,12 +91,21 @@ fn has_pieces(transfer: &Transfer) -> bool {
     !transfer.current.is_empty()
 }
 
+/// Whether pieces of the current move were handed out, and none is left.
+fn is_finished(transfer: &Transfer) -> bool {
+    transfer.number > 0 && transfer.current.is_empty()
+}
+
 fn free(command: &OpenCommand) -> bool {
     is_free(&command.data_out) || is_free(&command.data_in)
 }
 
 fn moving(command: &OpenCommand) -> bool {
     has_pieces(&command.data_out) || has_pieces(&command.data_in)
+}
+
+fn finished(command: &OpenCommand) -> bool {
+    is_finished(&command.data_out) || is_finished(&command.data_in)
 }
 
 /// Mostly in a direction that is free, else in one whose move has pieces left; where none is free, mostly a plan.
@@ -118,13 +127,16 @@ pub fn name_move(random: &mut Random, channel: &Channel) -> Call {
     Call::Move { tag: tag(random, chosen(command)), direction, offset, count }
 }
 
-/// Mostly in a direction whose move has pieces left; where none has, mostly a move.
+/// Mostly in a direction whose move has pieces left, else in one whose move is finished; where no move has pieces left,
+/// mostly a move.
 pub fn step(random: &mut Random, channel: &Channel) -> Call {
-    if !channel.commands.iter().any(moving) && !random.one_in(4) {
+    let again = random.one_in(8) && channel.commands.iter().any(finished);
+    if !again && !channel.commands.iter().any(moving) && !random.one_in(4) {
         return name_move(random, channel);
     }
-    let command = preferred(random, channel, moving);
-    let only_in = command.is_some_and(|command| !has_pieces(&command.data_out) && has_pieces(&command.data_in));
+    let command = preferred(random, channel, if again { finished } else { moving });
+    let fits = if again { is_finished } else { has_pieces };
+    let only_in = command.is_some_and(|command| !fits(&command.data_out) && fits(&command.data_in));
     let directions = if only_in { [1, 1, 0, 2, 0x100, 0x8000_0000] } else { [0, 0, 0, 0, 1, 2] };
     let direction = random.of(&directions);
     Call::Step { tag: tag(random, chosen(command)), direction }
