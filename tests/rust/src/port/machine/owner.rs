@@ -159,7 +159,8 @@ impl<T: Target> Machine<T> {
     /// when all those of its command and direction were handed out before it." Its number is what was handed out since
     /// the move was named, "their own piece included".
     pub(super) fn step(&mut self) {
-        let (tag, direction) = self.tag_and_direction(Pieces::are_left);
+        let again = self.random.one_in(8);
+        let (tag, direction) = self.tag_and_direction(if again { Pieces::are_handed_out } else { Pieces::are_left });
         let outcome = self.counted(&Call::Step { tag, direction: direction as u32 });
         assert_eq!(outcome.returned, self.ends.refusal_of_step(tag), "step");
         if let (0, Some(place)) = (outcome.returned, self.ends.place_of(tag)) {

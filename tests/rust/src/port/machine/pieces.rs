@@ -43,6 +43,11 @@ impl Pieces {
         !self.left.is_empty()
     }
 
+    /// Whether all pieces of the current move, one at least, were handed out.
+    pub fn are_handed_out(&self) -> bool {
+        self.number > 0 && !self.are_left()
+    }
+
     pub fn due(&self) -> u64 {
         self.due
     }
