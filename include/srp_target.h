@@ -37,9 +37,10 @@
  *   - For a command taken: srp_target_plan; then for each part of its data, in the order in which the device has them,
  *     srp_target_move, and srp_target_step in that direction until done, each piece posted as the RDMA operation that
  *     the answer names; then srp_target_finish. One move of offset 0 and count R is all of a direction.
- *   - Each piece needs a slot of the adapter until its operation is complete. A move of k bytes has at most 32 + k / M
- *     pieces, rounded down, and as few as can be: srp_target_step says more. An owner with fewer slots steps on when
- *     slots are free again.
+ *   - Each piece needs a slot of the adapter until its operation is complete; the slots are common to the moves of all
+ *     commands and to the fetches of tables. A move of k bytes has at most 32 + k / M pieces, rounded down, and as few
+ *     as can be: srp_target_step says more. An owner with fewer slots steps on when slots are free again. Each further
+ *     move that the same bytes are named in can cost one piece more.
  *   - The port does not know EMDP (mode page 02h, byte 12 bit 7). While it is 0, each move in a direction starts at or
  *     behind the end of the one before it.
  *   - Data-out: RDMA Reads complete in any order. Wait for each Read's completion before its data are used. The port
@@ -70,7 +71,8 @@ extern "C" {
 
 /* The version of this interface. In version 0 there were no moves: after srp_target_plan, step served all the data.
  * Version 2 has srp_trace; all else is as in version 1. There was no version 3. Version 4 has the number in the answer
- * of srp_target_step, where version 2 has 0; all else is as in version 2. */
+ * of srp_target_step, where version 2 has 0; all else is as in version 2. The words that a library of another version
+ * made are not a port of this one. */
 #define SRP_TARGET_VERSION 4
 
 /* Refusals: from the message or the caller. */
@@ -301,8 +303,9 @@ uint32_t srp_target_plan(uint64_t *port, uint64_t tag, uint32_t r_out, uint32_t 
  *   31  offset above min(R, B)
  *   32  the earlier move of this direction still has pieces
  *
- * After 0 it is the direction's current move. Moves may come in any order, overlap, and be repeated; h does not change
- * until a piece is handed out. A count of 0, or an offset of min(R, B), names no bytes and is lawful: step says done.
+ * After 0 it is the direction's current move, and the number in step's answers starts at 0. Moves may come in any order,
+ * overlap, and be repeated; h does not change until a piece is handed out. A count of 0, or an offset of min(R, B),
+ * names no bytes and is lawful: step says done.
  */
 uint32_t srp_target_move(uint64_t *port, uint64_t tag, uint32_t direction, uint32_t offset, uint32_t count);
 
@@ -330,7 +333,7 @@ uint32_t srp_target_move(uint64_t *port, uint64_t tag, uint32_t direction, uint3
  * has that of the last piece, each time again, and 0 where the move has no bytes or none was named. Each direction has
  * its own. For a finished move it is the length of the list of its pieces. Then:
  *   - Every other list of operations that covers the same bytes in order, each inside one segment and at most M long,
- *     has at least as many.
+ *     has at least as many. Two segments that adjoin in memory are two: an operation over both is inside neither.
  *   - It is at most (segments with a byte in the move) + (bytes of the move / M, rounded down), so at most
  *     32 + (2^32 - 1) / M: 4,127 with M = 1,048,576. A segment of length 0 has no byte.
  */
