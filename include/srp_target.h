@@ -39,8 +39,8 @@
  *     the answer names; then srp_target_finish. One move of offset 0 and count R is all of a direction.
  *   - Each piece needs a slot of the adapter until its operation is complete; the slots are common to the moves of all
  *     commands and to the fetches of tables. A move of k bytes has at most 32 + k / M pieces, rounded down, and as few
- *     as can be: srp_target_step says more. An owner with fewer slots steps on when slots are free again. Each further
- *     move that the same bytes are named in can cost one piece more.
+ *     as can be: srp_target_step says more. An owner with fewer slots steps on when slots are free again. Bytes that are
+ *     named in two moves instead of one can cost one piece more.
  *   - The port does not know EMDP (mode page 02h, byte 12 bit 7). While it is 0, each move in a direction starts at or
  *     behind the end of the one before it.
  *   - Data-out: RDMA Reads complete in any order. Wait for each Read's completion before its data are used. The port
@@ -70,9 +70,9 @@ extern "C" {
 #endif
 
 /* The version of this interface. In version 0 there were no moves: after srp_target_plan, step served all the data.
- * Version 2 has srp_trace; all else is as in version 1. There was no version 3. Version 4 has the number in the answer
- * of srp_target_step, where version 2 has 0; all else is as in version 2. The words that a library of another version
- * made are not a port of this one. */
+ * Version 2 has srp_trace; all else is as in version 1. There was no version 3: the number is that of the last request
+ * of document 02 that changed the interface. Version 4 has the number in the answer of srp_target_step, where version 2
+ * has 0; all else is as in version 2. The words that a library of another version made are not a port of this one. */
 #define SRP_TARGET_VERSION 4
 
 /* Refusals: from the message or the caller. */

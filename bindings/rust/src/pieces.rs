@@ -23,8 +23,8 @@ impl<'p> Pieces<'p> {
         Pieces { port, tag, direction, number: 0 }
     }
 
-    /// The operations handed out so far of the move: the adapter slots that it took. At its end no other list of
-    /// operations that covers the same bytes in order, each inside one segment and at most M long, has fewer.
+    /// How many operations of the move were handed out so far. At its end no other list of operations that covers the
+    /// same bytes in order, each inside one segment and at most M long, has fewer.
     pub fn number(&self) -> u32 {
         self.number
     }

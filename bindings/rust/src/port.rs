@@ -146,20 +146,20 @@ impl Port {
     /// As [`Port::name_move`]. After that no step is refused: the iterator has the port to itself.
     ///
     /// # Examples
-    /// Data-in of 1,300 bytes, of which the device server has those from 512 on first; it returns the adapter slots
-    /// used:
+    /// Data-in of 1,300 bytes, of which the device server has those from 512 on first; it returns how many operations
+    /// that took:
     /// ```
     /// use srp_target::{Direction, Operation, Port, Refusal};
     ///
     /// fn read(port: &mut Port, tag: u64, mut rdma: impl FnMut(Operation)) -> Result<u32, Refusal> {
     ///     port.plan(tag, 0, 1300)?;
-    ///     let mut slots = 0;
+    ///     let mut operations = 0;
     ///     for (offset, count) in [(512, 788), (0, 512)] {
     ///         let mut pieces = port.pieces(tag, Direction::In, offset, count)?;
     ///         pieces.by_ref().for_each(&mut rdma);
-    ///         slots += pieces.number();
+    ///         operations += pieces.number();
     ///     }
-    ///     Ok(slots)
+    ///     Ok(operations)
     /// }
     /// ```
     pub fn pieces(&mut self, tag: u64, direction: Direction, offset: u32, count: u32) -> Result<Pieces<'_>, Refusal> {

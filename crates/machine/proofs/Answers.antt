@@ -2,31 +2,37 @@
 -- Assumes nothing.
 use mathlib.Core.Path.{_≡_, refl, ap, sym, _∙_, subst}
 use mathlib.Core.Bool.{false}
-use mathlib.Core.List.{[], _∷_, _++_, append-nil}
+use mathlib.Core.List.{List, [], _∷_, _++_, append-nil}
 use mathlib.Core.Option.{Option, none, some}
 use Prim.Native.Nat.{ℕ, _+_}
 use native.Mathlib.Omega.{arith}
-use lib.ListN.{length, drop, length-append, length-drop}
+use lib.ListN.{length, drop, length-append, length-take, length-drop}
 use lib.Seq.{take-all}
 use borrow.Author.Tests.{ltb-false}
 use Rattle.srp.specs.Cutting.{cutsOf}
 use Rattle.srp.specs.Credit.{ruleOf}
-use Rattle.srp.specs.Fewest.{Fewest}
 use Rattle.srp.specs.Calls.{kindOf}
 use Rattle.srp.specs.declared.Terms.{Terms}
 use Rattle.srp.specs.declared.Direction.{Direction}
 use Rattle.srp.specs.declared.Piece.{Piece}
 use Rattle.srp.specs.declared.Reply.the-variants.{Operation, Done}
-use Rattle.machine.specs.Machine.{Progress, soFar, withOperation}
-use Rattle.machine.specs.Events.{wholeOf, piecesLeft, saidOf, CurrentFewest, Right}
+use Rattle.machine.specs.Machine.{Move, Progress, soFar, withOperation}
+use Rattle.machine.specs.Operations.{cutsOfAll, wholeOf, piecesLeft, saidOf, Finished, CurrentFinished, Right}
 use Rattle.srp.proofs.CutLaws.{Lawful, stops, some-below, none-above}
+use Rattle.srp.proofs.Bound.{few-touched}
 use Rattle.srp.proofs.Fewest.{fewest}
 use Rattle.machine.proofs.Moves.{toOf, endOf, atOf, leftOf, Steady, ends-by, coming, turn, step-steady}
+
+-- ── no move
+
+-- where none was named there are no cuts
+no-cuts : (T : Terms) (g : Progress) → g .moves ≡ [] → length (wholeOf T g) ≡ 0
+no-cuts T g e = ap (λ (ms : List Move). length (cutsOfAll (ruleOf T) (g .segs) ms)) e
 
 -- ── a finished move
 
 -- where all were handed out, those of the current move are its cuts
-all-counted : (T : Terms) (cut : Lawful (ruleOf T)) (g : Progress) (s : Steady T g) → coming T cut g s ≡ none → CurrentFewest T g (soFar g)
+all-counted : (T : Terms) (cut : Lawful (ruleOf T)) (g : Progress) (s : Steady T g) → coming T cut g s ≡ none → CurrentFinished T g (soFar g)
 all-counted T cut g s e m f =
     let c = s .current m f in
     let cuts = cutsOf (ruleOf T) (m .from) (m .to) (g .segs) in
@@ -34,15 +40,15 @@ all-counted T cut g s e m f =
     let left : leftOf T g ≡ [] = s .left ∙ stops (ruleOf T) 0 (atOf T g) (endOf (g .moves)) (g .segs) e in
     let parts : handed ≡ cuts = sym (append-nil handed) ∙ (rw left at (c .parts)) in
     let n : length cuts ≡ soFar g = sym (ap {B = ℕ} length parts) ∙ length-drop (g .earlier) (g .operations) in
-    subst (Fewest T (m .from) (m .to) (g .segs)) n
-    (fewest T (m .from) (m .to) (g .segs) (omega (arith, cut 0 1 (omega arith))) (c .forward) (omega (arith, ap toOf f, ends-by T cut g s)))
+    let least = fewest T (m .from) (m .to) (g .segs) (omega (arith, cut 0 1 (omega arith))) (c .forward) (omega (arith, ap toOf f, ends-by T cut g s)) in
+    subst (Finished T (g .segs) m) n (record { fewest = least; slots = omega (arith, least .bound, few-touched 0 (m .from) (m .to) (g .segs), s .few) })
 
 -- and where a step hands out the last piece, they are its cuts with it
 last-counted : (T : Terms) (cut : Lawful (ruleOf T)) (g : Progress) (s : Steady T g) (o : Piece) → coming T cut g s ≡ some o
-    → piecesLeft T (withOperation o g) ≡ false → CurrentFewest T g (soFar g + 1)
+    → piecesLeft T (withOperation o g) ≡ false → CurrentFinished T g (soFar g + 1)
 last-counted T cut g s o e h m f =
     let n : soFar (withOperation o g) ≡ soFar g + 1 = omega (arith, length-append (g .operations) (o ∷ []), s .early) in
-    subst (Fewest T (m .from) (m .to) (g .segs)) n (all-counted T cut (withOperation o g) s′ (ended (coming T cut (withOperation o g) s′) refl) m f)
+    subst (Finished T (g .segs) m) n (all-counted T cut (withOperation o g) s′ (ended (coming T cut (withOperation o g) s′) refl) m f)
   where
     s′ : Steady T (withOperation o g)
     s′ = step-steady T cut g s o e
@@ -62,12 +68,13 @@ module _ (T : Terms) (cut : Lawful (ruleOf T)) (g : Progress) (s : Steady T g) (
       let t = turn T cut g s ∙ e in
       record {
         in-turn = sym (ap (saidOf d (soFar g)) t);
+        before = λ f. absurd (omega (arith, no-cuts T g f, some-below (wholeOf T g) (length (g .operations)) o t));
         done-iff = ((λ f. absurd (no-done (f .0) (f .1))), λ f. absurd (omega (arith, ap length f, some-below (wholeOf T g) (length (g .operations)) o t)));
         finished = λ n f. absurd (no-done n f);
         last = λ k o′ n f h.
             let same : o ≡ o′ = cc in
             let number : soFar g + 1 ≡ n = cc in
-            subst (CurrentFewest T g) number (last-counted T cut g s o e (rw (sym same) at h));
+            subst (CurrentFinished T g) number (last-counted T cut g s o e (rw (sym same) at h));
       }
     where
       no-done : (n : ℕ) → Operation (kindOf d) o (soFar g + 1) ≡ Done n → ⊥
@@ -79,7 +86,10 @@ module _ (T : Terms) (cut : Lawful (ruleOf T)) (g : Progress) (s : Steady T g) (
       let t = turn T cut g s ∙ e in
       record {
         in-turn = sym (ap (saidOf d (soFar g)) t);
+        before = λ f.
+            let none : soFar g ≡ 0 = omega (arith, no-cuts T g f, ap {B = ℕ} length (s .order), length-take (length (g .operations)) (wholeOf T g)) in
+            ap Done none;
         done-iff = (λ f. s .order ∙ take-all (length (g .operations)) (wholeOf T g) (none-above (wholeOf T g) (length (g .operations)) t), λ f. (soFar g, refl));
-        finished = λ n f. let number : soFar g ≡ n = cc in subst (CurrentFewest T g) number (all-counted T cut g s e);
+        finished = λ n f. let number : soFar g ≡ n = cc in subst (CurrentFinished T g) number (all-counted T cut g s e);
         last = λ k o n f. let z : _≡_ {A = ℕ} 0 1 = cc in absurd (omega arith);
       }

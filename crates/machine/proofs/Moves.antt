@@ -11,6 +11,7 @@ use lib.Dec.{ltb}
 use lib.ListN.{length, take, drop, getElem?, length-append, length-take}
 use lib.Seq.{take-append-le, drop-at, drop-length, drop-append-le}
 use borrow.Author.Tests.{lt-ltb, le-ltb}
+use Rattle.srp.specs.Limits.{mostCopies}
 use Rattle.srp.specs.Lists.{All}
 use Rattle.srp.specs.Descriptors.{Segment, sumOf, reachable}
 use Rattle.srp.specs.Cutting.{bytesIn, trimmed, highest, cutsOf, cuts, next}
@@ -18,7 +19,7 @@ use Rattle.srp.specs.Credit.{Side, ruleOf}
 use Rattle.srp.specs.declared.Terms.{Terms}
 use Rattle.srp.specs.Calls.{moving, handing, hasPieces, nextIn}
 use Rattle.machine.specs.Machine.{Move, Progress, lastOf, soFar, movableIn, fresh, needing, withMove, withOperation}
-use Rattle.machine.specs.Events.{cutsOfAll, wholeOf, piecesLeft}
+use Rattle.machine.specs.Operations.{cutsOfAll, wholeOf, piecesLeft}
 use Rattle.machine.specs.Demand.{Prefix, EachCut}
 use Rattle.srp.specs.declared.Piece.{Piece}
 use Rattle.srp.proofs.CutLaws.{Lawful, unrolls, stops, next-at, take-more, drop-more, first-left, some-below, none-above, done-iff}
@@ -56,13 +57,14 @@ pub record Current (T : Terms) (g : Progress) (m : Move) : Type 0 where
   pub parts : drop (g .earlier) (g .operations) ++ leftOf T g ≡ cutsOf (ruleOf T) (m .from) (m .to) (g .segs)
 
 -- the operations are the first of the moves' cuts; those left are the cuts of what is left of the move named last, which ends by min(R, B); of that
--- move those handed out and those left are its cuts; no segment passes 2^64; every move ends by B
+-- move those handed out and those left are its cuts; there are at most 32 segments, and none passes 2^64; every move ends by B
 pub record Steady (T : Terms) (g : Progress) : Type 0 where
   pub order : Prefix T g
   pub left : leftOf T g ≡ cutsOf (ruleOf T) (atOf T g) (endOf (g .moves)) (g .segs)
   pub ends : endOf (g .moves) ≤ movableIn g
   pub early : g .earlier ≤ length (g .operations)
   pub current : (m : Move) → lastOf (g .moves) ≡ some m → Current T g m
+  pub few : length (g .segs) ≤ mostCopies
   pub reach : reachable (g .segs) ≡ true
   pub bounded : All (λ m. m .to ≤ sumOf (g .segs)) (g .moves)
 
@@ -93,14 +95,15 @@ one-move T R ss =
 
 -- ── a command that is new, and its plan
 
-pub new-steady : (T : Terms) (ss : List Segment) → reachable ss ≡ true → Steady T (fresh ss)
-new-steady T ss r =
+pub new-steady : (T : Terms) (ss : List Segment) → length ss ≤ mostCopies → reachable ss ≡ true → Steady T (fresh ss)
+new-steady T ss n r =
     record {
       order = refl;
       left = sym (stops (ruleOf T) 0 0 0 ss (done-iff (ruleOf T) 0 0 ss (omega arith) .1 (omega arith)));
       ends = omega arith;
       early = omega arith;
       current = λ m e. absurd (Option·none-ne-some m e);
+      few = n;
       reach = r;
       bounded = tt;
     }
@@ -113,6 +116,7 @@ plan-steady T r g s e =
       ends = rw e (omega arith);
       early = s .early;
       current = λ m f. record { forward = s .current m f .forward; parts = s .current m f .parts };
+      few = s .few;
       reach = s .reach;
       bounded = s .bounded;
     }
@@ -191,6 +195,7 @@ module _ (T : Terms) (cut : Lawful (ruleOf T)) (g : Progress) (s : Steady T g) w
           ends = s .ends;
           early = omega (arith, one-longer, s .early);
           current = λ m f. record { forward = s .current m f .forward; parts = sym split ∙ s .current m f .parts };
+          few = s .few;
           reach = s .reach;
           bounded = s .bounded;
         }
@@ -246,6 +251,7 @@ module _ (T : Terms) (cut : Lawful (ruleOf T)) (g : Progress) (s : Steady T g) w
           ends = rw end-new (omega arith);
           early = omega arith;
           current = λ m e. subst (Current T new) (Option·some-injective _ m (sym last-new ∙ e)) (record { forward = omega arith; parts = rw (drop-length (g .operations)) left-new });
+          few = s .few;
           reach = s .reach;
           bounded = all-snoc (λ x. x .to ≤ sumOf (g .segs)) (g .moves) (record { from = offset; to = to }) (s .bounded) (omega arith);
         }

@@ -17,7 +17,8 @@ use Rattle.srp.specs.Calls.{isPlanned, planned, moving, beyond, hasPieces, unfi
 use Rattle.srp.specs.Answers.{refusalIn}
 use Rattle.machine.specs.Machine.{Progress, soFar, movableIn, Track, withMove, withOperation, Machine, tracked, withTracks, Login}
 use Rattle.machine.specs.Actions.{byOwner}
-use Rattle.machine.specs.Events.{wholeOf, isBeyond, isUnfinished, naming, Right, stepping}
+use Rattle.machine.specs.Operations.{wholeOf, isBeyond, isUnfinished, Right}
+use Rattle.machine.specs.Events.{naming, stepping}
 use Rattle.srp.specs.declared.Direction.{Direction}
 use Rattle.srp.specs.declared.Piece.{Piece}
 use Rattle.srp.specs.declared.Reply.the-variants.{Performed, Operation, Done}

@@ -13,16 +13,16 @@ use borrow.Author.Tests.{eqb-true}
 use Rattle.srp.specs.Bytes.{typeOf}
 use Rattle.srp.specs.Lists.{without}
 use Rattle.srp.specs.Refusals.{Conduct, hangsUp, answered, stays, altersNothing, numberOf, conductOf, firstOf, short}
-use Rattle.srp.specs.Descriptors.{segments, reachable, goodFormat, goodFields}
+use Rattle.srp.specs.Descriptors.{fetched, segments, reachable, goodFormat, goodFields}
 use Rattle.srp.specs.declared.Descriptor.{Descriptor}
 use Rattle.srp.specs.declared.Command.{Command}
 use Rattle.srp.specs.Requests.{isRequest, readMessage}
 use Rattle.srp.specs.Credit.{Open, Port, withHeld}
 use Rattle.srp.specs.declared.Terms.{Terms}
 use Rattle.srp.specs.Writing.{targetLogout, solicited}
-use Rattle.srp.specs.Take.{Outcome, silent, hangUp, Tables, fieldsFit, newOpen, aborted, taskCode, takeChecks, accepted, requestIn, conducted, refusedBy, takeBy, takeRead, takeDef}
+use Rattle.srp.specs.Take.{Outcome, silent, hangUp, Tables, tablesFit, fieldsFit, newOpen, aborted, taskCode, takeChecks, accepted, requestIn, conducted, refusedBy, takeBy, takeRead, takeDef}
 use Rattle.srp.specs.Answers.{refusalIn}
-use Rattle.machine.specs.Machine.{deltas, requests, Track, newTrack, Work, Machine, withWork, withQueue, tookRequest, Login, read}
+use Rattle.machine.specs.Machine.{deltas, requests, Track, fresh, newTrack, Work, Machine, withWork, withQueue, tookRequest, Login, read}
 use Rattle.machine.specs.Actions.{atFront}
 use Rattle.machine.specs.Events.{reading, afterRefusal, refusalWrites, frontEffect, frontWrites, frontCloses, taking as takingOf}
 use Rattle.srp.specs.declared.Refusal.{Refusal}
@@ -35,9 +35,10 @@ use Rattle.srp.proofs.Checks.{passes}
 use Rattle.srp.proofs.ListLaws.{length-without, without-map, map-snoc, all-snoc, all-without}
 use Rattle.machine.proofs.Tags.{distinct-snoc, distinct-without}
 use Rattle.srp.proofs.FieldLaws.{both}
+use Rattle.srp.proofs.Segments.{few-segments}
 use Rattle.srp.proofs.Refusing.{unrefused, refused-as, read-iff, Suits, drawn, passed}
 use Rattle.srp.proofs.Reading.{ByType, read-by-type}
-use Rattle.machine.proofs.Moves.{new-steady}
+use Rattle.machine.proofs.Moves.{Steady, new-steady}
 use Rattle.machine.proofs.Invariant.{openIn, Sound, Follows, Ok, open-same, with-work, with-wire, Fine, Obeys, obeying, nothing-lifts, lifts, quiet, codes}
 
 module _ {L : Login} {m : Machine} {p : Port} (h : Ok L m p) (s : List ℕ) (ss : List (List ℕ)) (e : m .wire .toPort ≡ s ∷ ss) where
@@ -63,16 +64,16 @@ module _ {L : Login} {m : Machine} {p : Port} (h : Ok L m p) (s : List ℕ) (ss 
           keep = tt;
         }
 
-    new-sound : (c : Command) → fieldsFit c s t ≡ true → Sound (L .terms) (newTrack c s t)
-    new-sound c f =
+    new-sound : (c : Command) → tablesFit c t ≡ true → fieldsFit c s t ≡ true → Sound (L .terms) (newTrack c s t)
+    new-sound c e f =
+        let l = both (eqb (length (t .out)) (fetched (c .out))) (eqb (length (t .inn)) (fetched (c .inn))) e in
         let a = both (goodFields (c .out) s (t .out)) (goodFields (c .inn) s (t .inn)) f in
-        record {
-          unplanned = λ _. (refl, refl);
-          steady = (new-steady (L .terms) _ (reach-of (c .out) (t .out) (a .0)), new-steady (L .terms) _ (reach-of (c .inn) (t .inn) (a .1)));
-        }
+        record { unplanned = λ _. (refl, refl); steady = (steady (c .out) (t .out) (l .0) (a .0), steady (c .inn) (t .inn) (l .1) (a .1)) }
       where
-        reach-of : (d : Descriptor) (table : List ℕ) → goodFields d s table ≡ true → reachable (segments d s table) ≡ true
-        reach-of d table g = both (goodFormat d s table) (reachable (segments d s table)) g .1
+        steady : (d : Descriptor) (table : List ℕ) → eqb (length table) (fetched d) ≡ true → goodFields d s table ≡ true → Steady (L .terms) (fresh (segments d s table))
+        steady d table e f =
+            let g = both (goodFormat d s table) (reachable (segments d s table)) f in
+            new-steady (L .terms) _ (few-segments d s table (g .0) (eqb-true (length table) (fetched d) e)) (g .1)
 
     accept : (d : Message) → ByType (isRequest s) d → firstOf (takeChecks p room s t d) ≡ none
         → Fine L (frontEffect s ss t d m (refusalIn (accepted p s t d .reply))) (frontCloses s ss t d (refusalIn (accepted p s t d .reply))) (accepted p s t d)
@@ -83,7 +84,7 @@ module _ {L : Login} {m : Machine} {p : Port} (h : Ok L m p) (s : List ℕ) (ss 
         (record {
           counts = omega (arith, h .work .counts, length-append (m .work .tracks) (newTrack c s t ∷ []));
           commands = rw (h .work .commands) (sym (map-snoc (openIn (L .terms)) (m .work .tracks) (newTrack c s t)));
-          sound = all-snoc (Sound (L .terms)) (m .work .tracks) (newTrack c s t) (h .work .sound) (new-sound c (q .fields));
+          sound = all-snoc (Sound (L .terms)) (m .work .tracks) (newTrack c s t) (h .work .sound) (new-sound c (q .tables) (q .fields));
           distinct = distinct-snoc (m .work .tracks) (newTrack c s t) (h .work .distinct) (sym (open-same h (c .request .tag)) ∙ q .fresh);
         }) in
         quiet o (NewCommand (c .request .tag) (c .request .lun) (c .cdb))

@@ -25,7 +25,8 @@ use Rattle.srp.specs.declared.Reply.the-variants.{Refused, Counts, Listed}
 use Rattle.srp.specs.declared.Counters.{Counters}
 use Rattle.machine.specs.Machine.{isResponse, isCreditRequest, deltaOf, deltas, Progress, Track, shownAs, Machine, requestsHeld, four, lack, unused, wantedBy, join, Login}
 use Rattle.machine.specs.Actions.{Action}
-use Rattle.machine.specs.Events.{wholeOf, Event, actionOf, after, closes}
+use Rattle.machine.specs.Operations.{wholeOf}
+use Rattle.machine.specs.Events.{Event, actionOf, after, closes}
 
 -- what holds until the channel closes: "Closing ends the list"
 abbrev pub Until : Bool → Type 0 → Type 0

@@ -1,38 +1,32 @@
 -- Document 01, "Credit", and document 02, jobs 1 and 4: the events of demand 3, each in one definition (specs/Actions.antt has what an event is).
 use mathlib.Core.Path.{_≡_}
-use mathlib.Core.Logic.{_↔_}
 use mathlib.Core.Bool.{Bool, true, false, cond, not, _&&_, _||_}
 use mathlib.Core.List.{List, [], _∷_, _++_}
 use mathlib.Core.Option.{Option, none, some}
 use Prim.Native.Nat.{ℕ, _+_, _-_, _≤_}
 use lib.Dec.{eqb, ltb, leb}
-use lib.ListN.{length, getElem?}
+use lib.ListN.{length}
 use Rattle.srp.specs.Limits.{mostBuffers, creditTag}
 use Rattle.srp.specs.Messages.{rsp, credReq, tLogout}
 use Rattle.srp.specs.Refusals.{Conduct, hangsUp, answered, stays, altersNothing, conductOf, Check, short}
 use Rattle.srp.specs.Lists.{change, without, isSome}
 use Rattle.srp.specs.Both.{of}
 use Rattle.srp.specs.Requests.{isRequest}
-use Rattle.srp.specs.Cutting.{Rule, cutsOf}
-use Rattle.srp.specs.Descriptors.{Segment}
-use Rattle.srp.specs.Credit.{onSide, ruleOf}
-use Rattle.srp.specs.Fewest.{Fewest}
-use Rattle.srp.specs.declared.Terms.{Terms}
+use Rattle.srp.specs.Credit.{onSide}
 use Rattle.srp.specs.Writing.{response}
 use Rattle.srp.specs.Take.{silent, hasTag, Tables, tablesFit, fieldsFit, aborted, takeDef}
-use Rattle.srp.specs.Calls.{isPlanned, kindOf, badSense, planDef, moveDef, stepDef, finishDef, addDef, withdrawDef, grantDef}
+use Rattle.srp.specs.Calls.{isPlanned, badSense, planDef, moveDef, stepDef, finishDef, addDef, withdrawDef, grantDef}
 use Rattle.srp.specs.Answers.{refusalIn, operationIn}
 use Rattle.machine.specs.Actions.{Action, always, anything, atFront, between, Owners, byOwner}
-use Rattle.machine.specs.Machine.{deltaOf, Move, Progress, lastOf, soFar, movableIn, Track, finalBy, newTrack, plannedFor, withMove, withOperation, Machine, lack, unused, wantedBy, tracked, withWire, withWork, withBuffers, withQueue, withTracks, tookRequest, saysLogout, join, Login, read}
+use Rattle.machine.specs.Operations.{isBeyond, isUnfinished, Right}
+use Rattle.machine.specs.Machine.{deltaOf, Track, finalBy, newTrack, plannedFor, withMove, withOperation, Machine, lack, unused, wantedBy, tracked, withWire, withWork, withBuffers, withQueue, withTracks, tookRequest, saysLogout, join, Login, read}
 use Rattle.srp.specs.declared.Refusal.{Refusal}
 use Rattle.srp.specs.declared.Refusal.the-variants.{TableLength, Fields, Argument, NoCredit, TagOpen, TagNotOpen, CreditResponse, Unanswered, NotOwed, Wanted, Unplanned, Planned, Offset, Unfinished}
 use Rattle.srp.specs.declared.Direction.{Direction}
-use Rattle.srp.specs.declared.Kind.{Kind}
-use Rattle.srp.specs.declared.Piece.{Piece}
 use Rattle.srp.specs.declared.Message.{Message}
 use Rattle.srp.specs.declared.Message.the-variants.{Bad, Cmd, TskMgmt, CredRsp, ILogout}
 use Rattle.srp.specs.declared.Reply.{Reply}
-use Rattle.srp.specs.declared.Reply.the-variants.{Refused, Performed, Operation, Done}
+use Rattle.srp.specs.declared.Reply.the-variants.{Refused, Performed}
 
 -- ── send, delivery
 
@@ -155,27 +149,6 @@ planning tag out inn =
       answer = anything;
     }
 
--- "those that document 01 cuts from its own segments": "A command's operations are now the cuts of its moves in the order named, and demand 3 is read so"
-abbrev pub cutsOfAll : Rule → List Segment → List Move → List Piece
-cutsOfAll rule ss [] = []
-cutsOfAll rule ss (m ∷ ms) = cutsOf rule (m .from) (m .to) ss ++ cutsOfAll rule ss ms
-
-abbrev pub wholeOf : Terms → Progress → List Piece
-wholeOf T g = cutsOfAll (ruleOf T) (g .segs) (g .moves)
-
--- 31, by R and the segments
-abbrev pub isBeyond : Direction → ℕ → Option Track → Bool
-isBeyond d offset none = false
-isBeyond d offset (some t) = ltb (movableIn (of d (t .sides))) offset
-
--- 32, by what was named and handed out: the moves have more cuts than there were operations
-abbrev pub piecesLeft : Terms → Progress → Bool
-piecesLeft T g = ltb (length (g .operations)) (length (wholeOf T g))
-
-abbrev pub isUnfinished : Terms → Direction → Option Track → Bool
-isUnfinished T d none = false
-isUnfinished T d (some t) = piecesLeft T (of d (t .sides))
-
 -- "with the naming of a move as one more event"
 abbrev pub naming : Login → ℕ → Direction → ℕ → ℕ → Owners
 naming L tag d offset count =
@@ -191,23 +164,6 @@ naming L tag d offset count =
       writes = [];
       answer = anything;
     }
-
--- what a step says of the piece whose turn it is: "the number handed out so far for the current move, their own piece included"; n is it without
-abbrev pub saidOf : Direction → (n : ℕ) → Option Piece → Reply
-saidOf d n none = Done n
-saidOf d n (some o) = Operation (kindOf d) o (n + 1)
-
--- "For a finished move this is the length of its cut list, and every other list .. has at least as many"
-abbrev pub CurrentFewest : Terms → Progress → ℕ → Type 0
-CurrentFewest T g n = (m : Move) → lastOf (g .moves) ≡ some m → Fewest T (m .from) (m .to) (g .segs) n
-
--- an unrefused step's reply r is the next of them, in its direction's kind, with the number; it "says done exactly when all those of its command and
--- direction were handed out before it"; and the number that comes with done, and with the last piece before it, is the least for the move
-pub record Right (T : Terms) (d : Direction) (g : Progress) (r : Reply) : Type 0 where
-  pub in-turn : r ≡ saidOf d (soFar g) (getElem? (wholeOf T g) (length (g .operations)))
-  pub done-iff : ((n : ℕ) × (r ≡ Done n)) ↔ (g .operations ≡ wholeOf T g)
-  pub finished : (n : ℕ) → r ≡ Done n → CurrentFewest T g n
-  pub last : (k : Kind) (o : Piece) (n : ℕ) → r ≡ Operation k o n → piecesLeft T (withOperation o g) ≡ false → CurrentFewest T g n
 
 abbrev pub stepping : Login → ℕ → Direction → Owners
 stepping L tag d =

@@ -58,7 +58,8 @@ pub record Move : Type 0 where
   pub from : ℕ
   pub to : ℕ
 
--- one direction: its segments, R, the moves in the order named, the operations handed out so far, and how many of these before its last move was named
+-- one direction: its segments, R, the moves in the order named, the operations handed out so far, and how many of these there were when its last move was
+-- named
 pub record Progress : Type 0 where
   pub segs : List Segment
   pub required : ℕ

@@ -98,8 +98,7 @@ fn close(target: &mut impl Target) -> Result<(), String> {
     }
 }
 
-/// Makes a row's call and compares; the call, and what it returned. The number of a step "is 0 and says nothing below
-/// level 4".
+/// Makes a row's call and compares; the call, and what it returned. Below level 4 the rows know no number of a step.
 fn judge(target: &mut impl Target, words: &[&str], level: u32) -> Result<(Call, u32), String> {
     let equals = words.iter().position(|&word| word == "=").expect("an answer");
     let (call, answer) = (read_call(&words[..equals]), &words[equals + 1..]);
