@@ -1,4 +1,4 @@
--- The rows of specs/MoveRows.antt hold of the definitions, and of its lists one is such as job 4 compares with and three are not.
+-- The rows of specs/MoveRows.antt hold of the definitions, and of its lists one is a `Rival` and three are not.
 -- Assumes nothing.
 use mathlib.Core.Path.{_≡_, refl}
 use mathlib.Core.Logic.{inl, inr, ⊎-elim}

@@ -1,5 +1,5 @@
 -- Document 02, job 4, worked out by hand: moves with the segments that have a byte in them, their operations and the bound; and four lists of operations for a
--- move, of which one is such as job 4 compares with. The rows hold: proofs/MoveRows.antt.
+-- move, of which one is a `Rival` (specs/Fewest.antt). The rows hold: proofs/MoveRows.antt.
 use mathlib.Core.Bool.{false}
 use mathlib.Core.List.{List, [], _∷_, map}
 use Prim.Native.Nat.{ℕ, _+_, _-_, _/_}
