@@ -72,9 +72,10 @@ extern "C" {
 /* The version of this interface. In version 0 there were no moves: after srp_target_plan, step served all the data.
  * Version 2 has srp_trace; all else is as in version 1. There was no version 3: each version is named after the job of
  * document 02 that changed the interface, and job 3 did not. Version 4 has the number of pieces in the answer of
- * srp_target_step, where version 2 has 0; all else is as in version 2. The words that a library of another version made
- * are not a port of this one. */
-#define SRP_TARGET_VERSION 4
+ * srp_target_step, where version 2 has 0; all else is as in version 2. Version 5 lists the open commands oldest first,
+ * where version 4 promises no order; all else is as in version 4. The words that a library of another version made are
+ * not a port of this one. */
+#define SRP_TARGET_VERSION 5
 
 /* Refusals: from the message or the caller. */
 #define SRP_REFUSED_SHORT_BUFFER 1  /* lent buffer too short */
@@ -431,7 +432,7 @@ uint32_t srp_target_close(uint64_t *port, uint32_t reason, uint8_t *buf, size_t 
 uint32_t srp_target_counters(const uint64_t *port, uint64_t answer[8]);
 
 /*
- * List: the open commands, each once, in any order.
+ * List: the open commands, each once, as they were taken, oldest first. A tag used again counts as taken anew.
  *
  *   records, words   where the records go, four words each; 64 words have room for all
  *

@@ -199,11 +199,9 @@ impl Lent {
         unsafe { close(side, self) }
     }
 
-    /// What list returns, and the records of the open commands, by tag.
+    /// What list returns, and the records of the open commands.
     pub fn list(&mut self, side: &Side) -> (u32, Vec<[u64; RECORD_WORDS]>) {
         let returned = unsafe { list(side, self) };
-        let mut records = self.records.as_chunks().0[..self.answer[0] as usize].to_vec();
-        records.sort();
-        (returned, records)
+        (returned, self.records.as_chunks().0[..self.answer[0] as usize].to_vec())
     }
 }

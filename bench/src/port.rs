@@ -4,6 +4,7 @@
 mod credit;
 mod login;
 mod message;
+mod order;
 mod refusal;
 mod request;
 mod take;
@@ -15,6 +16,7 @@ pub use take::Taken;
 pub use transfer::{Direction, Piece};
 
 use crate::search::Search;
+use order::Order;
 use transfer::{SegmentList, Transfer};
 
 /// The most buffers, and so the most commands open at a time.
@@ -42,6 +44,7 @@ struct Channel {
     owed: i32,
     grant_unanswered: bool,
     commands: [Option<Command>; MAX_BUFFERS],
+    order: Order,
 }
 
 #[derive(Clone, Copy)]
@@ -113,19 +116,20 @@ impl Port {
         }
         let slot = channel.slot(tag)?;
         let command = channel.commands[slot].take().ok_or(Refusal::TagNotOpen)?;
+        channel.order.retain(|other| other != slot);
         channel.owed += 1;
         let residuals = command.transfers.map(|transfer| transfer.residual());
         let solnt = if status != 0 { command.ucsolnt } else { command.scsolnt };
         Ok(message::response(buf, solnt, channel.delta(), tag, status, residuals, sense))
     }
 
-    /// Writes a record of tag, LUN, and h of each direction for each open command; gives their number.
+    /// Writes a record of tag, LUN, and h of each direction for each open command, oldest first; gives their number.
     pub fn list(&self, records: &mut [u64]) -> Result<usize, Refusal> {
         let channel = self.channel.as_ref().ok_or(Refusal::Closed)?;
         if records.len() < 4 * MAX_BUFFERS {
             return Err(Refusal::Argument);
         }
-        let open = channel.commands.iter().flatten();
+        let open = channel.order.oldest_first().filter_map(|slot| channel.commands[slot].as_ref());
         let mut count = 0;
         for (record, command) in records.chunks_exact_mut(4).zip(open) {
             let [out, inn] = command.transfers;

@@ -63,6 +63,10 @@ fn run_numbers(side: &'static Side) {
     port::rows::run_job_4(&mut closed_port(side), side.name);
 }
 
+fn run_order(side: &'static Side) {
+    port::rows::run_job_5(&mut closed_port(side), side.name);
+}
+
 fn run_cut(side: &'static Side) {
     // SAFETY: as above.
     rows::run_cut(side.name, |call, buf| unsafe {
@@ -83,6 +87,11 @@ fn move_rows() {
 #[test]
 fn number_rows() {
     run_numbers(&PLAIN);
+}
+
+#[test]
+fn order_rows() {
+    run_order(&PLAIN);
 }
 
 #[test]
@@ -119,6 +128,11 @@ fn move_rows_by_the_yardstick() {
 #[test]
 fn number_rows_by_the_yardstick() {
     run_numbers(&YARDSTICK);
+}
+
+#[test]
+fn order_rows_by_the_yardstick() {
+    run_order(&YARDSTICK);
 }
 
 #[test]

@@ -50,7 +50,7 @@ void grant(const char *name, uint32_t number, struct after after, size_t buf_len
 void close_channel(const char *name, uint32_t number, struct after after, uint32_t reason, size_t buf_len);
 void counters(const char *name, uint32_t number, uint64_t w, uint64_t a, uint64_t h, int64_t d);
 
-/* The records expected, in any order. */
+/* The records expected, in their order. */
 void list(const char *name, uint32_t number, size_t words, size_t count, const uint64_t (*records)[SRP_RECORD_WORDS]);
 
 /* Calls that leave little to say: a port opened with N and M, a command taken, a move that may have no bytes, a plan

@@ -2,7 +2,7 @@
 #include "calls.h"
 #include "cases.h"
 
-enum { M = 512 };
+enum { M = 512, TASK = 0x61 };
 
 /* Tag, LUN, h out and in are four other numbers: shows an exchange of two of them. 65 words: the rest stays. */
 static void records(void)
@@ -24,7 +24,7 @@ static void records(void)
     list("one open", 0, SRP_LIST_WORDS, 1, expected + 1);
 }
 
-/* As many as can be. */
+/* As the commands were taken, oldest first: as many as can be. The younger a command, the smaller its tag. */
 static void sixteen(void)
 {
     uint64_t expected[16][SRP_RECORD_WORDS] = {{0}};
@@ -39,8 +39,43 @@ static void sixteen(void)
     counters("sixteen open", 0, 16, 0, 16, 0);
 }
 
+/* The tags listed, all of LUN 0 and without data. */
+static void listed(const char *name, size_t count, const uint64_t *tags)
+{
+    uint64_t expected[16][SRP_RECORD_WORDS] = {{0}};
+    size_t i;
+    for (i = 0; i < count; i++)
+        expected[i][0] = tags[i];
+    list(name, 0, SRP_LIST_WORDS, count, (const uint64_t(*)[SRP_RECORD_WORDS])expected);
+}
+
+#define LISTED(name, ...) listed(name, sizeof((uint64_t[]){__VA_ARGS__}) / 8, (const uint64_t[]){__VA_ARGS__})
+
+/* One in the middle ends, or is aborted, and the others keep their order. A tag used again counts as taken anew. */
+static void ages(void)
+{
+    struct after after = {OTHER, {40, SRP_KIND_TASK, TASK, 0}, NULL};
+    uint64_t tag;
+    opened(8, M);
+    for (tag = 50; tag >= 10; tag -= 10)
+        taken("one of five", command(tag, 0, 0));
+    LISTED("five open", 50, 40, 30, 20, 10);
+    finished("the second ends", 40, 1, (struct residuals){0});
+    LISTED("four open", 50, 30, 20, 10);
+    after.message = code_response(0, 2, TASK, 0x00);
+    take("the third is aborted", 0, after, task(TASK, 0, 0, 0x01, 20), NO_BYTES, NO_BYTES, SRP_MESSAGE_BYTES);
+    LISTED("three open", 50, 30, 10);
+    taken("the tag that ended", command(40, 0, 0));
+    taken("the tag that was aborted", command(20, 0, 0));
+    LISTED("five open again", 50, 30, 10, 40, 20);
+    finished("the oldest ends", 50, 1, (struct residuals){0});
+    taken("its tag", command(50, 0, 0));
+    LISTED("the oldest is the youngest", 30, 10, 40, 20, 50);
+}
+
 void list_cases(void)
 {
     records();
     sixteen();
+    ages();
 }

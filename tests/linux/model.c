@@ -1,5 +1,7 @@
 #include "model.h"
 
+#include <string.h>
+
 uint32_t buffer_length(const struct side *s)
 {
     uint32_t sum = 0;
@@ -102,5 +104,6 @@ struct request *find(struct channel *c, uint64_t tag)
 
 void drop(struct channel *c, struct request *r)
 {
-    *r = c->commands[--c->held];
+    c->held--;
+    memmove(r, r + 1, (size_t)(c->commands + c->held - r) * sizeof *r);
 }

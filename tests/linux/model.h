@@ -41,7 +41,7 @@ struct channel {
     int crsolnt, losolnt, open, unanswered;
     int64_t wanted, announced;
     unsigned held;
-    struct request commands[MOST_COMMANDS];
+    struct request commands[MOST_COMMANDS]; /* in the order of taking */
 };
 
 /* B, and the bytes of a table that are to be fetched. */
@@ -69,7 +69,7 @@ int64_t owed(const struct channel *c);
 void begin_request(struct channel *c);
 uint32_t delta_after(struct channel *c);
 
-/* The open command with a tag, or NULL; one that ends. */
+/* The open command with a tag, or NULL; one that ends, which leaves the others in their order. */
 struct request *find(struct channel *c, uint64_t tag);
 void drop(struct channel *c, struct request *r);
 

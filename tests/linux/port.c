@@ -41,21 +41,17 @@ uint32_t take_message(uint32_t out_len, uint32_t in_len)
     return returned;
 }
 
-/* Each open command is listed once: as many as are open, all of them open, none twice. */
+/* The open commands are listed as they were taken, oldest first. */
 static void agree_listing(struct channel *c)
 {
     uint64_t records[SRP_LIST_WORDS];
-    unsigned i, seen = 0;
+    unsigned i;
     same("list", "returned", srp_target_list(port.words, records, SRP_LIST_WORDS, port.answer), 0);
     same("list", "how many", port.answer[0], c->held);
     for (i = 0; i < c->held; i++) {
         const uint64_t *record = records + SRP_RECORD_WORDS * i;
-        struct request *r = find(c, record[0]);
-        same("list", "tag open", r != NULL, 1);
-        if (!r)
-            continue;
-        same("list", "seen before", seen >> (r - c->commands) & 1, 0);
-        seen |= 1u << (r - c->commands);
+        const struct request *r = &c->commands[i];
+        same("list", "tag", record[0], r->tag);
         same("list", "LUN", record[1], r->lun);
         same("list", "out", record[2], r->out.highest);
         same("list", "in", record[3], r->in.highest);

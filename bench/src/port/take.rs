@@ -93,6 +93,7 @@ impl Channel {
         };
         let lun = u64_at(message.head, 20);
         self.commands[free] = Some(Command::new(message.head, tag, lun, transfers));
+        self.order.push(free);
         Ok(Taken::Command { tag, lun, cdb_at: 32, cdb_length: message.cdb_length })
     }
 
@@ -148,6 +149,7 @@ impl Channel {
                 self.owed += 1;
             }
         }
+        self.order.retain(|slot| self.commands[slot].is_some());
     }
 }
 

@@ -86,10 +86,8 @@ fn listing() {
     port.plan(9, 600, 1300).unwrap();
     assert_eq!(port.pieces(9, Direction::Out, 0, 600).map(|pieces| pieces.count()), Ok(2));
     assert!(port.pieces(9, Direction::In, 0, 1300).unwrap().next().is_some());
-    let mut listed = port.list(&mut records).unwrap().to_vec();
-    listed.sort_by_key(|record| record.tag);
     let idle = Record { tag: 10, lun: LUN, data_out: 0, data_in: 0 };
-    assert_eq!(listed, [Record { tag: 9, lun: LUN, data_out: 600, data_in: 512 }, idle]);
+    assert_eq!(port.list(&mut records), Ok(&[Record { tag: 9, lun: LUN, data_out: 600, data_in: 512 }, idle][..]));
     assert_eq!(records[2..], [kept; 16]);
     let mut records = [kept; MOST_BUFFERS];
     assert_eq!(port.list(&mut records[1..]), Err(Refusal::Argument));
@@ -99,6 +97,24 @@ fn listing() {
     assert_eq!(port.list(&mut records), Ok(&[idle][..]));
 }
 
+fn tags(port: &Port) -> Vec<u64> {
+    port.list(&mut [Record::default(); 16]).unwrap().iter().map(|record| record.tag).collect()
+}
+
+/// One in the middle ends, or is aborted, and the others keep their order; a tag used again counts as taken anew.
+#[test]
+fn oldest_first() {
+    let mut port = open_port();
+    [12, 9, 11, 10].map(|tag| take_command(&mut port, &p1(tag)));
+    assert_eq!(tags(&port), [12, 9, 11, 10]);
+    assert_eq!(finish(&mut port, 9), 1);
+    assert_eq!(tags(&port), [12, 11, 10]);
+    abort(&mut port, 11);
+    assert_eq!(tags(&port), [12, 10]);
+    [11, 9].map(|tag| take_command(&mut port, &p1(tag)));
+    assert_eq!(tags(&port), [12, 10, 11, 9]);
+}
+
 /// As many commands as there are buffers.
 #[test]
 fn sixteen_listed() {
@@ -106,9 +122,6 @@ fn sixteen_listed() {
     port.add(12).unwrap();
     assert_eq!(port.grant(&mut lent()).unwrap()[7], 12);
     (1..=16).for_each(|tag| take_command(&mut port, &p1(tag)));
-    let mut records = [Record::default(); 16];
-    let mut tags: Vec<u64> = port.list(&mut records).unwrap().iter().map(|record| record.tag).collect();
-    tags.sort();
-    assert!(tags.into_iter().eq(1..=16));
+    assert!(tags(&port).into_iter().eq(1..=16));
     assert_eq!(format!("{port:?}"), "Port(Ok(Counters { wanted: 16, announced: 0, held: 16, owed: 0 }))");
 }

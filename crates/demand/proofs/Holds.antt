@@ -5,9 +5,10 @@ use mathlib.Core.Bool.{Bool}
 use mathlib.Core.List.{List, [], _∷_, _++_}
 use Prim.Native.Nat.{ℕ, _/_}
 use borrow.Author.Tests.{le-ltb}
-use lib.ListN.{length, drop}
+use lib.ListN.{length}
 use denote.Ref.{now}
 use Rattle.srp.specs.Limits.{mostBuffers}
+use Rattle.srp.specs.Lists.{over}
 use Rattle.srp.specs.Refusals.{firstOf}
 use Rattle.srp.specs.Credit.{Port, owed}
 use Rattle.srp.specs.Take.{Outcome, silent, Tables, takeDef}
@@ -33,6 +34,7 @@ use Rattle.take.specs.Taking.{tables}
 use Rattle.exports.specs.Arguments.{recordSize, allWords, settingsIn, directionIn}
 use Rattle.exports.specs.Calls.{InC, AnswersInC, RepliesInC, CountersInC, ListInC}
 use Rattle.exports.proofs.Listing.{counters-unwritten, list-unwritten}
+use Rattle.srp.proofs.Listing.{listed-all}
 use Rattle.demand.specs.Posts.{Slice}
 use Rattle.demand.specs.Replies.{performed}
 use Rattle.demand.specs.Calls.{Memory, seen, LoggedIn, Took, WithMessage, Finished, Granted, Ended, WithoutMessage, Planned, Named, Stepped, Added, Withdrew, Untouched, TookFront, Call}
@@ -149,7 +151,7 @@ module _ (L : Login) (m : Machine) (s : Memory) (is : Now L m (seen s)) (n : ℕ
       let N = in-words (listDef (seen s) k) (Listed (requestsHeld m)) n w e (list-unwritten (seen s) k) (C (s .store) .numbers) in (
         N .0,
         N .1,
-        C (s .store) .listed (N .0) ∙ ap (λ (x : List Record). allWords x ++ drop (length (allWords x)) before) (is .listed),
+        C (s .store) .records ∙ ap (λ (x : List Record). over (allWords x) before) (listed-all (seen s) k (requestsHeld m) (sym e) .1 ∙ is .listed),
       )
 
 pub demand-3-in-c : Demand3InC

@@ -7,14 +7,14 @@ use mathlib.Core.Option.{Option, none, some}
 use Prim.Native.Nat.{ℕ, _/_, min}
 use borrow.Author.Tests.{not-false}
 use lib.ListN.{length}
-use Rattle.srp.specs.Lists.{find}
+use Rattle.srp.specs.Lists.{find, over}
 use Rattle.srp.specs.Refusals.{firstOf}
 use Rattle.srp.specs.Descriptors.{segmentsOf, sumOf}
 use Rattle.srp.specs.Requests.{lookChecks, lookOutcome}
 use Rattle.srp.specs.Cutting.{upTo, next, cutNext, cutChecks, cutOutcome}
 use Rattle.srp.specs.Credit.{Open, Port}
 use Rattle.srp.specs.Take.{hasTag}
-use Rattle.srp.specs.Calls.{handOut, nextOf, numberIn, planChecks, planOutcome, moveChecks, moveOutcome, stepChecks, stepOutcome, finishChecks, finishOutcome, addChecks, addOutcome, withdrawChecks, withdrawOutcome, grantChecks, grantOutcome, closeChecks, closeOutcome, countersChecks, countersOutcome, listChecks, listOutcome}
+use Rattle.srp.specs.Calls.{handOut, nextOf, numberIn, planChecks, planOutcome, moveChecks, moveOutcome, stepChecks, stepOutcome, finishChecks, finishOutcome, addChecks, addOutcome, withdrawChecks, withdrawOutcome, grantChecks, grantOutcome, closeChecks, closeOutcome, countersChecks, countersOutcome, listChecks, listOutcome, recordsBy, recordsFor}
 use Rattle.srp.specs.Outside.{lookInC, lookAnswer, cutInC, cutAnswer}
 use Rattle.srp.specs.Answers.{returned}
 use Rattle.srp.specs.Writing.{placed}
@@ -29,11 +29,11 @@ use Rattle.srp.proofs.Checks.{passes}
 use Rattle.words.specs.View.{view}
 use Rattle.page.specs.Page.{traceLine, traceChecks, traceInC}
 use Rattle.page.specs.declared.Way.{Way}
-use Rattle.exports.specs.Arguments.{recordSize, directionIn}
+use Rattle.exports.specs.Arguments.{recordSize, allWords, directionIn}
 use Rattle.exports.specs.Answered.{Answered}
 use Rattle.exports.specs.Calls.{PlanInC, MoveInC, StepInC, FinishInC, AddInC, WithdrawInC, GrantInC, CloseInC, CountersInC, ListInC}
 use Rattle.demand.specs.Judgement.{JudgesPlan, JudgesMove, JudgesStep, JudgesFinish, JudgesAdd, JudgesWithdraw, JudgesGrant, JudgesClose, JudgesCounters, JudgesList, JudgesLook, JudgesCut, JudgesTrace}
-use Rattle.demand.proofs.Judging.{numberFor, not-zero, judge, judge-answers, judge-replies, judge-numbers, judge-steps, judge-bytes}
+use Rattle.demand.proofs.Judging.{numberFor, judge, judge-answers, judge-replies, judge-numbers, judge-steps, judge-bytes}
 
 -- ── plan, move, add, withdraw
 
@@ -104,9 +104,14 @@ judges-list l before after n w P st =
     record {
       refuses = J .refuses;
       unrefused = J .unrefused;
-      performs = λ e. (J .performs e, P st .listed (J .unrefused .1 e));
-      leaves = λ f e. (J .leaves f e, P st .refused (λ z. not-zero f (sym (J .refuses f .1 e) ∙ z)));
+      performs = λ e. (J .performs e, P st .records ∙ by-check e);
+      leaves = λ f e. (J .leaves f e, P st .records ∙ by-check e);
     }
+
+  where
+    by-check : {x : Option Refusal} → firstOf (listChecks (view l st) (length before / recordSize)) ≡ x
+        → over (allWords (recordsFor (view l st) (length before / recordSize))) before ≡ over (allWords (recordsBy x (view l st))) before
+    by-check e = ap (λ (y : Option Refusal). over (allWords (recordsBy y (view l st))) before) e
 
 -- ── look and the cut
 

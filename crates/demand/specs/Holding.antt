@@ -1,10 +1,11 @@
 -- Demand 3, of the C functions: of every list of events that follows an accepted login, and what the owner then reads.
 use mathlib.Core.Path.{_≡_}
-use mathlib.Core.List.{List, _∷_, _++_, map}
+use mathlib.Core.List.{List, _∷_, map}
 use Prim.Native.Nat.{ℕ, _/_, _≤_}
-use lib.ListN.{length, drop, replicate}
+use lib.ListN.{length, replicate}
 use denote.Ref.{now}
 use Rattle.srp.specs.Limits.{mostBuffers}
+use Rattle.srp.specs.Lists.{over}
 use Rattle.srp.specs.Credit.{owed}
 use Rattle.srp.specs.declared.Settings.{Settings}
 use Rattle.srp.specs.declared.Reply.the-variants.{Accepted, Counts}
@@ -30,13 +31,12 @@ Holds settings own msg room ss p store =
 abbrev pub Reports : (L : Login) (m : Machine) (s : Memory) (n : ℕ) (w : List ℕ) → Type 0
 Reports L m s n w = (n ≡ 0) × (w ≡ answerWords (record { reply = Counts (counted L m (owed (seen s))); wrote = 0 }))
 
--- what the listing answers and leaves of the lent words, where they have room for 16 records: "each command once", as many as the machine holds,
--- "the rest of the list untouched"
+-- what the listing answers and leaves of the lent words, where they have room for 16 records: "each command once", as many as the machine holds, as its own list
+-- has them, "the rest of the list untouched"
 abbrev pub Lists : (m : Machine) (before after : List ℕ) (n : ℕ) (w : List ℕ) → Type 0
 Lists m before after n w =
     mostBuffers ≤ length before / recordSize
-    → let records : List ℕ = allWords (map shownAs (m .work .tracks)) in
-    (n ≡ 0) × (w ≡ requestsHeld m ∷ replicate 7 0) × (after ≡ records ++ drop (length records) before)
+    → (n ≡ 0) × (w ≡ requestsHeld m ∷ replicate 7 0) × (after ≡ over (allWords (map shownAs (m .work .tracks))) before)
 
 -- ── demand 3, whole; of the listing and the counters, wherever `Now` holds of the machine and the words p
 

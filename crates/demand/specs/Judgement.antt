@@ -8,8 +8,9 @@ use mathlib.Core.List.{List, [], _∷_, _++_}
 use mathlib.Core.Option.{none, some}
 use Prim.Native.Nat.{ℕ, _/_}
 use lib.Dec.{ltb}
-use lib.ListN.{length, drop, replicate}
+use lib.ListN.{length, replicate}
 use Rattle.srp.specs.Limits.{answerSize}
+use Rattle.srp.specs.Lists.{over}
 use Rattle.srp.specs.Refusals.{hangsUp, answered, stays, altersNothing, numberOf, conductOf, Check, firstOf}
 use Rattle.srp.specs.Requests.{readMessage, lookChecks, lookOutcome}
 use Rattle.srp.specs.Cutting.{cutChecks, cutOutcome}
@@ -167,9 +168,8 @@ JudgesCounters l n w = (st : List ℕ) → Judgement (countersChecks (view l st)
 abbrev pub JudgesList : (l before after : List ℕ) (n : ℕ) (w : List ℕ) → Type 0
 JudgesList l before after n w =
     (st : List ℕ)
-    → let records : List ℕ = allWords (listing (view l st)) in
-    Judgement (listChecks (view l st) (length before / recordSize)) n
-    ((w ≡ answerWords (answerOf (listOutcome (view l st)))) × (after ≡ records ++ drop (length records) before))
+    → Judgement (listChecks (view l st) (length before / recordSize)) n
+    ((w ≡ answerWords (answerOf (listOutcome (view l st)))) × (after ≡ over (allWords (listing (view l st))) before))
     (λ f. (w ≡ noWords) × (after ≡ before))
 
 -- ── look and the cut

@@ -1,7 +1,8 @@
 // exchange: an initiator and the port, through two queues. A login; commands with data both ways, direct and indirect; a disk's middle sent before its
-// start, a last byte before the others; the listing; an abort; buffers added, granted and withdrawn; a logout; a second login that the owner ends. Each
-// message, each call and each RDMA operation is a line.
+// start, a last byte before the others; the listing; an abort; the listing oldest first, with a tag used again; buffers added, granted and withdrawn; a
+// logout; a second login that the owner ends. Each message, each call and each RDMA operation is a line.
 mod moves;
+mod order;
 
 use host::MESSAGE;
 use host::channel;
@@ -44,8 +45,9 @@ fn main() {
     let f = moves::last_first(&mut port, &mut store, &mut to_port, &mut to_initiator, e);
     let g = two_open(&mut port, &mut store, &mut to_port, &mut to_initiator, f);
     let h = abort(&mut port, &mut store, &mut to_port, &mut to_initiator, g);
-    let i = change_buffers(&mut port, &mut store, &mut to_port, &mut to_initiator, h);
-    log_out(&mut port, &mut store, &mut to_port, &mut to_initiator, i);
+    let i = order::oldest_first(&mut port, &mut store, &mut to_port, &mut to_initiator, h);
+    let j = change_buffers(&mut port, &mut store, &mut to_port, &mut to_initiator, i);
+    log_out(&mut port, &mut store, &mut to_port, &mut to_initiator, j);
     close(&mut port, &mut to_port, &mut to_initiator);
 }
 

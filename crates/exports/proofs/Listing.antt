@@ -9,16 +9,15 @@ use lib.Seq.{paste, take-suc, take-length, take-append-seam, length-take-le, len
 use Rattle.srp.specs.Limits.{mostBuffers}
 use Rattle.srp.specs.Refusals.{firstOf}
 use Rattle.srp.specs.Answers.{returned}
+use Rattle.srp.specs.Lists.{over}
 use Rattle.srp.specs.Credit.{Port}
-use Rattle.srp.specs.Writing.{placed}
 use Rattle.srp.specs.Take.{Outcome}
-use Rattle.srp.specs.Calls.{unless, countersDef, listing, listDef, countersChecks, countersOutcome, listChecks, listOutcome}
+use Rattle.srp.specs.Calls.{unless, countersDef, listDef, countersChecks, countersOutcome, listChecks, listOutcome, recordsFor}
 use Rattle.srp.specs.declared.Refusal.{Refusal}
 use Rattle.srp.specs.declared.Record.{Record}
 use Rattle.srp.specs.declared.Reply.the-variants.{Listed}
-use Rattle.srp.specs.Refusals.{numberOf}
 use Rattle.srp.specs.declared.Reply.{Reply}
-use Rattle.srp.proofs.RefusalLaws.{number-range}
+use Rattle.srp.proofs.Listing.{listed-all, refused-none}
 use Rattle.answer.specs.Words.{answerWords}
 use Rattle.words.specs.View.{view}
 use Rattle.report.specs.Reports.{slotRecords, CountFor}
@@ -53,7 +52,7 @@ all-length (x ∷ xs) = omega (arith, all-length xs)
 
 -- words put behind those that are there
 behind : (a x d : List ℕ) → length a + length x ≤ length d
-    → paste (a ++ drop (length a) d) (length a) x (length x) ≡ (a ++ x) ++ drop (length (a ++ x)) d
+    → paste (over a d) (length a) x (length x) ≡ over (a ++ x) d
 behind a x d h =
     ap (λ (l : List ℕ). l ++ take (length x) x ++ drop (length a + length x) (a ++ drop (length a) d)) (take-append-seam a (drop (length a) d))
     ∙ ap (λ (l : List ℕ). a ++ l ++ drop (length a + length x) (a ++ drop (length a) d)) (take-length x)
@@ -65,17 +64,17 @@ pub record Filling (records : List Record) (n : ℕ) (before after : List ℕ) (
   pub within : i ≤ n
   pub enough : n ≤ length records
   pub room : recordSize * n ≤ length before
-  pub filled : after ≡ placed (allWords (take i records) ∷ []) before
+  pub filled : after ≡ over (allWords (take i records)) before
   pub size : length after ≡ length before
 
 module _ (records : List Record) (n : ℕ) (before : List ℕ) where
   pub fill-none : length records ≡ mostBuffers → n ≤ mostBuffers → recordSize * n ≤ length before → Filling records n before before 0
   fill-none e h k = record { within = omega arith; enough = omega arith; room = omega arith; filled = refl; size = refl }
 
-  pub fill-all : (after : List ℕ) (i : ℕ) → Filling records n before after i → n ≤ i → after ≡ placed (allWords (take n records) ∷ []) before
+  pub fill-all : (after : List ℕ) (i : ℕ) → Filling records n before after i → n ≤ i → after ≡ over (allWords (take n records)) before
   fill-all after i F h =
       let e : i ≡ n = omega (arith, F .within, h) in
-      F .filled ∙ ap (λ (k : ℕ). placed (allWords (take k records) ∷ []) before) e
+      F .filled ∙ ap (λ (k : ℕ). over (allWords (take k records)) before) e
 
   module _ (after : List ℕ) (i : ℕ) (F : Filling records n before after i) (less : i < n) where
     done : length (allWords (take i records)) ≡ recordSize * i
@@ -98,9 +97,9 @@ module _ (records : List Record) (n : ℕ) (before : List ℕ) where
           room = F .room;
           filled =
               ap (λ (l : List ℕ). paste l (recordSize * i) (recordWords (getD records i z)) recordSize) (F .filled)
-              ∙ ap (λ (k : ℕ). paste (placed (allWords (take i records) ∷ []) before) k (recordWords (getD records i z)) recordSize) (sym done)
+              ∙ ap (λ (k : ℕ). paste (over (allWords (take i records)) before) k (recordWords (getD records i z)) recordSize) (sym done)
               ∙ behind (allWords (take i records)) (recordWords (getD records i z)) before (omega (arith, done, F .room))
-              ∙ ap (λ (l : List ℕ). placed (l ∷ []) before) (one-more z);
+              ∙ ap (λ (l : List ℕ). over l before) (one-more z);
           size = length-paste after (recordSize * i) (recordWords (getD records i z)) recordSize (omega (arith, F .size, F .room)) (omega arith) ∙ F .size;
         }
 
@@ -120,24 +119,17 @@ module _ (l before : List ℕ) (r : Reply) (C : CountFor l (length before / reco
       go (some f) q = sym (ap (λ (y : Reply). answerWords (record { reply = y; wrote = 0 })) q)
 
   pub list-refused : {n : ℕ} {w : List ℕ} → Gives n w (record { reply = r; wrote = 0 }) → OneOf (but 11) (tagOf the-type r) → ListsInC (view l st) before before n w
-  list-refused {n} {w} g k = go (firstOf (listChecks (view l st) (length before / recordSize))) (C .reply st)
-    where
-      go : (x : Option Refusal) → r ≡ unless x (view l st) (listOutcome (view l st)) .reply
-          → ListsInC (view l st) before before n w
-      go none q = absurd (miss (but 11) 11 tt (subst (λ (y : Reply). OneOf (but 11) (tagOf the-type y)) q k))
-      go (some f) q =
-          record {
-            numbers = numbered g;
-            listed = λ z. let y : numberOf f ≡ 0 = sym (ap returned q) ∙ sym (g .0) ∙ z in absurd (omega (arith, number-range f .0));
-            refused = λ z. refl;
-          }
+  list-refused g k =
+      let e : recordsFor (view l st) (length before / recordSize) ≡ [] = refused-none (view l st) (length before / recordSize) r (C .reply st) k in
+      record { numbers = numbered g; records = ap (λ (rs : List Record). over (allWords rs) before) (sym e) }
 
   -- one of k records
-  pub listed-in-c : (k : ℕ) → r ≡ Listed k → {after : List ℕ} → after ≡ placed (allWords (take k (slotRecords l)) ∷ []) before
+  pub listed-in-c : (k : ℕ) → r ≡ Listed k → {after : List ℕ} → after ≡ over (allWords (take k (slotRecords l))) before
       → ListsInC (view l st) before after 0 (k ∷ replicate 7 0)
   listed-in-c k q a =
+      let e : recordsFor (view l st) (length before / recordSize) ≡ take k (slotRecords l) =
+      listed-all (view l st) (length before / recordSize) k (sym q ∙ C .reply st) .1 ∙ C .records k q st in
       record {
         numbers = numbered (sym (ap returned q), sym (ap (λ (y : Reply). answerWords (record { reply = y; wrote = 0 })) q));
-        listed = λ z. a ∙ ap (λ (rs : List Record). placed (allWords rs ∷ []) before) (sym (C .records k q st));
-        refused = λ z. absurd (z refl);
+        records = a ∙ ap (λ (rs : List Record). over (allWords rs) before) (sym e);
       }

@@ -5,10 +5,11 @@ use mathlib.Core.Logic.{_⊎_}
 use mathlib.Core.List.{List, [], _∷_, _++_}
 use Prim.Native.Nat.{ℕ, _/_}
 use lib.IntN.{pos}
-use lib.ListN.{length, drop, replicate}
+use lib.ListN.{length, replicate}
+use Rattle.srp.specs.Lists.{over}
 use Rattle.srp.specs.Credit.{Port}
 use Rattle.srp.specs.Take.{Outcome, Tables, takeDef}
-use Rattle.srp.specs.Calls.{planDef, moveDef, stepDef, finishDef, addDef, withdrawDef, grantDef, closeDef, countersDef, listing, listDef}
+use Rattle.srp.specs.Calls.{planDef, moveDef, stepDef, finishDef, addDef, withdrawDef, grantDef, closeDef, countersDef, listDef, recordsFor}
 use Rattle.srp.specs.Login.{loginDef}
 use Rattle.srp.specs.Answers.{returned, valuesOf, answerOf}
 use Rattle.srp.specs.declared.Refusal.{Refusal}
@@ -63,11 +64,10 @@ pub record LogsInC (st l′ b b′ : List ℕ) (n : ℕ) (w : List ℕ) (o : Out
   pub numbers : InC n w o
   pub call : LogsIn st l′ b b′ (answerOf o) o
 
--- the listing: the lent words before and after it hold a fourth as many records
+-- the listing: the lent words hold a fourth as many records
 pub record ListsInC (p : Port) (before after : List ℕ) (n : ℕ) (w : List ℕ) : Type 0 where
   pub numbers : InC n w (listDef p (length before / recordSize))
-  pub listed : n ≡ 0 → after ≡ allWords (listing p) ++ drop (length (allWords (listing p))) before
-  pub refused : (n ≡ 0 → ⊥) → after ≡ before
+  pub records : after ≡ over (allWords (recordsFor p (length before / recordSize))) before
 
 -- ── the calls, by name; those that are not lent the store, for every store
 

@@ -13,7 +13,7 @@ ghost use Prim.Native.Nat.{ℕ, _+_, _*_, _≤_};
 ghost use lib.ListN.{length, take};
 ghost use lib.Seq.{paste};
 ghost use Rattle.srp.specs.Limits.{mostBuffers};
-ghost use Rattle.srp.specs.Writing.{placed};
+ghost use Rattle.srp.specs.Lists.{over};
 ghost use Rattle.words.specs.Sizes.{portWords};
 ghost use Rattle.report.specs.Reports.{slotRecords};
 ghost use Rattle.take.specs.Taking.{tables};
@@ -258,7 +258,7 @@ fn put_records(records: &mut [u64], port: &[u64], n: usize)
     requires { ⌜ length (now port) ≡ portWords ⌝ }
     requires { ⌜ recordSize * n ≤ length (now records) ⌝ }
     requires { ⌜ n ≤ mostBuffers ⌝ }
-    ensures { λ _. ⌜ now (records .exit) ≡ placed (allWords (take n (slotRecords (now (port .entry)))) ∷ []) (now (records .entry)) ⌝ }
+    ensures { λ _. ⌜ now (records .exit) ≡ over (allWords (take n (slotRecords (now (port .entry))))) (now (records .entry)) ⌝ }
 {
     let mut i: usize = 0;
     while i < n {

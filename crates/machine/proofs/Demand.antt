@@ -68,7 +68,7 @@ module _ (c : Settings) (own : List ℕ) (room : ℕ) (l : List ℕ) (agreed : l
           small = v .most;
           credit = omega arith;
           wanted = refl;
-          work = record { counts = refl; commands = refl; sound = tt; distinct = tt };
+          work = record { counts = refl; commands = refl; sound = tt; distinct = tt; order = refl };
           unanswered = refl;
         },
         cutting v,

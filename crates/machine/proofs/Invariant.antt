@@ -19,13 +19,15 @@ use Rattle.srp.specs.Credit.{withSides, ruleOf, Open, Port, owed, due, withCred
 use Rattle.srp.specs.declared.Terms.{Terms}
 use Rattle.srp.specs.Writing.{answer}
 use Rattle.srp.specs.Take.{Outcome, silent, answering, hasTag, isOpen}
-use Rattle.srp.specs.Calls.{recordOf}
+use Rattle.srp.specs.Calls.{recordOf, listing}
 use Rattle.machine.specs.Machine.{deltaOf, deltas, requests, Track, shownAs, Wire, Work, Machine, four, lack, unused, wantedBy, tracked, requestsHeld, withWire, withWork, withBuffers, withQueue, joined, join, saysLogout, Login}
 use Rattle.machine.specs.Actions.{Action}
 use Rattle.machine.specs.Demand.{Until, Distinct, InOrder, CutAsNamed, Sum, ByLack, Lift, Now, Then}
 use Rattle.srp.specs.declared.Refusal.{Refusal}
+use Rattle.srp.specs.declared.Record.{Record}
 use Rattle.srp.specs.declared.Reply.{Reply}
 use Rattle.srp.specs.declared.Reply.the-variants.{Refused}
+use Rattle.machine.proofs.Order.{tagsOf, Ordered, by-tracks}
 use Rattle.machine.proofs.Moves.{sideIn, Steady, each-cut}
 use Rattle.srp.proofs.CutLaws.{Lawful}
 use Rattle.srp.proofs.ListLaws.{find-map, all-weaken}
@@ -61,6 +63,7 @@ pub record Follows (T : Terms) (w : Work) (cs : List Open) : Type 0 where
   pub commands : cs ≡ map (openIn T) (w .tracks)
   pub sound : All (Sound T) (w .tracks)
   pub distinct : Distinct (w .tracks)
+  pub order : Ordered (tagsOf (w .tracks)) (w .tags)
 
 pub record Ok (L : Login) (m : Machine) (p : Port) : Type 0 where
   pub live : p .live ≡ true
@@ -78,6 +81,10 @@ some-map f (some x) = refl
 shown-map : (T : Terms) (ts : List Track) → map recordOf (map (openIn T) ts) ≡ map shownAs ts
 shown-map T [] = refl
 shown-map T (t ∷ ts) = rw (shown-map T ts)
+
+listed-tags : (ts : List Track) → map (λ (r : Record). r .tag) (map shownAs ts) ≡ tagsOf ts
+listed-tags [] = refl
+listed-tags (t ∷ ts) = rw (listed-tags ts)
 
 module _ {L : Login} {m : Machine} {p : Port} (h : Ok L m p) where
   pub held : length (p .held) ≡ length (m .work .tracks)
@@ -103,6 +110,9 @@ module _ {L : Login} {m : Machine} {p : Port} (h : Ok L m p) where
   pub wanted-same : p .wanted ≡ wantedBy (L .buffers) m
   wanted-same = omega (arith, h .wanted)
 
+  listed : listing p ≡ map shownAs (m .work .tracks)
+  listed = ap (map recordOf) (h .work .commands) ∙ shown-map (L .terms) (m .work .tracks)
+
   -- what demand 3 says of the moments between events
   pub now : Lawful (ruleOf (L .terms)) → Now L m p
   now cut =
@@ -111,7 +121,8 @@ module _ {L : Login} {m : Machine} {p : Port} (h : Ok L m p) where
         reports = rw (h .live, wanted-same, h .credit, open-held);
         commands = h .work .counts;
         lists = rw (h .live, open-held);
-        listed = ap (map recordOf) (h .work .commands) ∙ shown-map (L .terms) (m .work .tracks);
+        listed = listed;
+        oldest-first = ap (map (λ r. r .tag)) listed ∙ listed-tags (m .work .tracks) ∙ by-tracks (m .work .tracks) (m .work .tags) (h .work .order);
         distinct = h .work .distinct;
         in-order = all-weaken (Sound (L .terms)) (InOrder (L .terms)) (λ t s. (s .steady .0 .order, s .steady .1 .order)) (m .work .tracks) (h .work .sound);
         moves = all-weaken (Sound (L .terms)) (CutAsNamed (L .terms)) (λ t s. (each-cut (L .terms) cut (t .sides .out) (s .steady .0), each-cut (L .terms) cut (t .sides .inn) (s .steady .1))) (m .work .tracks) (h .work .sound);

@@ -1,4 +1,6 @@
 pub mod Tags
+pub mod Order
+pub mod OrderRows
 pub mod Deltas
 pub mod Moves
 pub mod Answers

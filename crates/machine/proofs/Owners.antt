@@ -1,6 +1,6 @@
 -- Plan, finish, add, withdraw and grant, sending and delivery do what demand 3 says of them.
 -- Assumes nothing.
-use mathlib.Core.Path.{_≡_, refl, ap, sym, _∙_}
+use mathlib.Core.Path.{_≡_, refl, ap, sym, _∙_, subst}
 use mathlib.Core.Bool.{Bool, true, false, cond, true≢false, or-true}
 use mathlib.Core.List.{List, [], _∷_, _++_, map}
 use mathlib.Core.Option.{Option, none, some, Option·map, Option·none-ne-some, Option·some-injective}
@@ -25,6 +25,7 @@ use Rattle.srp.specs.declared.Reply.the-variants.{Refused, Performed}
 use Rattle.srp.proofs.Checks.{passes}
 use Rattle.srp.proofs.ListLaws.{length-change, without-map, change-map, all-without, all-change}
 use Rattle.machine.proofs.Tags.{distinct-without, distinct-change, one-goes}
+use Rattle.machine.proofs.Order.{Ordered, ordered-without, tags-change}
 use Rattle.machine.proofs.Deltas.{response-carries, request-carries}
 use Rattle.srp.proofs.Refusing.{unrefused, unless-iff}
 use Rattle.machine.proofs.Moves.{plan-steady}
@@ -104,6 +105,7 @@ module _ {L : Login} {m : Machine} {p : Port} (h : Ok L m p) where
         commands = rw (h .work .commands) (change-map (openIn (L .terms)) (hasTag tag) g g′ (m .work .tracks) agree);
         sound = all-change (Sound (L .terms)) (hasTag tag) g′ (m .work .tracks) (h .work .sound) keep;
         distinct = distinct-change (hasTag tag) g′ same (m .work .tracks) (h .work .distinct);
+        order = subst (λ (tags : List ℕ). Ordered tags (m .work .tags)) (sym (tags-change (hasTag tag) g′ same (m .work .tracks))) (h .work .order);
       })
 
   pub add-obeys : (k : ℕ) → Obeys L m (byOwner (adding L k)) (addDef p k)
@@ -147,6 +149,7 @@ module _ {L : Login} {m : Machine} {p : Port} (h : Ok L m p) where
         commands = rw (h .work .commands) (without-map (openIn (L .terms)) (hasTag tag) (m .work .tracks));
         sound = all-without (Sound (L .terms)) (hasTag tag) (m .work .tracks) (h .work .sound);
         distinct = distinct-without (hasTag tag) (m .work .tracks) (h .work .distinct);
+        order = ordered-without (hasTag tag) (m .work .tracks) (m .work .tags) (h .work .distinct) (h .work .order);
       }) in
       ends (find (hasTag tag) (p .held)) refl is-open o
     where

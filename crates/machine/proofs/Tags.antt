@@ -29,7 +29,7 @@ absent-snoc : (n : ℕ) (ts : List Track) (x : Track) → Absent n ts → eqb n 
 absent-snoc n [] x a e = join n x [] e refl
 absent-snoc n (t ∷ ts) x a e = let q = apart n t ts a in join n t (ts ++ (x ∷ [])) (q .0) (absent-snoc n ts x (q .1) e)
 
-other-way : (a b : ℕ) → eqb a b ≡ false → eqb b a ≡ false
+pub other-way : (a b : ℕ) → eqb a b ≡ false → eqb b a ≡ false
 other-way a b e = ne-eqb b a (λ q. eqb-false a b e (sym q))
 
 -- one more with a tag that none has
@@ -39,7 +39,7 @@ distinct-snoc (t ∷ ts) x d a =
     let q = apart (x .request .tag) t ts a in
     (absent-snoc (t .request .tag) ts x (d .0) (other-way (x .request .tag) (t .request .tag) (q .0)), distinct-snoc ts x (d .1) (q .1))
 
-absent-without : (n : ℕ) (f : Track → Bool) (ts : List Track) → Absent n ts → Absent n (without f ts)
+pub absent-without : (n : ℕ) (f : Track → Bool) (ts : List Track) → Absent n ts → Absent n (without f ts)
 absent-without n f [] a = refl
 absent-without n f (t ∷ ts) a = let q = apart n t ts a in go (f t) (q .0) (absent-without n f ts (q .1))
   where

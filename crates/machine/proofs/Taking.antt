@@ -22,8 +22,9 @@ use Rattle.srp.specs.declared.Terms.{Terms}
 use Rattle.srp.specs.Writing.{targetLogout, solicited}
 use Rattle.srp.specs.Take.{Outcome, silent, hangUp, Tables, tablesFit, fieldsFit, newOpen, aborted, taskCode, takeChecks, accepted, requestIn, conducted, refusedBy, takeBy, takeRead, takeDef}
 use Rattle.srp.specs.Answers.{refusalIn}
-use Rattle.machine.specs.Machine.{deltas, requests, Track, fresh, newTrack, Work, Machine, withWork, withQueue, tookRequest, Login, read}
+use Rattle.machine.specs.Machine.{deltas, requests, Track, fresh, newTrack, Work, Machine, withWork, withQueue, tookRequest, tookCommand, Login, read}
 use Rattle.machine.specs.Actions.{atFront}
+use Rattle.machine.specs.Demand.{Absent}
 use Rattle.machine.specs.Events.{reading, afterRefusal, refusalWrites, frontEffect, frontWrites, frontCloses, taking as takingOf}
 use Rattle.srp.specs.declared.Refusal.{Refusal}
 use Rattle.srp.specs.declared.Refusal.the-variants.{NoCredit}
@@ -34,6 +35,7 @@ use Rattle.srp.specs.declared.Reply.the-variants.{Refused, Performed, NewComman
 use Rattle.srp.proofs.Checks.{passes}
 use Rattle.srp.proofs.ListLaws.{length-without, without-map, map-snoc, all-snoc, all-without}
 use Rattle.machine.proofs.Tags.{distinct-snoc, distinct-without}
+use Rattle.machine.proofs.Order.{ordered-snoc, ordered-without}
 use Rattle.srp.proofs.FieldLaws.{both}
 use Rattle.srp.proofs.Segments.{few-segments}
 use Rattle.srp.proofs.Refusing.{unrefused, refused-as, read-iff, Suits, drawn, passed}
@@ -80,12 +82,14 @@ module _ {L : Login} {m : Machine} {p : Port} (h : Ok L m p) (s : List ℕ) (ss 
     accept (Bad r) k z = absurd (true≢false (passes (takeChecks p room s t (Bad r)) z .1 .1 .0))
     accept (Cmd c) k z =
         let q = passed p room s t c z in
-        let o = spent k (p .held ++ (newOpen c s t ∷ [])) (tookRequest (m .work) (m .work .tracks ++ (newTrack c s t ∷ [])) 0)
+        let free : Absent (c .request .tag) (m .work .tracks) = sym (open-same h (c .request .tag)) ∙ q .fresh in
+        let o = spent k (p .held ++ (newOpen c s t ∷ [])) (tookCommand (m .work) (newTrack c s t))
         (record {
           counts = omega (arith, h .work .counts, length-append (m .work .tracks) (newTrack c s t ∷ []));
           commands = rw (h .work .commands) (sym (map-snoc (openIn (L .terms)) (m .work .tracks) (newTrack c s t)));
           sound = all-snoc (Sound (L .terms)) (m .work .tracks) (newTrack c s t) (h .work .sound) (new-sound c (q .tables) (q .fields));
-          distinct = distinct-snoc (m .work .tracks) (newTrack c s t) (h .work .distinct) (sym (open-same h (c .request .tag)) ∙ q .fresh);
+          distinct = distinct-snoc (m .work .tracks) (newTrack c s t) (h .work .distinct) free;
+          order = ordered-snoc (m .work .tracks) (newTrack c s t) (m .work .tags) free (h .work .order);
         }) in
         quiet o (NewCommand (c .request .tag) (c .request .lun) (c .cdb))
     accept (TskMgmt c) k z =
@@ -96,6 +100,7 @@ module _ {L : Login} {m : Machine} {p : Port} (h : Ok L m p) (s : List ℕ) (ss 
           commands = rw (h .work .commands) (without-map (openIn (L .terms)) (aborted c) (m .work .tracks));
           sound = all-without (Sound (L .terms)) (aborted c) (m .work .tracks) (h .work .sound);
           distinct = distinct-without (aborted c) (m .work .tracks) (h .work .distinct);
+          order = ordered-without (aborted c) (m .work .tracks) (m .work .tags) (h .work .distinct) (h .work .order);
         }) in
         codes o (TaskAnswered (c .request .tag) (c .request .lun)) (solicited (c .request) (taskCode (c .function))) (c .request .tag) (taskCode (c .function))
     accept (CredRsp g) k z = quiet (with-wire h (reading s t (CredRsp g) .effect (withQueue m ss) .wire) (p .announced) false (same-credit k) refl) CreditSettled
@@ -110,7 +115,7 @@ module _ {L : Login} {m : Machine} {p : Port} (h : Ok L m p) (s : List ℕ) (ss 
         go (hangsUp reason) y = gone r reason
         go answered y = codes
             (spent y (p .held) (tookRequest (m .work) (m .work .tracks) 1)
-            (record { counts = omega (arith, h .work .counts); commands = h .work .commands; sound = h .work .sound; distinct = h .work .distinct }))
+            (record { counts = omega (arith, h .work .counts); commands = h .work .commands; sound = h .work .sound; distinct = h .work .distinct; order = h .work .order }))
             (Refused r) (requestIn d .ucsolnt) (requestIn d .tag) 0x02
         go stays y = quiet h (Refused r)
         go altersNothing y = absurd (true≢false (sym (h .live) ∙ y))

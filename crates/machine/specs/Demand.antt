@@ -23,7 +23,7 @@ use Rattle.srp.specs.declared.Refusal.{Refusal}
 use Rattle.srp.specs.declared.Reply.{Reply}
 use Rattle.srp.specs.declared.Reply.the-variants.{Refused, Counts, Listed}
 use Rattle.srp.specs.declared.Counters.{Counters}
-use Rattle.machine.specs.Machine.{isResponse, isCreditRequest, deltaOf, deltas, Progress, Track, shownAs, Machine, requestsHeld, four, lack, unused, wantedBy, join, Login}
+use Rattle.machine.specs.Machine.{isResponse, isCreditRequest, deltaOf, deltas, Progress, Track, shownAs, Machine, requestsHeld, four, lack, unused, wantedBy, tracked, oldestFirst, join, Login}
 use Rattle.machine.specs.Actions.{Action}
 use Rattle.machine.specs.Operations.{wholeOf}
 use Rattle.machine.specs.Events.{Event, actionOf, after, closes}
@@ -77,13 +77,15 @@ module _ (L : Login) where
   counted m d = record { wanted = wantedBy (L .buffers) m; announced = unused m; held = requestsHeld m; owed = d }
 
   -- what holds at the start and after every event, while the channel is open. "Owed is the D that the port reports"; "Requests held = taken -
-  -- ended = commands open; H says so, and as many are listed after each call"
+  -- ended = commands open; H says so, and as many are listed after each call"; the listing's records are those of the machine's own list, with its own h,
+  -- and stand as their commands were taken
   pub record Now (m : Machine) (p : Port) : Type 0 where
     pub sum : Sum m (owed p)
     pub reports : countersDef p .reply ≡ Counts (counted m (owed p))
     pub commands : m .work .taken ≡ m .work .ended + length (m .work .tracks)
     pub lists : listDef p mostBuffers .reply ≡ Listed (requestsHeld m)
     pub listed : listing p ≡ map shownAs (m .work .tracks)
+    pub oldest-first : map (λ r. r .tag) (listing p) ≡ oldestFirst (λ tag. isSome (tracked m tag)) (m .work .tags)
     pub distinct : Distinct (m .work .tracks)
     pub in-order : All (InOrder (L .terms)) (m .work .tracks)
     pub moves : All (CutAsNamed (L .terms)) (m .work .tracks)

@@ -1,4 +1,4 @@
--- Document 01, "Credit", and document 02, jobs 1 and 4: the events of demand 3, each in one definition (specs/Actions.antt has what an event is).
+-- Document 01, "Credit", and document 02, job 1: the events of demand 3, each in one definition (specs/Actions.antt has what an event is).
 use mathlib.Core.Path.{_≡_}
 use mathlib.Core.Bool.{Bool, true, false, cond, not, _&&_, _||_}
 use mathlib.Core.List.{List, [], _∷_, _++_}
@@ -19,7 +19,7 @@ use Rattle.srp.specs.Calls.{isPlanned, badSense, planDef, moveDef, stepDef, fin
 use Rattle.srp.specs.Answers.{refusalIn, operationIn}
 use Rattle.machine.specs.Actions.{Action, always, anything, atFront, between, Owners, byOwner}
 use Rattle.machine.specs.Operations.{isBeyond, isUnfinished, Right}
-use Rattle.machine.specs.Machine.{deltaOf, Track, finalBy, newTrack, plannedFor, withMove, withOperation, Machine, lack, unused, wantedBy, tracked, withWire, withWork, withBuffers, withQueue, withTracks, tookRequest, saysLogout, join, Login, read}
+use Rattle.machine.specs.Machine.{deltaOf, Track, finalBy, newTrack, plannedFor, withMove, withOperation, Machine, lack, unused, wantedBy, tracked, withWire, withWork, withBuffers, withQueue, withTracks, tookRequest, tookCommand, saysLogout, join, Login, read}
 use Rattle.srp.specs.declared.Refusal.{Refusal}
 use Rattle.srp.specs.declared.Refusal.the-variants.{TableLength, Fields, Argument, NoCredit, TagOpen, TagNotOpen, CreditResponse, Unanswered, NotOwed, Wanted, Unplanned, Planned, Offset, Unfinished}
 use Rattle.srp.specs.declared.Direction.{Direction}
@@ -73,7 +73,7 @@ reading s t (Cmd c) =
           ∷ (not (tablesFit c t), TableLength)
           ∷ (not (fieldsFit c s t), Fields)
           ∷ [];
-      effect = λ m. withWork m (tookRequest (m .work) (m .work .tracks ++ (newTrack c s t ∷ [])) 0);
+      effect = λ m. withWork m (tookCommand (m .work) (newTrack c s t));
       writes = [];
       closes = false;
     }
@@ -182,7 +182,8 @@ finishing room tag status sense =
       call = λ p. finishDef p room tag status sense;
       checks = λ m. short room ∷ (badSense status sense, Argument) ∷ (not (isSome (tracked m tag)), TagNotOpen) ∷ [];
       effect = λ m r.
-          withWork m (record { tracks = without (hasTag tag) (m .work .tracks); taken = m .work .taken; ended = m .work .ended + 1 });
+          withWork m
+          (record { tracks = without (hasTag tag) (m .work .tracks); tags = m .work .tags; taken = m .work .taken; ended = m .work .ended + 1 });
       writes = rsp .code ∷ [];
       answer = λ m r ss. (t : Track) → tracked m tag ≡ some t → (delta : ℕ) × (ss ≡ response (finalBy t status sense delta) ∷ []);
     }

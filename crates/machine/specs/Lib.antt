@@ -1,4 +1,5 @@
 pub mod Machine
+pub mod OrderRows
 pub mod Operations
 pub mod Actions
 pub mod Events

@@ -1,7 +1,7 @@
--- Document 01, "Credit", from "The two-ended machine" on, and document 02, jobs 1 and 4: the initiator, two queues and the port, fed the events' arguments, the
--- calls' replies and the messages written, as bytes. Of the port's state the machine is given nothing here, and D alone where specs/Demand.antt states
+-- Document 01, "Credit", from "The two-ended machine" on, and document 02, jobs 1, 4 and 5: the initiator, two queues and the port, fed the events' arguments,
+-- the calls' replies and the messages written, as bytes. Of the port's state the machine is given nothing here, and D alone where specs/Demand.antt states
 -- the sum. What each event does to it is specs/Events.antt.
-use mathlib.Core.Bool.{Bool, true, false, cond, _||_}
+use mathlib.Core.Bool.{Bool, true, false, cond, not, _&&_, _||_}
 use mathlib.Core.List.{List, [], _∷_, _++_}
 use mathlib.Core.Option.{Option, none, some}
 use Prim.Native.Nat.{ℕ, _+_, _-_, min}
@@ -145,9 +145,10 @@ pub record Wire : Type 0 where
   pub toInitiator : List (List ℕ)
   pub waiting : Bool
 
--- the open commands, and how many requests were taken and ended
+-- the open commands; the tags of all commands taken, in the order of taking; and how many requests were taken and ended
 pub record Work : Type 0 where
   pub tracks : List Track
+  pub tags : List ℕ
   pub taken : ℕ
   pub ended : ℕ
 
@@ -162,7 +163,7 @@ abbrev pub start : ℕ → Machine
 start n =
     record {
       wire = record { limit = n; toPort = []; toInitiator = []; waiting = false };
-      work = record { tracks = []; taken = 0; ended = 0 };
+      work = record { tracks = []; tags = []; taken = 0; ended = 0 };
       added = 0;
       withdrawn = 0;
     }
@@ -190,6 +191,18 @@ wantedBy N m = N + m .added - m .withdrawn
 abbrev pub tracked : Machine → ℕ → Option Track
 tracked m tag = find (hasTag tag) (m .work .tracks)
 
+-- ── the order of taking
+
+abbrev pub isAmong : ℕ → List ℕ → Bool
+isAmong tag [] = false
+isAmong tag (t ∷ ts) = eqb tag t || isAmong tag ts
+
+-- "Records now come as the commands were taken, oldest first. A tag used again counts as taken anew": of the tags in the order of taking those that are
+-- open, each where it was taken last
+abbrev pub oldestFirst : (isOpen : ℕ → Bool) → List ℕ → List ℕ
+oldestFirst isOpen [] = []
+oldestFirst isOpen (tag ∷ later) = cond (isOpen tag && not (isAmong tag later)) (tag ∷ oldestFirst isOpen later) (oldestFirst isOpen later)
+
 -- ── the machine with other parts
 
 abbrev pub withWire : Machine → Wire → Machine
@@ -208,11 +221,15 @@ withQueue m queue =
 
 -- other open commands, and as many requests taken and ended as before
 abbrev pub withTracks : Machine → List Track → Machine
-withTracks m ts = withWork m (record { tracks = ts; taken = m .work .taken; ended = m .work .ended })
+withTracks m ts = withWork m (record { tracks = ts; tags = m .work .tags; taken = m .work .taken; ended = m .work .ended })
 
 -- a request more was taken, and n ended
 abbrev pub tookRequest : Work → List Track → ℕ → Work
-tookRequest w ts n = record { tracks = ts; taken = w .taken + 1; ended = w .ended + n }
+tookRequest w ts n = record { tracks = ts; tags = w .tags; taken = w .taken + 1; ended = w .ended + n }
+
+-- a command more was taken, and is open
+abbrev pub tookCommand : Work → Track → Work
+tookCommand w t = record { tracks = w .tracks ++ (t ∷ []); tags = w .tags ++ (t .request .tag ∷ []); taken = w .taken + 1; ended = w .ended }
 
 -- "Each message written joins the queue to the initiator"
 abbrev pub joined : Machine → List ℕ → Machine

@@ -10,6 +10,7 @@ use borrow.Author.Tests.{lt-ltb, le-ltb}
 use lib.ListN.{length, getD, take, drop, set, replicate, length-set, length-map, take-append-drop}
 use lib.Seq.{take-suc, take-suc-set, getD-take, take-length, drop-set-lt, drop-drop}
 use Rattle.srp.specs.Limits.{mostBuffers}
+use Rattle.srp.specs.Lists.{over}
 use Rattle.srp.specs.Credit.{Port}
 use Rattle.srp.specs.Calls as calls
 use Rattle.srp.specs.declared.Record.{Record}
@@ -21,7 +22,8 @@ use Rattle.words.specs.Head.{headOf}
 use Rattle.words.specs.View.{opens, openOf, shown, view}
 use Rattle.words.specs.declared.Slot.{Slot}
 use Rattle.words.proofs.Ports.{opens-long, while-open, while-closed, view-live}
-use Rattle.report.specs.Reports.{slotRecord, noRecord, CountFor}
+use Rattle.srp.proofs.Listing.{open-all, closed-none}
+use Rattle.report.specs.Reports.{slotRecord, noRecord, noRecords, CountFor}
 
 pub record Filling (l : List ℕ) (n : ℕ) (records : List Record) (i : ℕ) : Type 0 where
   pub count : n ≡ headOf l .held
@@ -29,19 +31,12 @@ pub record Filling (l : List ℕ) (n : ℕ) (records : List Record) (i : ℕ) : 
   pub small : n ≤ mostBuffers
   pub long : length records ≡ mostBuffers
   pub done : take i records ≡ map slotRecord (take i (opens l))
-  pub blank : drop i records ≡ replicate (mostBuffers - i) noRecord
+  pub blank : drop i records ≡ drop i noRecords
 
 -- none is listed yet
 pub fill-none : (l : List ℕ) (n : ℕ) (x : Record) → n ≡ headOf l .held → x ≡ noRecord → Filling l n (replicate mostBuffers x) 0
 fill-none l n x e b =
     record { count = e; in-count = omega arith; small = omega arith; long = refl; done = refl; blank = ap (replicate mostBuffers) b }
-
--- one blank record less
-one-less : {A : Type 0} (m : ℕ) (a : A) → drop 1 (replicate m a) ≡ replicate (m - 1) a
-one-less zero a = refl
-one-less (suc m) a =
-    let e : m ≡ suc m - 1 = omega arith in
-    ap (λ (k : ℕ). replicate k a) e
 
 module _ (l : List ℕ) (n : ℕ) (records : List Record) (i : ℕ) (K : Filling l n records i) where
   -- the next command is listed
@@ -50,7 +45,6 @@ module _ (l : List ℕ) (n : ℕ) (records : List Record) (i : ℕ) (K : Filling
       let a : i < length records = omega (arith, K .long, K .small) in
       let b : i < length (opens l) = rw (opens-long l) (omega (arith, K .count)) in
       let q : c ≡ getD (opens l) i noSlot = e ∙ sym (getD-take (headOf l .held) (slots l) i noSlot (omega (arith, K .count))) in
-      let f : mostBuffers - i - 1 ≡ mostBuffers - (i + 1) = omega arith in
       record {
         count = K .count;
         in-count = omega arith;
@@ -61,18 +55,17 @@ module _ (l : List ℕ) (n : ℕ) (records : List Record) (i : ℕ) (K : Filling
             drop-set-lt (i + 1) records i (slotRecord c) (omega arith)
             ∙ sym (drop-drop 1 i records)
             ∙ ap (drop 1) (K .blank)
-            ∙ one-less (mostBuffers - i) noRecord
-            ∙ ap (λ (m : ℕ). replicate m noRecord) f;
+            ∙ drop-drop 1 i noRecords;
       }
 
   -- all are listed
-  pub filled : n ≤ i → records ≡ map slotRecord (opens l) ++ replicate (mostBuffers - n) noRecord
+  pub filled : n ≤ i → records ≡ map slotRecord (opens l) ++ drop n noRecords
   filled h =
       let e : i ≡ n = omega (arith, K .in-count) in
       let z : length (opens l) ≡ n = opens-long l ∙ sym (K .count) in
       let t : take n records ≡ map slotRecord (opens l) =
       rw (← e) (K .done ∙ ap (λ (x : List Slot). map slotRecord x) (ap (λ (k : ℕ). take k (opens l)) (e ∙ sym z) ∙ take-length (opens l))) in
-      let d : drop n records ≡ replicate (mostBuffers - n) noRecord = rw (← e) (K .blank) in
+      let d : drop n records ≡ drop n noRecords = rw (← e) (K .blank) in
       sym (take-append-drop n records) ∙ rw (t, d) refl
 
 -- the record of a command is its slot's, whatever the store
@@ -80,26 +73,22 @@ slot-records : (st : List ℕ) (cs : List Slot) → map calls.recordOf (map (ope
 slot-records st [] = refl
 slot-records st (c ∷ cs) = ap (λ (x : List Record). slotRecord c ∷ x) (slot-records st cs)
 
--- the records of a port, and blank ones up to 16
-abbrev inFull : Port → List Record
-inFull p = calls.listing p ++ replicate (mostBuffers - length (p .held)) noRecord
-
--- of the closed port: none
+-- of the closed port: none, all blank
 pub closed-count : (l st : List ℕ) → headOf l .live ≡ false → 0 ≡ length (view l st .held)
 closed-count l st e = ap (λ (p : Port). length (p .held)) (sym (while-closed l st e))
 
--- all blank
-pub closed-listing : (l st : List ℕ) (x : Record) → headOf l .live ≡ false → x ≡ noRecord
-    → replicate mostBuffers x ≡ calls.listing (view l st) ++ replicate (mostBuffers - length (view l st .held)) noRecord
-closed-listing l st x e b = ap (replicate mostBuffers) b ∙ ap inFull (sym (while-closed l st e))
+pub closed-listing : (l st : List ℕ) (x : Record) → headOf l .live ≡ false → x ≡ noRecord → replicate mostBuffers x ≡ calls.listedInto (view l st) noRecords
+closed-listing l st x e b =
+    ap (replicate mostBuffers) b ∙ ap (λ (rs : List Record). over rs noRecords) (sym (closed-none (view l st) mostBuffers (view-live l st ∙ e)))
 
 -- of an open port: those of its slots
-pub open-listing : (l st : List ℕ) → headOf l .live ≡ true
-    → map slotRecord (opens l) ++ replicate (mostBuffers - headOf l .held) noRecord ≡ calls.listing (view l st) ++ replicate (mostBuffers - length (view l st .held)) noRecord
+open-records : (l st : List ℕ) → headOf l .live ≡ true → calls.listing (view l st) ≡ map slotRecord (opens l)
+open-records l st e = ap (λ (p : Port). calls.listing p) (while-open l st e) ∙ slot-records st (opens l)
+
+pub open-listing : (l st : List ℕ) → headOf l .live ≡ true → map slotRecord (opens l) ++ drop (headOf l .held) noRecords ≡ calls.listedInto (view l st) noRecords
 open-listing l st e =
-    ap (λ (x : List Record). x ++ replicate (mostBuffers - headOf l .held) noRecord) (sym (slot-records st (opens l)))
-    ∙ ap (λ (n : ℕ). calls.listing (shown l st) ++ replicate (mostBuffers - n) noRecord) (sym (length-map (opens l) (openOf st) ∙ opens-long l))
-    ∙ ap inFull (sym (while-open l st e))
+    ap (λ (n : ℕ). map slotRecord (opens l) ++ drop n noRecords) (sym (length-map (opens l) slotRecord ∙ opens-long l))
+    ∙ ap (λ (rs : List Record). over rs noRecords) (sym (open-all (view l st) (view-live l st ∙ e) ∙ open-records l st e))
 
 -- ── how many there are, and which
 
@@ -139,8 +128,5 @@ module _ (l : List ℕ) (room : ℕ) where
           fits = λ m f. let k : m ≡ n = cc in (omega arith, omega arith);
           records = λ m f st.
               let k : m ≡ headOf l .held = cc in
-              rw k
-              (ap (λ (p : Port). calls.listing p) (while-open l st e)
-              ∙ slot-records st (opens l)
-              ∙ first-mapped slotRecord (headOf l .held) (slots l));
+              rw k (open-records l st e ∙ first-mapped slotRecord (headOf l .held) (slots l));
         }

@@ -1,6 +1,6 @@
 -- A list whose first elements are another's, as the lent list is in each turn of the loop; once the loop ends this is the listing.
 -- Assumes nothing.
-use mathlib.Core.Path.{_≡_, sym, _∙_, ap, subst}
+use mathlib.Core.Path.{_≡_, sym, _∙_, ap}
 use mathlib.Core.List.{List, _++_}
 use Prim.Native.Nat.{ℕ, suc, _+_, _≤_, _<_}
 use native.Mathlib.Omega.{arith}
@@ -8,10 +8,7 @@ use native.Mathlib.Numerals.{add-one}
 use lib.ListN.{length, getD, take, drop, set}
 use lib.Seq.{length-take-le, length-front, take-suc, drop-cons, append-snoc, set-at}
 use Rattle.srp.specs.Credit.{Port}
-use Rattle.srp.specs.Answers.{returned}
-use Rattle.srp.specs.Calls.{listing, EachListed}
 use Rattle.srp.specs.declared.Record.{Record}
-use Rattle.srp.proofs.Listing.{oldest-first}
 use Rattle.report.specs.declared.Listing.{Listing}
 use Rattle.report.specs.Reports.{ListingFor, ListsInto}
 
@@ -35,13 +32,4 @@ module _ {A : Type 0} (new old : List A) where
 -- the lent list with all that is to be written
 pub lists-into : (p : Port) (before : List Record) (f : Listing) → ListingFor p (length before) f
     → ListsInto p before (into (f .records) before (f .count)) (f .reply)
-lists-into p before f K = record {
-  reply = K .reply;
-  oldest-first = listed;
-  unrefused =
-      λ z. subst (EachListed p before) (sym (listed z)) (oldest-first p before (subst (λ (n : ℕ). n ≤ length before) (K .count z) (K .fits)));
-  refused = λ z. ap (into (f .records) before) (K .refused z);
-}
-  where
-    listed : returned (f .reply) ≡ 0 → into (f .records) before (f .count) ≡ listing p ++ drop (length (p .held)) before
-    listed z = λ i. K .listed z i ++ drop (K .count z i) before
+lists-into p before f K = record { reply = K .reply; records = λ i. K .records i ++ drop (K .count i) before }

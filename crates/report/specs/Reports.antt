@@ -1,14 +1,13 @@
 -- What the owner reads of a port: the counters, the listing by value, and the listing in a lent list. Document 01: "the open commands listed into
--- a lent list of records (tag, LUN, bytes handed out each way), each command once; .. the rest of the list untouched". The order, which is free, is
--- the oldest first. Document 02, job 1: the listing takes h, "the highest offset handed out + 1, 0 where nothing was", for the bytes handed out.
+-- a lent list of records (tag, LUN, bytes handed out each way), each command once; .. the rest of the list untouched". Document 02, job 5: "Records now come
+-- as the commands were taken, oldest first"; job 1: the listing takes h, "the highest offset handed out + 1, 0 where nothing was", for the bytes handed out.
 use mathlib.Core.Path.{_≡_}
-use mathlib.Core.List.{List, _++_, map}
-use Prim.Native.Nat.{ℕ, _-_, _≤_}
-use lib.ListN.{length, take, drop, replicate}
+use mathlib.Core.List.{List, map}
+use Prim.Native.Nat.{ℕ, _≤_}
+use lib.ListN.{length, take, replicate}
 use Rattle.srp.specs.Limits.{mostBuffers}
 use Rattle.srp.specs.Credit.{Port}
-use Rattle.srp.specs.Answers.{returned}
-use Rattle.srp.specs.Calls.{countersDef, listing, listDef, EachListed}
+use Rattle.srp.specs.Calls.{countersDef, listing, listDef, recordsFor, listedInto}
 use Rattle.srp.specs.declared.Record.{Record}
 use Rattle.srp.specs.declared.Reply.{Reply}
 use Rattle.srp.specs.declared.Reply.the-variants.{Listed}
@@ -17,7 +16,7 @@ use Rattle.words.specs.View.{view}
 use Rattle.words.specs.declared.Slot.{Slot}
 use Rattle.report.specs.declared.Listing.{Listing}
 
--- the record of a command in its slot, those of all slots, and one that stands for no command
+-- the record of a command in its slot, those of all slots, one that stands for no command, and 16 of these
 abbrev pub slotRecord : Slot → Record
 slotRecord c = record { tag = c .request .tag; lun = c .request .lun; out = c .out .transfer .highest; inn = c .inn .transfer .highest }
 
@@ -27,27 +26,27 @@ slotRecords l = map slotRecord (slots l)
 abbrev pub noRecord : Record
 noRecord = record { tag = 0; lun = 0; out = 0; inn = 0 }
 
--- the listing of a port: how many, each command once, oldest first, and blank records up to 16
+abbrev pub noRecords : List Record
+noRecords = replicate mostBuffers noRecord
+
+-- the listing of a port by value: how many, and 16 records, blank behind those of the open commands
 pub record ListingIs (p : Port) (r : Listing) : Type 0 where
   pub reply : r .reply ≡ listDef p mostBuffers .reply
   pub count : r .count ≡ length (p .held)
-  pub records : r .records ≡ listing p ++ replicate (mostBuffers - length (p .held)) noRecord
+  pub records : r .records ≡ listedInto p noRecords
 
--- what a listing writes to a lent list of `room` records: those of the open commands, or none where it is refused
+-- what a listing writes to a lent list of `room` records
 pub record ListingFor (p : Port) (room : ℕ) (r : Listing) : Type 0 where
   pub reply : r .reply ≡ listDef p room .reply
   pub fits : r .count ≤ room
   pub small : r .count ≤ mostBuffers
-  pub count : returned (r .reply) ≡ 0 → r .count ≡ length (p .held)
-  pub listed : returned (r .reply) ≡ 0 → take (r .count) (r .records) ≡ listing p
-  pub refused : (returned (r .reply) ≡ 0 → ⊥) → r .count ≡ 0
+  pub count : r .count ≡ length (recordsFor p room)
+  pub records : take (r .count) (r .records) ≡ recordsFor p room
 
--- the lent list before and after the call; a refusal leaves it as it was
+-- the lent list before and after the call
 pub record ListsInto (p : Port) (before after : List Record) (r : Reply) : Type 0 where
   pub reply : r ≡ listDef p (length before) .reply
-  pub unrefused : returned r ≡ 0 → EachListed p before after
-  pub oldest-first : returned r ≡ 0 → after ≡ listing p ++ drop (length (p .held)) before
-  pub refused : (returned r ≡ 0 → ⊥) → after ≡ before
+  pub records : after ≡ listedInto p before
 
 -- how many records a listing of the words l has in a lent list of `room`, and which
 pub record CountFor (l : List ℕ) (room : ℕ) (r : Reply) : Type 0 where

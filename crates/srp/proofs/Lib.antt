@@ -25,3 +25,4 @@ pub mod Sent
 pub mod Received
 pub mod Bench
 pub mod MoveRows
+pub mod ListRows

@@ -1,42 +1,82 @@
--- The listing: writing the open commands oldest first is one, and no listing changes a record behind them.
+-- The listing: what its reply says of its records; they stand first in the lent list, oldest first, and the rest of the list is untouched.
 -- Assumes nothing.
-use mathlib.Core.Path.{_≡_, refl, sym, ap, _∙_}
-use mathlib.Core.List.{List, [], _∷_, _++_}
+use mathlib.Core.Path.{_≡_, refl, sym, ap, _∙_, subst}
+use mathlib.Core.Bool.{Bool, true, false}
+use mathlib.Core.List.{List, [], _∷_}
+use mathlib.Core.Option.{Option, none, some}
 use Prim.Native.Nat.{ℕ, _+_, _≤_}
 use native.Mathlib.Omega.{arith}
 use lib.ListN.{length, take, drop, getD, length-append, length-drop, length-map}
 use lib.Seq.{take-at, drop-at, getD-drop}
-use Rattle.srp.specs.Lists.{Rearranged, nothing, same, swapped, chained}
+use denote.Enum.Declared.{tagOf}
+use types.Run.{OneOf, miss}
+use Rattle.srp.specs.Limits.{mostBuffers}
+use Rattle.srp.specs.Refusals.{firstOf}
+use Rattle.srp.specs.Lists.{over}
 use Rattle.srp.specs.Credit.{Port}
-use Rattle.srp.specs.Calls.{recordOf, listing, EachListed}
+use Rattle.srp.specs.Calls.{unless, recordOf, listing, listChecks, listOutcome, listDef, recordsBy, recordsFor, listedInto}
 use Rattle.srp.specs.declared.Record.{Record}
+use Rattle.srp.specs.declared.Refusal.{Refusal}
+use Rattle.srp.specs.declared.Reply.{Reply}
+use Rattle.srp.specs.declared.Reply.the-variants.{Listed}
+use Rattle.srp.proofs.Reply.{the-type}
 
-itself : {A : Type 0} (l : List A) → Rearranged l l
-itself [] = nothing
-itself (x ∷ l) = same (itself l)
+-- the replies other than `Listed`, by their place in the enum
+abbrev pub unlisted : List ℕ
+unlisted = 0 ∷ 1 ∷ 2 ∷ 3 ∷ 4 ∷ 5 ∷ 6 ∷ 7 ∷ 8 ∷ 9 ∷ 10 ∷ []
 
--- a rearrangement has as many elements
-as-many : {A : Type 0} {l m : List A} → Rearranged l m → length l ≡ length m
-as-many nothing = refl
-as-many (same r) = omega (arith, as-many r)
-as-many swapped = refl
-as-many (chained r s) = as-many r ∙ as-many s
+module _ (p : Port) (room : ℕ) where
+  -- an unrefused listing says how many commands are open, and writes the record of each
+  pub listed-all : (n : ℕ) → Listed n ≡ listDef p room .reply → (n ≡ length (p .held)) × (recordsFor p room ≡ listing p)
+  listed-all n = go (firstOf (listChecks p room))
+    where
+      go : (x : Option Refusal) → Listed n ≡ unless x p (listOutcome p) .reply → (n ≡ length (p .held)) × (recordsBy x p ≡ listing p)
+      go none q = (cc, refl)
+      go (some f) q = let z : _≡_ {A = ℕ} 0 1 = cc in absurd (omega arith)
 
-module _ (p : Port) (before : List Record) where
-  -- the open commands oldest first, and behind them what was there
-  pub oldest-first : length (p .held) ≤ length before → EachListed p before (listing p ++ drop (length (p .held)) before)
-  oldest-first h =
-      let n : length (listing p) ≡ length (p .held) = length-map (p .held) recordOf in
-      record {
-        once = rw (take-at (listing p) (drop (length (p .held)) before) (length (p .held)) n) (itself (listing p));
-        rest = drop-at (listing p) (drop (length (p .held)) before) (length (p .held)) n;
-        size = simp (length-append, length-drop) (omega arith);
-      }
+  -- a refused one writes none
+  pub refused-none : (r : Reply) → r ≡ listDef p room .reply → OneOf unlisted (tagOf the-type r) → recordsFor p room ≡ []
+  refused-none r q k = go (firstOf (listChecks p room)) q
+    where
+      go : (x : Option Refusal) → r ≡ unless x p (listOutcome p) .reply → recordsBy x p ≡ []
+      go none q = absurd (miss unlisted 11 tt (subst (λ (y : Reply). OneOf unlisted (tagOf the-type y)) q k))
+      go (some f) q = refl
 
-  -- as many records are written as commands are open
-  pub listed-many : (after : List Record) → EachListed p before after → length (take (length (p .held)) after) ≡ length (p .held)
-  listed-many after l = as-many (l .once) ∙ length-map (p .held) recordOf
+module _ (p : Port) where
+  -- a list of 16 has room for every listing of an open port
+  pub open-all : p .live ≡ true → recordsFor p mostBuffers ≡ listing p
+  open-all e = rw e
 
-  -- a record behind them stays
-  pub untouched : (after : List Record) → EachListed p before after → (k : ℕ) (d : Record) → getD after (length (p .held) + k) d ≡ getD before (length (p .held) + k) d
-  untouched after l k d = sym (getD-drop (length (p .held)) after k d) ∙ ap (λ (x : List Record). getD x k d) (l .rest) ∙ getD-drop (length (p .held)) before k d
+  pub closed-none : (room : ℕ) → p .live ≡ false → recordsFor p room ≡ []
+  closed-none room e = rw e
+
+  -- so what one list has room for, a list of 16 has
+  pub room-for-all : (room : ℕ) → recordsFor p room ≡ listing p → recordsFor p mostBuffers ≡ listing p
+  room-for-all room e = go (p .live) refl
+    where
+      go : (b : Bool) → p .live ≡ b → recordsFor p mostBuffers ≡ listing p
+      go true l = open-all l
+      go false l = closed-none mostBuffers l ∙ sym (closed-none room l) ∙ e
+
+-- ── the list after it
+
+module _ {A : Type 0} (xs before : List A) where
+  -- what is written stands first
+  pub first-written : take (length xs) (over xs before) ≡ xs
+  first-written = take-at xs (drop (length xs) before) (length xs) refl
+
+  -- what stands behind it stays
+  pub rest-untouched : drop (length xs) (over xs before) ≡ drop (length xs) before
+  rest-untouched = drop-at xs (drop (length xs) before) (length xs) refl
+
+  pub untouched : (k : ℕ) (d : A) → getD (over xs before) (length xs + k) d ≡ getD before (length xs + k) d
+  untouched k d =
+      sym (getD-drop (length xs) (over xs before) k d) ∙ ap (λ (l : List A). getD l k d) rest-untouched ∙ getD-drop (length xs) before k d
+
+  -- a list with room for it keeps its length
+  pub same-size : length xs ≤ length before → length (over xs before) ≡ length before
+  same-size h = simp (length-append, length-drop) (omega arith)
+
+-- as many records as commands are open
+pub as-many : (p : Port) → length (listing p) ≡ length (p .held)
+as-many p = length-map (p .held) recordOf

@@ -1,14 +1,13 @@
--- Document 01, and document 02, jobs 1 and 4: the other calls on a port. "Other calls: 1, 21, 11, 24, 30, 29, 26, 27, 28, those that apply"; a refusal alters
--- nothing.
-use mathlib.Core.Path.{_≡_}
+-- Document 01, and document 02, jobs 1, 4 and 5: the other calls on a port. "Other calls: 1, 21, 11, 24, 30, 29, 26, 27, 28, those that apply"; a refusal
+-- alters nothing.
 use mathlib.Core.Bool.{Bool, true, false, not, _&&_, _||_}
 use mathlib.Core.List.{List, [], _∷_, map}
 use mathlib.Core.Option.{Option, none, some}
 use Prim.Native.Nat.{ℕ, _+_, _-_, _%_, _^_, max}
 use lib.Dec.{ltb, leb, eqb}
-use lib.ListN.{length, take, drop}
+use lib.ListN.{length}
 use Rattle.srp.specs.Limits.{mostBuffers, longestSense}
-use Rattle.srp.specs.Lists.{find, change, without, Rearranged}
+use Rattle.srp.specs.Lists.{find, change, without, over}
 use Rattle.srp.specs.Refusals.{Check, firstOf, short}
 use Rattle.srp.specs.Cutting.{piece, next, trimmed}
 use Rattle.srp.specs.Both.{of, along}
@@ -236,6 +235,7 @@ abbrev pub recordOf : Open → Record
 recordOf c =
     record { tag = c .request .tag; lun = c .request .lun; out = c .sides .out .transfer .highest; inn = c .sides .inn .transfer .highest }
 
+-- "Records now come as the commands were taken, oldest first": take puts a command behind the others, also one with a tag used again
 abbrev pub listing : Port → List Record
 listing p = map recordOf (p .held)
 
@@ -249,8 +249,14 @@ listOutcome p = silent p (Listed (length (p .held)))
 abbrev pub listDef : Port → ℕ → Outcome
 listDef p room = unless (firstOf (listChecks p room)) p (listOutcome p)
 
--- the lent list before and after an unrefused listing: "each command once; their order is free, the rest of the list untouched"
-pub record EachListed (p : Port) (before after : List Record) : Type 0 where
-  pub once : Rearranged (take (length (p .held)) after) (listing p)
-  pub rest : drop (length (p .held)) after ≡ drop (length (p .held)) before
-  pub size : length after ≡ length before
+-- the records that it writes to a list of `room`: none where it is refused
+abbrev pub recordsBy : Option Refusal → Port → List Record
+recordsBy none p = listing p
+recordsBy (some f) p = []
+
+abbrev pub recordsFor : Port → ℕ → List Record
+recordsFor p room = recordsBy (firstOf (listChecks p room)) p
+
+-- the lent list after it
+abbrev pub listedInto : Port → List Record → List Record
+listedInto p before = over (recordsFor p (length before)) before

@@ -27,3 +27,4 @@ pub mod Table
 pub mod FurtherRows
 pub mod Written
 pub mod MoveRows
+pub mod ListRows

@@ -1,7 +1,8 @@
--- Lists by a test, as the port and the machine both use them.
+-- Lists by a test, as the port and the machine both use them; and a list written over another.
 use mathlib.Core.Bool.{Bool, true, false, cond}
-use mathlib.Core.List.{List, [], _∷_}
+use mathlib.Core.List.{List, [], _∷_, _++_}
 use mathlib.Core.Option.{Option, none, some}
+use lib.ListN.{length, drop}
 
 module _ {A : Type 0} where
   -- the first that passes
@@ -24,13 +25,10 @@ module _ {A : Type 0} where
   All P [] = Unit {0}
   All P (x ∷ xs) = P x × All P xs
 
+  -- the first of `before` give way to these, "the rest of the list untouched"
+  abbrev pub over : List A → List A → List A
+  over xs before = xs ++ drop (length xs) before
+
 abbrev pub isSome : {A : Type 0} → Option A → Bool
 isSome none = false
 isSome (some x) = true
-
--- the same elements, each as often, in any order
-pub data Rearranged {A : Type 0} : List A → List A → Type 0 where
-  nothing : Rearranged [] []
-  same : {x : A} {l m : List A} → Rearranged l m → Rearranged (x ∷ l) (x ∷ m)
-  swapped : {x y : A} {l : List A} → Rearranged (x ∷ y ∷ l) (y ∷ x ∷ l)
-  chained : {l m n : List A} → Rearranged l m → Rearranged m n → Rearranged l n

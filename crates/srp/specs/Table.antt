@@ -245,6 +245,12 @@ calls =
     ∷ refused 21 ∷ refused 21
     ∷ refused 21 ∷ refused 21 ∷ refused 21 ∷ [])
     -- listing
+    -- the oldest first, by age and not by tag; one in the middle ends and the others keep their order; "A tag used again counts as taken anew"
+    ∷ on-port (takes-in (no-data 3) ∷ takes-in (no-data 1) ∷ takes-in (no-data 2) ∷ lists 16 ∷ finish 1 ∷ lists 16 ∷ finish 3 ∷ takes-in (no-data 1)
+    ∷ takes-in (no-data 3) ∷ lists 16 ∷ [])
+    (command 3 0 16 ∷ command 1 0 16 ∷ command 2 0 16 ∷ listed ((3 ∷ 0 ∷ 0 ∷ 0 ∷ []) ∷ (1 ∷ 0 ∷ 0 ∷ 0 ∷ []) ∷ (2 ∷ 0 ∷ 0 ∷ 0 ∷ []) ∷ [])
+    ∷ performed ∷ rsp-good 1 1 0 0 0 ∷ listed ((3 ∷ 0 ∷ 0 ∷ 0 ∷ []) ∷ (2 ∷ 0 ∷ 0 ∷ 0 ∷ []) ∷ []) ∷ performed ∷ rsp-good 1 3 0 0 0
+    ∷ command 1 0 16 ∷ command 3 0 16 ∷ listed ((2 ∷ 0 ∷ 0 ∷ 0 ∷ []) ∷ (1 ∷ 0 ∷ 0 ∷ 0 ∷ []) ∷ (3 ∷ 0 ∷ 0 ∷ 0 ∷ []) ∷ []) ∷ [])
     ∷ on-port (takes-in direct-in ∷ takes-in (no-data 2) ∷ plans 9 0 1300 ∷ names 9 In 0 1300 ∷ steps 9 In ∷ lists 15 ∷ lists 16 ∷ [])
     (command 9 0 16 ∷ command 2 0 16 ∷ performed ∷ performed ∷ writes 7 0x1000 512 0 1 ∷ refused 11 ∷ listed ((9 ∷ 0 ∷ 0 ∷ 512 ∷ []) ∷ (2 ∷ 0 ∷ 0 ∷ 0 ∷ [])
     ∷ []) ∷ [])

@@ -4,11 +4,11 @@ use mathlib.Core.List.{List, [], _∷_, _++_}
 use mathlib.Core.Option.{Option, none, some}
 use Prim.Native.Nat.{ℕ, _-_}
 use lib.Dec.{ltb, eqb}
-use lib.ListN.{length, drop}
+use lib.ListN.{length}
 use Rattle.srp.specs.Limits.{creditTag}
 use Rattle.srp.specs.Bytes.{bit, write}
 use Rattle.srp.specs.Messages.{rsp, credReq, tLogout}
-use Rattle.srp.specs.Lists.{isSome}
+use Rattle.srp.specs.Lists.{isSome, over}
 use Rattle.srp.specs.Credit.{Side}
 use Rattle.srp.specs.declared.Request.{Request}
 use Rattle.srp.specs.declared.Residual.{Residual}
@@ -94,4 +94,4 @@ solicited r code = cond (eqb code 0) (r .scsolnt) (r .ucsolnt)
 -- "Messages go to a lent buffer of at least 132 bytes; bytes past the message keep their content"
 abbrev pub placed : List (List ℕ) → List ℕ → List ℕ
 placed [] buffer = buffer
-placed (s ∷ ss) buffer = s ++ drop (length s) buffer
+placed (s ∷ ss) buffer = over s buffer

@@ -45,6 +45,7 @@ pub const BASE: &str = "base.rows";
 pub const JOB_1: &str = "job1.rows";
 pub const JOB_2: &str = "job2.rows";
 pub const JOB_4: &str = "job4.rows";
+pub const JOB_5: &str = "job5.rows";
 
 /// Runs the rows of look.
 pub fn run_look(through: &str, look: impl Fn(&Look, &mut [u8]) -> u32) {
@@ -61,7 +62,7 @@ pub fn run_look(through: &str, look: impl Fn(&Look, &mut [u8]) -> u32) {
 /// Runs the rows of the cut, of all files that have some.
 pub fn run_cut(through: &str, cut: impl Fn(&Cut, &mut [u8]) -> u32) {
     run(BASE, &[("cut", 267)], through, |words| cut_row(words, &cut));
-    for (file, count) in [(JOB_1, 480), (JOB_4, 237)] {
+    for (file, count) in [(JOB_1, 480), (JOB_4, 237), (JOB_5, 230)] {
         run(file, &[("cut", count)], through, |words| {
             let row = job::in_base_words(words);
             cut_row(&row.split(' ').collect::<Vec<&str>>(), &cut)
@@ -78,9 +79,9 @@ fn cut_row(words: &[&str], cut: impl Fn(&Cut, &mut [u8]) -> u32) -> Result<(), S
     judge(lent, fill, answer, |buf| cut(&call, buf))
 }
 
-/// Runs the rows of the trace, which are all of job2.rows and some of job4.rows.
+/// Runs the rows of the trace, which are all of job2.rows and some of job4.rows and job5.rows.
 pub fn run_trace(through: &str, trace: impl Fn(&Trace, &mut [u8]) -> u32) {
-    for (file, count) in [(JOB_2, 3000), (JOB_4, 243)] {
+    for (file, count) in [(JOB_2, 3000), (JOB_4, 243), (JOB_5, 250)] {
         run(file, &[("trace", count)], through, |words| trace_row(words, &trace));
     }
 }

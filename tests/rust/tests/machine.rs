@@ -3,17 +3,20 @@
 use srp_tests::port::{library::Library, machine::Machine};
 use srp_tests::position;
 
-const STATES: [&str; 17] = [
+const STATES: [&str; 20] = [
     "16 commands open",
     "SRP_CRED_REQ lifts 1",
     "SRP_CRED_REQ lifts more",
     "SRP_RSP lifts 0",
     "SRP_RSP lifts 1",
     "SRP_RSP lifts more",
+    "a tag used again",
+    "aborted in the middle",
     "done after none",
     "done after one",
     "done after several",
     "ended with pieces left",
+    "finished in the middle",
     "h above the bytes handed out",
     "h below the bytes handed out",
     "move after operations",

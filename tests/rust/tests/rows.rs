@@ -33,3 +33,8 @@ fn move_rows() {
 fn number_rows() {
     port::rows::run_job_4(&mut Library::new(1), "the C interface");
 }
+
+#[test]
+fn order_rows() {
+    port::rows::run_job_5(&mut Library::new(1), "the C interface");
+}

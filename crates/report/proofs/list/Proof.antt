@@ -3,15 +3,14 @@ use mathlib.Core.Path.{refl, sym, _∙_, ap, subst}
 use mathlib.Core.List.{_++_, map}
 use Prim.Native.Nat.{ℕ, _+_, _-_}
 use native.Mathlib.Omega.{arith}
-use lib.ListN.{getD, set, replicate}
+use lib.ListN.{getD, set, drop}
 use Rattle.words.specs.Slots.{slots, noSlot}
-use Rattle.srp.specs.Limits.{mostBuffers}
 use Rattle.srp.specs.Take.{Outcome}
 use Rattle.srp.specs.declared.Record.{Record}
 use Rattle.srp.specs.declared.Reply.the-variants.{Listed}
 use Rattle.words.specs.View.{opens, view}
 use Rattle.words.proofs.Ports.{view-live}
-use Rattle.report.specs.Reports.{slotRecord, noRecord}
+use Rattle.report.specs.Reports.{slotRecord, noRecords}
 use Rattle.state.proofs.Opened.{head-closed, head-open, held-is}
 use Rattle.report.proofs.Cases.{list-closed, listed}
 use Rattle.report.proofs.Filling.{Filling, fill-none, fill-more, filled, closed-count, closed-listing, open-listing}
@@ -103,7 +102,7 @@ returns-2 c =
       count = sym (held-is G st e);
       records =
           filled l (c .before .before .before .get-head .result .held) (c .before .loop .records) (c .before .loop .i) (c .before .loop .inv) (c .loop-test .left)
-          ∙ ap (λ (n : ℕ). map slotRecord (opens l) ++ replicate (mostBuffers - n) noRecord) (G .held)
+          ∙ ap (λ (n : ℕ). map slotRecord (opens l) ++ drop n noRecords) (G .held)
           ∙ open-listing l st e;
     }
 

@@ -17,6 +17,7 @@ pub struct Channel {
     pub credit: Credit,
     /// A credit request is unanswered.
     pub unanswered: bool,
+    /// In the order of taking.
     pub commands: Vec<OpenCommand>,
 }
 

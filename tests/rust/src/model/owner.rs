@@ -106,8 +106,8 @@ impl Port {
     }
 
     /// "The open commands listed into a lent list of records (tag, LUN, bytes handed out each way), each command once;
-    /// .. the rest of the list untouched"; "the listing now take h for the bytes handed out". 21, 11 (under 16 records
-    /// of four words). Answer: how many.
+    /// .. the rest of the list untouched"; "the listing now take h for the bytes handed out"; "records now come as the
+    /// commands were taken, oldest first". 21, 11 (under 16 records of four words). Answer: how many.
     pub fn list(&mut self, records: &mut [u64], answer: &mut Answer) -> u32 {
         *answer = [0; 8];
         returned(self.open().and_then(|channel| {

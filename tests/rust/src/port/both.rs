@@ -46,8 +46,8 @@ impl Both {
     }
 
     fn compare(&mut self, call: &Call) -> Outcome {
-        let library = self.library.call(call).in_order();
-        let model = self.model.call(call).in_order();
+        let library = self.library.call(call);
+        let model = self.model.call(call);
         assert!(library == model, "{call:02x?}\nlibrary: {library:02x?}\n  model: {model:02x?}");
         library
     }

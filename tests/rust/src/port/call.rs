@@ -171,16 +171,4 @@ impl Outcome {
     pub fn message(&self) -> &[u8] {
         &self.buf[..self.answer[0] as usize]
     }
-
-    /// The outcome with the listed records sorted: "their order is free".
-    pub fn in_order(mut self) -> Self {
-        if !self.records.is_empty() && self.returned == 0 {
-            let count = self.answer[0] as usize;
-            let mut listed: Vec<Vec<u64>> = self.records.chunks_exact(4).take(count).map(<[u64]>::to_vec).collect();
-            listed.sort();
-            let listed = listed.concat();
-            self.records[..listed.len()].copy_from_slice(&listed);
-        }
-        self
-    }
 }

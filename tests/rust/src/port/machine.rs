@@ -1,9 +1,9 @@
 //! The two-ended machine of document 01: an initiator with its limit, two queues, and a port with its owner. It "is fed
 //! the events' arguments, the calls' refusals and the messages written; of the port's state it is given D alone, as
 //! owed". Its own counts say what each message lifts, which operations are handed out and how many of a move, and which
-//! call is refused for what went before; what is in a command it reads with the model (`expected`). All of it is
-//! asserted of each event, as demand 3 has it, and so is the type of the message that is written. Each message sent is
-//! traced too (`lines`).
+//! call is refused for what went before; what is in a command it reads with the model (`expected`). Its own list of the
+//! commands taken says in which order they are listed. All of it is asserted of each event, as demand 3 has it, and so is
+//! the type of the message that is written. Each message sent is traced too (`lines`).
 
 mod ends;
 mod expected;
@@ -85,7 +85,7 @@ impl<T: Target> Machine<T> {
     }
 
     fn call(&mut self, call: &Call) -> Outcome {
-        self.target.call(call).in_order()
+        self.target.call(call)
     }
 
     /// A call that is an event: it writes just the message that it has to, if any.
@@ -120,11 +120,9 @@ impl<T: Target> Machine<T> {
         }
 
         let listed = self.call(&Call::List { records: vec![0x5b; 64] });
-        let mut records: Vec<[u64; 4]> = self.ends.open.iter().map(|command| command.record()).collect();
-        records.sort_unstable();
-        let mut expected = records.concat();
+        let mut expected = self.ends.listing().concat();
         expected.resize(64, 0x5b);
-        assert_eq!((listed.returned, listed.answer[0]), (0, records.len() as u64), "as many are listed");
+        assert_eq!((listed.returned, listed.answer[0] as i64), (0, h), "as many are listed");
         assert_eq!(listed.records, expected, "the listing");
     }
 }

@@ -54,6 +54,23 @@ const JOB_4: [(&str, usize); 13] = [
     ("counters", 1372),
 ];
 
+/// Those of job5.rows.
+const JOB_5: [(&str, usize); 13] = [
+    ("session", 160),
+    ("login", 178),
+    ("take", 845),
+    ("plan", 501),
+    ("move", 504),
+    ("step", 234),
+    ("finish", 281),
+    ("add", 308),
+    ("withdraw", 297),
+    ("grant", 503),
+    ("close", 32),
+    ("list", 1111),
+    ("counters", 1307),
+];
+
 /// Runs the rows of base.rows in their order. "There is one current port. `login` replaces it, whatever its answer."
 /// They know no moves: after each plan that is not refused each direction gets one, offset 0, count R.
 pub fn run_base(target: &mut impl Target, through: &str) {
@@ -77,6 +94,10 @@ pub fn run_job_4(target: &mut impl Target, through: &str) {
     run_job(rows::JOB_4, &JOB_4, 4, target, through);
 }
 
+pub fn run_job_5(target: &mut impl Target, through: &str) {
+    run_job(rows::JOB_5, &JOB_5, 5, target, through);
+}
+
 /// Runs the rows of a job's file in their order. A session begins with a closed port.
 fn run_job(file: &str, kinds: &[(&str, usize)], level: u32, target: &mut impl Target, through: &str) {
     rows::run(file, kinds, through, |words| {
@@ -98,19 +119,29 @@ fn close(target: &mut impl Target) -> Result<(), String> {
     }
 }
 
-/// Makes a row's call and compares; the call, and what it returned. Below level 4 the rows know no number of a step.
+/// Makes a row's call and compares; the call, and what it returned. Below level 4 the rows know no number of a step, and
+/// below level 5 no order of a listing's records.
 fn judge(target: &mut impl Target, words: &[&str], level: u32) -> Result<(Call, u32), String> {
     let equals = words.iter().position(|&word| word == "=").expect("an answer");
     let (call, answer) = (read_call(&words[..equals]), &words[equals + 1..]);
-    let expected = read_outcome(&call, answer);
-    let mut outcome = target.call(&call).in_order();
+    let mut expected = read_outcome(&call, answer);
+    let mut outcome = target.call(&call);
     if level < 4 && matches!(call, Call::Step { .. }) {
         outcome.answer[6] = 0;
+    }
+    if level < 5 && matches!(call, Call::List { .. }) {
+        [&mut expected, &mut outcome].map(sort_listed);
     }
     if outcome != expected {
         return Err(format!("{call:02x?}\nexpected {expected:02x?}\n     got {outcome:02x?}"));
     }
     Ok((call, outcome.returned))
+}
+
+/// Sorts the records listed: "below level 5 the order is free".
+fn sort_listed(outcome: &mut Outcome) {
+    let listed = &mut outcome.records.as_chunks_mut::<4>().0[..outcome.answer[0] as usize];
+    listed.sort_unstable();
 }
 
 /// "`LENT FILL` is a lent buffer: LENT bytes, each of them FILL."
@@ -193,7 +224,7 @@ fn read_outcome(call: &Call, words: &[&str]) -> Outcome {
         (_, ["ok"]) => {}
         _ => panic!("not an answer: {words:?}"),
     }
-    Outcome { returned, answer, buf, records }.in_order()
+    Outcome { returned, answer, buf, records }
 }
 
 /// `command TAG LUN CDB_OFFSET CDB_LENGTH`; of a task request the tag and the LUN are the message's.
@@ -242,5 +273,10 @@ mod tests {
     #[test]
     fn number_rows() {
         super::run_job_4(&mut model::Port::default(), "the model");
+    }
+
+    #[test]
+    fn order_rows() {
+        super::run_job_5(&mut model::Port::default(), "the model");
     }
 }

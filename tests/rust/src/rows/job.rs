@@ -1,6 +1,6 @@
-//! Rows of job1.rows and job4.rows in the words of base.rows.
+//! Rows of job1.rows, job4.rows and job5.rows in the words of base.rows.
 
-/// The same row without what jobs up to 4 do not know: the channel, which is 0, Q, a second lent buffer and the messages
+/// The same row without what jobs up to 5 do not know: the channel, which is 0, Q, a second lent buffer and the messages
 /// in it, and whether a command waits for its tables. The number of a step stays behind its other words. The count of a
 /// listing is decimal there, and hexadecimal in base.rows.
 pub fn in_base_words(words: &[&str]) -> String {

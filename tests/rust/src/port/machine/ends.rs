@@ -15,7 +15,10 @@ pub struct Ends {
     pub withdrawn: i64,
     pub to_port: VecDeque<Sent>,
     pub to_initiator: VecDeque<Vec<u8>>,
+    /// In no order that counts.
     pub open: Vec<Open>,
+    /// The tags of all commands taken, in the order of taking.
+    pub taken: Vec<u64>,
     /// A credit request was written, and no answer to it was taken.
     pub unanswered: bool,
     /// Credit requests that were delivered and that the initiator has not answered.
@@ -94,6 +97,24 @@ impl Ends {
     /// What the first four lack of the right side; below 0 where they have more.
     pub fn lack(&self) -> i64 {
         self.right_side() - self.first_four()
+    }
+
+    /// "Records now come as the commands were taken, oldest first. A tag used again counts as taken anew."
+    pub fn listing(&self) -> Vec<[u64; 4]> {
+        let taken_at = |tag: u64| self.taken.iter().rposition(|&taken| taken == tag);
+        let mut records: Vec<[u64; 4]> = self.open.iter().map(Open::record).collect();
+        records.sort_by_key(|record| taken_at(record[0]));
+        records
+    }
+
+    /// Whether one that ends is listed between two that stay.
+    pub fn in_the_middle(&self, ends: impl Fn(&[u64; 4]) -> bool) -> bool {
+        let listing = self.listing();
+        let stays = |record: &[u64; 4]| !ends(record);
+        match (listing.iter().position(stays), listing.iter().rposition(stays)) {
+            (Some(first), Some(last)) => listing[first..last].iter().any(ends),
+            _ => false,
+        }
     }
 
     pub fn place_of(&self, tag: u64) -> Option<usize> {

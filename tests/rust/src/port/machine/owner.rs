@@ -53,15 +53,22 @@ impl<T: Target> Machine<T> {
                 let lists = [command.data_out.segment_list(out), command.data_in.segment_list(inn)];
                 let pieces = lists.map(|list| Pieces::new(&segments(&list).collect::<Vec<_>>()));
                 let (tag, lun) = (command.request.tag, command.request.lun);
+                if self.ends.taken.contains(&tag) {
+                    self.states.add("a tag used again");
+                }
+                self.ends.taken.push(tag);
                 self.ends.open.push(Open { tag, lun, planned: false, pieces });
             }
             (0, Message::Task { request, function, task_tag }) => {
-                let aborted = |command: &Open| match function {
-                    0x01 => command.tag == task_tag && command.lun == request.lun,
-                    0x02 | 0x04 | 0x08 => command.lun == request.lun,
+                let aborted = |record: &[u64; 4]| match function {
+                    0x01 => record[0] == task_tag && record[1] == request.lun,
+                    0x02 | 0x04 | 0x08 => record[1] == request.lun,
                     _ => false,
                 };
-                self.ends.open.retain(|command| !aborted(command));
+                if self.ends.in_the_middle(aborted) {
+                    self.states.add("aborted in the middle");
+                }
+                self.ends.open.retain(|command| !aborted(&command.record()));
                 self.written(outcome);
             }
             (0, Message::CreditResponse) => self.ends.unanswered = false,
@@ -189,7 +196,10 @@ impl<T: Target> Machine<T> {
         let outcome = self.counted(&Call::Finish { tag, status, sense: vec![0x70; length], buf });
         assert_eq!(outcome.returned, expected, "finish");
         if let (0, Some(place)) = (outcome.returned, self.ends.place_of(tag)) {
-            let command = self.ends.open.remove(place);
+            if self.ends.in_the_middle(|record| record[0] == tag) {
+                self.states.add("finished in the middle");
+            }
+            let command = self.ends.open.swap_remove(place);
             let residuals = residuals_in(outcome.message());
             assert_eq!(residuals, [0, 1].map(|at| command.pieces[at].residual()), "the residuals");
             command.pieces.iter().for_each(|pieces| self.note_moves(pieces));
