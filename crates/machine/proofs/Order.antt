@@ -18,19 +18,19 @@ use Rattle.machine.proofs.Tags.{other-way, absent-without}
 abbrev pub tagsOf : List Track → List ℕ
 tagsOf ts = map (λ t. t .request .tag) ts
 
--- these tags are open, and stand as they were taken
+-- these tags stand as they were taken
 abbrev pub Ordered : List ℕ → List ℕ → Type 0
-Ordered open taken = open ≡ oldestFirst (λ a. isAmong a open) taken
+Ordered tags taken = tags ≡ oldestFirst (λ a. isAmong a tags) taken
 
 -- ── one more is taken
 
 among-snoc : (a n : ℕ) (l : List ℕ) → isAmong a (l ++ (n ∷ [])) ≡ (isAmong a l || eqb a n)
 among-snoc a n [] = or-false (eqb a n)
-among-snoc a n (x ∷ l) = go (eqb a x)
+among-snoc a n (x ∷ l) = go (eqb a x) (among-snoc a n l)
   where
-    go : (b : Bool) → (b || isAmong a (l ++ (n ∷ []))) ≡ ((b || isAmong a l) || eqb a n)
-    go true = refl
-    go false = among-snoc a n l
+    go : (b : Bool) → isAmong a (l ++ (n ∷ [])) ≡ (isAmong a l || eqb a n) → (b || isAmong a (l ++ (n ∷ []))) ≡ ((b || isAmong a l) || eqb a n)
+    go true e = refl
+    go false e = e
 
 -- a tag keeps its place, or loses it to the new one, which was not open
 same-test : (o x b : Bool) → (b ≡ true → o ≡ false) → ((o || b) && not (x || b)) ≡ (o && not x)
@@ -42,13 +42,13 @@ same-test true false false h = refl
 same-test false true false h = refl
 same-test false false false h = refl
 
-module _ (n : ℕ) (open : ℕ → Bool) (fresh : open n ≡ false) where
+module _ (n : ℕ) (isOpen : ℕ → Bool) (fresh : isOpen n ≡ false) where
   -- its tag comes last
-  taken-last : (l : List ℕ) → oldestFirst (λ a. open a || eqb a n) (l ++ (n ∷ [])) ≡ oldestFirst open l ++ (n ∷ [])
+  taken-last : (l : List ℕ) → oldestFirst (λ a. isOpen a || eqb a n) (l ++ (n ∷ [])) ≡ oldestFirst isOpen l ++ (n ∷ [])
   taken-last [] = rw (fresh, eq-eqb n n refl)
   taken-last (a ∷ l) =
-      rw (among-snoc a n l, same-test (open a) (isAmong a l) (eqb a n) (λ e. ap open (eqb-true a n e) ∙ fresh), taken-last l)
-      (cond-out (λ (x : List ℕ). x ++ (n ∷ [])) (open a && not (isAmong a l)) (a ∷ oldestFirst open l) (oldestFirst open l))
+      rw (among-snoc a n l, same-test (isOpen a) (isAmong a l) (eqb a n) (λ e. ap isOpen (eqb-true a n e) ∙ fresh), taken-last l)
+      (cond-out (λ (x : List ℕ). x ++ (n ∷ [])) (isOpen a && not (isAmong a l)) (a ∷ oldestFirst isOpen l) (oldestFirst isOpen l))
 
 ordered-new : (n : ℕ) (tags l : List ℕ) → isAmong n tags ≡ false → Ordered tags l → Ordered (tags ++ (n ∷ [])) (l ++ (n ∷ []))
 ordered-new n tags l f o =
@@ -62,52 +62,54 @@ ordered-new n tags l f o =
 module _ (before after : ℕ → Bool) (fewer : (a : ℕ) → after a ≡ true → before a ≡ true) where
   still-ordered : (l : List ℕ) → oldestFirst after l ≡ without (λ a. not (after a)) (oldestFirst before l)
   still-ordered [] = refl
-  still-ordered (a ∷ l) = go (before a) (after a) (isAmong a l) (fewer a) refl
+  still-ordered (a ∷ l) = go (before a) (after a) (isAmong a l) (fewer a) refl (still-ordered l)
     where
-      go : (b c x : Bool) → (c ≡ true → b ≡ true) → after a ≡ c
+      go : (b c x : Bool) → (c ≡ true → b ≡ true) → after a ≡ c → oldestFirst after l ≡ without (λ a. not (after a)) (oldestFirst before l)
           → cond (c && not x) (a ∷ oldestFirst after l) (oldestFirst after l)
           ≡ without (λ a. not (after a)) (cond (b && not x) (a ∷ oldestFirst before l) (oldestFirst before l))
-      go true true true h e = still-ordered l
-      go true true false h e = rw (e, still-ordered l)
-      go true false true h e = still-ordered l
-      go true false false h e = rw (e, still-ordered l)
-      go false true x h e = absurd (true≢false (sym (h refl)))
-      go false false x h e = still-ordered l
+      go true true true h e r = r
+      go true true false h e r = rw (e, r)
+      go true false true h e r = r
+      go true false false h e r = rw (e, r)
+      go false true x h e r = absurd (true≢false (sym (h refl)))
+      go false false x h e r = r
 
 among : (a : ℕ) (ts : List Track) → isSome (find (hasTag a) ts) ≡ isAmong a (tagsOf ts)
 among a [] = refl
-among a (t ∷ ts) = go (eqb a (t .request .tag))
+among a (t ∷ ts) = go (eqb a (t .request .tag)) (among a ts)
   where
-    go : (b : Bool) → isSome (cond b (some t) (find (hasTag a) ts)) ≡ (b || isAmong a (tagsOf ts))
-    go true = refl
-    go false = among a ts
+    go : (b : Bool) → isSome (find (hasTag a) ts) ≡ isAmong a (tagsOf ts) → isSome (cond b (some t) (find (hasTag a) ts)) ≡ (b || isAmong a (tagsOf ts))
+    go true e = refl
+    go false e = e
 
 -- one tag more makes no difference where it does not occur
-not-there : (n : ℕ) (open : ℕ → Bool) (l : List ℕ) → isAmong n l ≡ false → without (λ a. not (eqb a n || open a)) l ≡ without (λ a. not (open a)) l
-not-there n open [] f = refl
-not-there n open (a ∷ l) f = go (eqb n a) refl f
+not-there : (n : ℕ) (isOpen : ℕ → Bool) (l : List ℕ) → isAmong n l ≡ false → without (λ a. not (eqb a n || isOpen a)) l ≡ without (λ a. not (isOpen a)) l
+not-there n isOpen [] f = refl
+not-there n isOpen (a ∷ l) f = go (eqb n a) refl f (λ g. not-there n isOpen l g)
   where
-    go : (b : Bool) → eqb n a ≡ b → (b || isAmong n l) ≡ false → without (λ a. not (eqb a n || open a)) (a ∷ l) ≡ without (λ a. not (open a)) (a ∷ l)
-    go true e g = absurd (true≢false g)
-    go false e g = rw (other-way n a e, not-there n open l g)
+    go : (b : Bool) → eqb n a ≡ b → (b || isAmong n l) ≡ false
+        → (isAmong n l ≡ false → without (λ a. not (eqb a n || isOpen a)) l ≡ without (λ a. not (isOpen a)) l)
+        → without (λ a. not (eqb a n || isOpen a)) (a ∷ l) ≡ without (λ a. not (isOpen a)) (a ∷ l)
+    go true e g r = absurd (true≢false g)
+    go false e g r = rw (other-way n a e, r g)
 
 module _ (f : Track → Bool) where
   -- the tags of the commands left, where no two have one tag
   left : (ts : List Track) → Distinct ts → without (λ a. not (isAmong a (tagsOf (without f ts)))) (tagsOf ts) ≡ tagsOf (without f ts)
   left [] d = refl
-  left (t ∷ ts) d = go (f t)
+  left (t ∷ ts) d = go (f t) (left ts (d .1))
     where
       gone : isAmong (t .request .tag) (tagsOf (without f ts)) ≡ false
       gone = sym (among (t .request .tag) (without f ts)) ∙ absent-without (t .request .tag) f ts (d .0)
 
-      go : (b : Bool)
+      go : (b : Bool) → without (λ a. not (isAmong a (tagsOf (without f ts)))) (tagsOf ts) ≡ tagsOf (without f ts)
           → without (λ a. not (isAmong a (tagsOf (cond b (without f ts) (t ∷ without f ts))))) (tagsOf (t ∷ ts))
           ≡ tagsOf (cond b (without f ts) (t ∷ without f ts))
-      go true = rw gone (left ts (d .1))
-      go false =
+      go true r = rw gone r
+      go false r =
           rw (eq-eqb (t .request .tag) (t .request .tag) refl)
           (ap (λ (l : List ℕ). t .request .tag ∷ l)
-          (not-there (t .request .tag) (λ a. isAmong a (tagsOf (without f ts))) (tagsOf ts) (sym (among (t .request .tag) ts) ∙ d .0) ∙ left ts (d .1)))
+          (not-there (t .request .tag) (λ a. isAmong a (tagsOf (without f ts))) (tagsOf ts) (sym (among (t .request .tag) ts) ∙ d .0) ∙ r))
 
   fewer-left : (ts : List Track) (a : ℕ) → isAmong a (tagsOf (without f ts)) ≡ true → isAmong a (tagsOf ts) ≡ true
   fewer-left ts a e = go (isAmong a (tagsOf ts)) refl
@@ -134,11 +136,11 @@ ordered-snoc ts x l a o =
 -- a change that keeps the tag keeps the place
 pub tags-change : (f : Track → Bool) (g : Track → Track) → ((t : Track) → g t .request ≡ t .request) → (ts : List Track) → tagsOf (change f g ts) ≡ tagsOf ts
 tags-change f g same [] = refl
-tags-change f g same (t ∷ ts) = go (f t)
+tags-change f g same (t ∷ ts) = go (f t) (tags-change f g same ts)
   where
-    go : (b : Bool) → tagsOf (cond b (g t ∷ ts) (t ∷ change f g ts)) ≡ tagsOf (t ∷ ts)
-    go true = ap (λ (r : Request). r .tag ∷ tagsOf ts) (same t)
-    go false = ap (λ (l : List ℕ). t .request .tag ∷ l) (tags-change f g same ts)
+    go : (b : Bool) → tagsOf (change f g ts) ≡ tagsOf ts → tagsOf (cond b (g t ∷ ts) (t ∷ change f g ts)) ≡ tagsOf (t ∷ ts)
+    go true e = ap (λ (r : Request). r .tag ∷ tagsOf ts) (same t)
+    go false e = ap (λ (l : List ℕ). t .request .tag ∷ l) e
 
 -- the tags listed, by the commands that the machine follows
 pub by-tracks : (ts : List Track) (l : List ℕ) → Ordered (tagsOf ts) l → tagsOf ts ≡ oldestFirst (λ tag. isSome (find (hasTag tag) ts)) l

@@ -5,11 +5,11 @@ use Rattle.machine.specs.Machine.{isAmong, oldestFirst}
 
 pub record Row : Type 0 where
   pub taken : List ℕ
-  pub open : List ℕ
+  pub held : List ℕ
   pub listed : List ℕ
 
 abbrev pub row : List ℕ → List ℕ → List ℕ → Row
-row taken open listed = record { taken = taken; open = open; listed = listed }
+row taken held listed = record { taken = taken; held = held; listed = listed }
 
 abbrev pub rows : List Row
 rows =
@@ -29,4 +29,4 @@ rows =
     ∷ []
 
 abbrev pub listedBy : Row → List ℕ
-listedBy r = oldestFirst (λ tag. isAmong tag (r .open)) (r .taken)
+listedBy r = oldestFirst (λ tag. isAmong tag (r .held)) (r .taken)
