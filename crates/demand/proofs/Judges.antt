@@ -107,7 +107,6 @@ judges-list l before after n w P st =
       performs = λ e. (J .performs e, P st .records ∙ by-check e);
       leaves = λ f e. (J .leaves f e, P st .records ∙ by-check e);
     }
-
   where
     by-check : {x : Option Refusal} → firstOf (listChecks (view l st) (length before / recordSize)) ≡ x
         → over (allWords (recordsFor (view l st) (length before / recordSize))) before ≡ over (allWords (recordsBy x (view l st))) before

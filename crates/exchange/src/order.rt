@@ -61,13 +61,48 @@ pub fn oldest_first(
     show::text(
         b"three commands open, listed oldest first; the second is aborted, and its tag used again is listed last\n",
     );
-    let a = open(&mut *port, &mut *store, &mut *to_port, &mut *to_initiator, OLDEST, limit);
-    let b = open(&mut *port, &mut *store, &mut *to_port, &mut *to_initiator, SECOND, a);
-    let c = open(&mut *port, &mut *store, &mut *to_port, &mut *to_initiator, THIRD, b);
+    let a = open(
+        &mut *port,
+        &mut *store,
+        &mut *to_port,
+        &mut *to_initiator,
+        OLDEST,
+        limit,
+    );
+    let b = open(
+        &mut *port,
+        &mut *store,
+        &mut *to_port,
+        &mut *to_initiator,
+        SECOND,
+        a,
+    );
+    let c = open(
+        &mut *port,
+        &mut *store,
+        &mut *to_port,
+        &mut *to_initiator,
+        THIRD,
+        b,
+    );
     owner::show_list(port);
-    let d = abort(&mut *port, &mut *store, &mut *to_port, &mut *to_initiator, SECOND, c);
+    let d = abort(
+        &mut *port,
+        &mut *store,
+        &mut *to_port,
+        &mut *to_initiator,
+        SECOND,
+        c,
+    );
     owner::show_list(port);
-    let e = open(&mut *port, &mut *store, to_port, &mut *to_initiator, SECOND, d);
+    let e = open(
+        &mut *port,
+        &mut *store,
+        to_port,
+        &mut *to_initiator,
+        SECOND,
+        d,
+    );
     owner::show_list(port);
     let f = owner::finish(&mut *port, OLDEST, &mut *to_initiator, e);
     let g = owner::finish(&mut *port, THIRD, &mut *to_initiator, f);
