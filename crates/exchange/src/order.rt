@@ -18,36 +18,18 @@ const THIRD: u64 = 0x1b;
 
 const TASK: u64 = 0x1e;
 
-// A command without data is sent and taken.
-fn open(
-    port: &mut [u64; PORT],
-    store: &mut [u8; STORE],
-    to_port: &mut [u8; QUEUE],
-    to_initiator: &mut [u8; QUEUE],
-    tag: u64,
-    limit: u64,
-) -> u64 {
+// A command without data is sent.
+fn submit(to_port: &mut [u8; QUEUE], tag: u64, limit: u64) -> u64 {
     let mut msg = [0u8; MESSAGE];
     host::put_command(&mut msg, 0, 0, 0, 0, tag, 1, 0x00);
-    let left = channel::submit(&mut *to_port, message(&msg, CMD_SIZE), limit);
-    owner::take(port, store, to_port, to_initiator);
-    left
+    channel::submit(to_port, message(&msg, CMD_SIZE), limit)
 }
 
-// A command is aborted.
-fn abort(
-    port: &mut [u64; PORT],
-    store: &mut [u8; STORE],
-    to_port: &mut [u8; QUEUE],
-    to_initiator: &mut [u8; QUEUE],
-    tag: u64,
-    limit: u64,
-) -> u64 {
+// The task request that aborts one is sent.
+fn submit_abort(to_port: &mut [u8; QUEUE], tag: u64, limit: u64) -> u64 {
     let mut msg = [0u8; MESSAGE];
     host::put_task(&mut msg, TASK, 1, ABORT_TASK, tag);
-    let left = channel::submit(&mut *to_port, message(&msg, TSK_MGMT_SIZE), limit);
-    owner::take(&mut *port, store, to_port, &mut *to_initiator);
-    owner::deliver(port, to_initiator, left)
+    channel::submit(to_port, message(&msg, TSK_MGMT_SIZE), limit)
 }
 
 // Three commands, the second of which is aborted and comes again; then all end.
@@ -61,50 +43,21 @@ pub fn oldest_first(
     show::text(
         b"three commands open, listed oldest first; the second is aborted, and its tag used again is listed last\n",
     );
-    let a = open(
-        &mut *port,
-        &mut *store,
-        &mut *to_port,
-        &mut *to_initiator,
-        OLDEST,
-        limit,
-    );
-    let b = open(
-        &mut *port,
-        &mut *store,
-        &mut *to_port,
-        &mut *to_initiator,
-        SECOND,
-        a,
-    );
-    let c = open(
-        &mut *port,
-        &mut *store,
-        &mut *to_port,
-        &mut *to_initiator,
-        THIRD,
-        b,
-    );
+    let a = submit(&mut *to_port, OLDEST, limit);
+    let b = submit(&mut *to_port, SECOND, a);
+    let c = submit(&mut *to_port, THIRD, b);
+    owner::take(&mut *port, &mut *store, &mut *to_port, &mut *to_initiator);
+    owner::take(&mut *port, &mut *store, &mut *to_port, &mut *to_initiator);
+    owner::take(&mut *port, &mut *store, &mut *to_port, &mut *to_initiator);
     owner::show_list(port);
-    let d = abort(
-        &mut *port,
-        &mut *store,
-        &mut *to_port,
-        &mut *to_initiator,
-        SECOND,
-        c,
-    );
+    let d = submit_abort(&mut *to_port, SECOND, c);
+    owner::take(&mut *port, &mut *store, &mut *to_port, &mut *to_initiator);
+    let e = owner::deliver(port, &mut *to_initiator, d);
     owner::show_list(port);
-    let e = open(
-        &mut *port,
-        &mut *store,
-        to_port,
-        &mut *to_initiator,
-        SECOND,
-        d,
-    );
+    let f = submit(&mut *to_port, SECOND, e);
+    owner::take(&mut *port, store, to_port, &mut *to_initiator);
     owner::show_list(port);
-    let f = owner::finish(&mut *port, OLDEST, &mut *to_initiator, e);
-    let g = owner::finish(&mut *port, THIRD, &mut *to_initiator, f);
-    owner::finish(port, SECOND, to_initiator, g)
+    let g = owner::finish(&mut *port, OLDEST, &mut *to_initiator, f);
+    let h = owner::finish(&mut *port, THIRD, &mut *to_initiator, g);
+    owner::finish(port, SECOND, to_initiator, h)
 }

@@ -32,12 +32,25 @@ fn task(function: u8, lun: u64, managed: u64) -> Call {
     take(&msg, [&[], &[]])
 }
 
-/// The library's port; and beside it each open command, with the number of its taking.
+const EVENTS: [&str; 7] = [
+    "a new tag",
+    "a tag used again",
+    "aborted at an end",
+    "aborted in the middle",
+    "aborted none",
+    "finished at an end",
+    "finished in the middle",
+];
+
+const LISTINGS: [&str; 3] = ["by age and by tag", "by age and not by tag", "of one or none"];
+
+/// The library's port; and beside it each open command, with the number of its taking, and the tags that were used.
 struct Followed {
     library: Library,
     random: Random,
     open: Vec<(u64, u64)>,
-    takings: u64,
+    used: Vec<u64>,
+    events: Tally,
     listings: Tally,
 }
 
@@ -45,7 +58,8 @@ impl Followed {
     fn after_login() -> Self {
         let (mut library, mut random) = (Library::new(5), Random::new(5));
         assert_eq!(library.call(&login(&mut random, 16, 512, 1364, 0b110)).returned, 0, "login");
-        Followed { library, random, open: Vec::new(), takings: 0, listings: Tally::default() }
+        let (events, listings) = (Tally::default(), Tally::default());
+        Followed { library, random, open: Vec::new(), used: Vec::new(), events, listings }
     }
 
     fn is_open(&self, tag: u64) -> bool {
@@ -74,13 +88,28 @@ impl Followed {
         assert_eq!(self.library.call(&call).returned, 0, "{event:?}");
         match event {
             Event::Take(tag) => {
-                self.open.push((self.takings, tag));
-                self.takings += 1;
+                self.events.add(if self.used.contains(&tag) { "a tag used again" } else { "a new tag" });
+                self.open.push((self.used.len() as u64, tag));
+                self.used.push(tag);
             }
-            Event::Finish(gone) | Event::Abort(gone) => self.open.retain(|&(_, tag)| tag != gone),
-            Event::Reset(lun) => self.open.retain(|&(_, tag)| lun_of(tag) != lun),
+            Event::Finish(gone) => self.end("finished", |tag| tag == gone),
+            Event::Abort(gone) => self.end("aborted", |tag| tag == gone),
+            Event::Reset(lun) => self.end("aborted", |tag| lun_of(tag) == lun),
         }
         self.assert_listed();
+    }
+
+    fn end(&mut self, name: &str, ends: impl Fn(u64) -> bool) {
+        let stays = |&(_, tag): &(u64, u64)| !ends(tag);
+        let (first, last) = (self.open.iter().position(stays), self.open.iter().rposition(stays));
+        let between = &self.open[first.unwrap_or(0)..last.unwrap_or(0)];
+        let place = match self.open.iter().all(stays) {
+            true => "none",
+            false if between.iter().all(stays) => "at an end",
+            false => "in the middle",
+        };
+        self.events.add(format!("{name} {place}"));
+        self.open.retain(stays);
     }
 
     /// By the numbers of the takings.
@@ -98,12 +127,17 @@ impl Followed {
         });
     }
 
+    fn print(&self, title: &str) {
+        self.events.print_as(title, "events");
+        self.listings.print_as(title, "listings");
+    }
+
     /// Every list of so many events more, each from the state before it.
     fn every_list(&mut self, most: u32) {
         if most == 0 {
             return;
         }
-        let (memory, open) = (self.library.memory.clone(), self.open.clone());
+        let (memory, open, used) = (self.library.memory.clone(), self.open.clone(), self.used.clone());
         let tags = [1, 2, 3];
         let events = [tags.map(|tag| self.take_or_finish(tag)), tags.map(Event::Abort)].concat();
         for event in events.into_iter().chain([Event::Reset(0), Event::Reset(1)]) {
@@ -111,6 +145,7 @@ impl Followed {
             self.every_list(most - 1);
             self.library.memory.clone_from(&memory);
             self.open.clone_from(&open);
+            self.used.clone_from(&used);
         }
     }
 }
@@ -120,29 +155,34 @@ impl Followed {
 fn every_list_of_six() {
     let mut port = Followed::after_login();
     port.every_list(6);
-    port.listings.print_as("oldest first, every list of six", "listings");
+    port.print("oldest first, every list of six");
     assert_eq!(port.listings.total(), (1..=6).map(|events| 8u64.pow(events)).sum::<u64>());
-    port.listings.assert_each(40_000, &["by age and by tag", "by age and not by tag", "of one or none"]);
+    port.listings.assert_each(20_000, &LISTINGS);
+    port.events.assert_each(500, &EVENTS);
 }
 
-/// Up to 16 commands of 18 tags; one in 40 events ends all of a LUN.
+/// Up to 16 commands of 18 tags, mostly as many as can be; one in 100 events ends all of a LUN.
 #[test]
 fn sixteen_tags_used_again() {
     let (mut port, mut random) = (Followed::after_login(), Random::new(55));
     let mut full = 0;
     for _ in 0..20_000 {
         let tag = random.up_to(17);
-        let event = match random.below(40) {
-            0 => Event::Reset(tag % 2),
-            1..=5 => Event::Abort(tag),
-            _ if port.open.len() == 16 => port.take_or_finish(port.open[random.below(16)].1),
-            _ => port.take_or_finish(tag),
+        // A task request needs a buffer too.
+        let event = match random.below(100) {
+            0 if port.open.len() < 16 => Event::Reset(tag % 2),
+            1..=5 if port.open.len() < 16 => Event::Abort(tag),
+            _ if port.is_open(tag) && random.one_in(6) => Event::Finish(tag),
+            _ if port.open.len() == 16 => Event::Finish(port.open[random.below(16)].1),
+            _ => {
+                Event::Take((0..18).map(|k| (tag + k) % 18).find(|&tag| !port.is_open(tag)).expect("16 of 18 are open"))
+            }
         };
         port.happen(event);
         full += u32::from(port.open.len() == 16);
     }
-    port.listings.print_as("oldest first, tags used again", "listings");
-    port.listings.assert_each(1, &["by age and not by tag"]);
-    assert!(port.takings > 5_000, "{} takings", port.takings);
-    assert!(full > 0, "{full} times sixteen");
+    port.print("oldest first, tags used again");
+    port.listings.assert_at_least(19_000, &["by age and not by tag"]);
+    port.events.assert_each(18, &EVENTS);
+    assert!(full > 4_000, "{full} times sixteen");
 }

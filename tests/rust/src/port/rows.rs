@@ -130,7 +130,7 @@ fn judge(target: &mut impl Target, words: &[&str], level: u32) -> Result<(Call, 
         outcome.answer[6] = 0;
     }
     if level < 5 && matches!(call, Call::List { .. }) {
-        [&mut expected, &mut outcome].map(sort_listed);
+        [&mut expected, &mut outcome].into_iter().for_each(sort_listed);
     }
     if outcome != expected {
         return Err(format!("{call:02x?}\nexpected {expected:02x?}\n     got {outcome:02x?}"));
