@@ -160,6 +160,14 @@ fn with_commands(name: &str, timed: Batch) -> Case {
     case(&format!("{name}, 16 commands open"), vec![take_all(direct)], timed, vec![finish_all(tags())])
 }
 
+/// Every second command has ended, and its tag came again.
+fn taken_anew_case() -> Case {
+    let again: Vec<u64> = tags().into_iter().step_by(2).collect();
+    let anew = Batch::Take(again.iter().map(|&tag| direct(tag)).collect());
+    let before = vec![take_all(direct), finish_all(again), anew];
+    case("list, 8 of 16 commands taken anew", before, Batch::List(REPEATED), vec![finish_all(tags())])
+}
+
 fn close_case() -> Case {
     case("close, 16 commands open", vec![take_all(direct)], Batch::Close, vec![login()])
 }
@@ -271,6 +279,7 @@ pub fn cases() -> Vec<Case> {
         close_case(),
         with_commands("counters", Batch::Counters(REPEATED)),
         with_commands("list", Batch::List(REPEATED)),
+        taken_anew_case(),
         look_case("no data, 48 bytes", no_data(1)),
         look_case("direct, 64 bytes", direct(1)),
         look_case("32 copies each way, 1,364 bytes", longest(1)),

@@ -4,7 +4,6 @@
 mod credit;
 mod login;
 mod message;
-mod order;
 mod refusal;
 mod request;
 mod take;
@@ -16,7 +15,6 @@ pub use take::Taken;
 pub use transfer::{Direction, Piece};
 
 use crate::search::Search;
-use order::Order;
 use transfer::{SegmentList, Transfer};
 
 /// The most buffers, and so the most commands open at a time.
@@ -44,11 +42,14 @@ struct Channel {
     owed: i32,
     grant_unanswered: bool,
     commands: [Option<Command>; MAX_BUFFERS],
-    order: Order,
+    /// How many commands were taken.
+    taken: u64,
 }
 
 #[derive(Clone, Copy)]
 struct Command {
+    /// How many commands were taken before it.
+    older: u64,
     tag: u64,
     lun: u64,
     ucsolnt: bool,
@@ -116,7 +117,6 @@ impl Port {
         }
         let slot = channel.slot(tag)?;
         let command = channel.commands[slot].take().ok_or(Refusal::TagNotOpen)?;
-        channel.order.retain(|other| other != slot);
         channel.owed += 1;
         let residuals = command.transfers.map(|transfer| transfer.residual());
         let solnt = if status != 0 { command.ucsolnt } else { command.scsolnt };
@@ -129,9 +129,10 @@ impl Port {
         if records.len() < 4 * MAX_BUFFERS {
             return Err(Refusal::Argument);
         }
-        let open = channel.order.oldest_first().filter_map(|slot| channel.commands[slot].as_ref());
+        let mut oldest_first: [Option<&Command>; MAX_BUFFERS] = channel.commands.each_ref().map(Option::as_ref);
+        oldest_first.sort_unstable_by_key(|slot| slot.map_or(u64::MAX, |command| command.older));
         let mut count = 0;
-        for (record, command) in records.chunks_exact_mut(4).zip(open) {
+        for (record, command) in records.chunks_exact_mut(4).zip(oldest_first.iter().flatten()) {
             let [out, inn] = command.transfers;
             record.copy_from_slice(&[command.tag, command.lun, out.reached.into(), inn.reached.into()]);
             count += 1;

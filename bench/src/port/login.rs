@@ -1,7 +1,6 @@
 //! The login: what it refuses, what it rejects, and the port that it makes.
 
 use super::message;
-use super::order::Order;
 use super::request::{u32_at, u64_at};
 use super::{Channel, Port, Refusal};
 
@@ -101,7 +100,7 @@ impl Channel {
             owed: 0,
             grant_unanswered: false,
             commands: [None; 16],
-            order: Order::NONE,
+            taken: 0,
         }
     }
 }

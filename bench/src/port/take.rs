@@ -92,8 +92,8 @@ impl Channel {
             return Err(Refused { refusal: Refusal::Fields, wrote });
         };
         let lun = u64_at(message.head, 20);
-        self.commands[free] = Some(Command::new(message.head, tag, lun, transfers));
-        self.order.push(free);
+        self.commands[free] = Some(Command::new(message.head, self.taken, tag, lun, transfers));
+        self.taken += 1;
         Ok(Taken::Command { tag, lun, cdb_at: 32, cdb_length: message.cdb_length })
     }
 
@@ -149,7 +149,6 @@ impl Channel {
                 self.owed += 1;
             }
         }
-        self.order.retain(|slot| self.commands[slot].is_some());
     }
 }
 
@@ -162,8 +161,8 @@ fn transfers(message: &CommandMessage, lists: &mut [SegmentList; 2], tables: Tab
 }
 
 impl Command {
-    fn new(head: &[u8; 48], tag: u64, lun: u64, transfers: [Transfer; 2]) -> Self {
+    fn new(head: &[u8; 48], older: u64, tag: u64, lun: u64, transfers: [Transfer; 2]) -> Self {
         let (ucsolnt, scsolnt) = (head[1] & 1 << 2 != 0, head[1] & 1 << 1 != 0);
-        Command { tag, lun, ucsolnt, scsolnt, planned: false, transfers }
+        Command { older, tag, lun, ucsolnt, scsolnt, planned: false, transfers }
     }
 }
