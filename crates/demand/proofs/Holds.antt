@@ -2,7 +2,7 @@
 -- Assumes nothing.
 use mathlib.Core.Path.{_≡_, sym, _∙_, ap, subst}
 use mathlib.Core.Bool.{Bool}
-use mathlib.Core.List.{List, [], _∷_, _++_}
+use mathlib.Core.List.{List, [], _∷_}
 use Prim.Native.Nat.{ℕ, _/_}
 use borrow.Author.Tests.{le-ltb}
 use lib.ListN.{length}
@@ -26,7 +26,7 @@ use Rattle.srp.specs.declared.Reply.the-variants.{Performed, Counts, Listed}
 use Rattle.machine.specs.Machine.{Machine, requestsHeld, Login, loginOf}
 use Rattle.machine.specs.Actions.{atFront}
 use Rattle.machine.specs.Events.{sends, delivers, takes, plans, names, steps, finishes, adds, withdraws, grants}
-use Rattle.machine.specs.Demand.{counted, Now, Demand, Meets}
+use Rattle.machine.specs.Demand.{counted, Now, Meets}
 use Rattle.machine.proofs.Demand.{demand-3}
 use Rattle.answer.specs.Words.{answerWords}
 use Rattle.words.specs.View.{view}

@@ -3,7 +3,7 @@
 use mathlib.Core.Path.{_≡_, refl, sym, _∙_, ap}
 use mathlib.Core.Bool.{true, false}
 use mathlib.Core.List.{List, [], _∷_, _++_, map, map-append}
-use Prim.Native.Nat.{ℕ, zero, suc, _+_, _-_, _≤_, _<_}
+use Prim.Native.Nat.{ℕ, zero, suc, _+_, _≤_, _<_}
 use native.Mathlib.Omega.{arith}
 use native.Mathlib.Numerals.{add-one}
 use borrow.Author.Tests.{lt-ltb, le-ltb}
@@ -19,7 +19,7 @@ use Rattle.srp.specs.declared.Refusal.the-variants.{Argument, Closed}
 use Rattle.srp.specs.declared.Reply.the-variants.{Refused, Listed}
 use Rattle.words.specs.Slots.{slots, noSlot}
 use Rattle.words.specs.Head.{headOf}
-use Rattle.words.specs.View.{opens, openOf, shown, view}
+use Rattle.words.specs.View.{opens, openOf, view}
 use Rattle.words.specs.declared.Slot.{Slot}
 use Rattle.words.proofs.Ports.{opens-long, while-open, while-closed, view-live}
 use Rattle.srp.proofs.Listing.{open-all, closed-none}

@@ -14,8 +14,7 @@ use Rattle.srp.specs.Limits.{mostBuffers}
 use Rattle.srp.specs.Refusals.{firstOf}
 use Rattle.srp.specs.Lists.{over}
 use Rattle.srp.specs.Credit.{Port}
-use Rattle.srp.specs.Calls.{unless, recordOf, listing, listChecks, listOutcome, listDef, recordsBy, recordsFor, listedInto}
-use Rattle.srp.specs.declared.Record.{Record}
+use Rattle.srp.specs.Calls.{unless, recordOf, listing, listChecks, listOutcome, listDef, recordsBy, recordsFor}
 use Rattle.srp.specs.declared.Refusal.{Refusal}
 use Rattle.srp.specs.declared.Reply.{Reply}
 use Rattle.srp.specs.declared.Reply.the-variants.{Listed}
