@@ -72,9 +72,9 @@ extern "C" {
 /* The version of this interface. In version 0 there were no moves: after srp_target_plan, step served all the data.
  * Version 2 has srp_trace; all else is as in version 1. There was no version 3: each version is named after the job of
  * document 02 that changed the interface, and job 3 did not. Version 4 has the number of pieces in the answer of
- * srp_target_step, where version 2 has 0; all else is as in version 2. Version 5 lists the open commands oldest first,
- * where version 4 promises no order; all else is as in version 4. The words that a library of another version made are
- * not a port of this one. */
+ * srp_target_step, where version 2 has 0; all else is as in version 2. Version 5 promises that the open commands are
+ * listed oldest first, where version 4 promises no order; their libraries are the same. But for these two, the words
+ * that a library of another version made are not a port of this one. */
 #define SRP_TARGET_VERSION 5
 
 /* Refusals: from the message or the caller. */

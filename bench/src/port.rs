@@ -49,7 +49,7 @@ struct Channel {
 #[derive(Clone, Copy)]
 struct Command {
     /// How many commands were taken before it.
-    older: u64,
+    taken_before: u64,
     tag: u64,
     lun: u64,
     ucsolnt: bool,
@@ -130,7 +130,7 @@ impl Port {
             return Err(Refusal::Argument);
         }
         let mut oldest_first: [Option<&Command>; MAX_BUFFERS] = channel.commands.each_ref().map(Option::as_ref);
-        oldest_first.sort_unstable_by_key(|slot| slot.map_or(u64::MAX, |command| command.older));
+        oldest_first.sort_unstable_by_key(|slot| slot.map_or(u64::MAX, |command| command.taken_before));
         let mut count = 0;
         for (record, command) in records.chunks_exact_mut(4).zip(oldest_first.iter().flatten()) {
             let [out, inn] = command.transfers;

@@ -60,6 +60,8 @@ void new_command(struct channel *c)
                                                            offsetof(struct srp_cmd, cdb), 16 + 4 * r.more_cdb});
     kept_from("SRP_CMD", 0);
     begin_request(c);
+    if (ended_before(c, r.tag))
+        count(TAGS_AGAIN);
     c->commands[c->held++] = r;
     count_command(&r);
 }
@@ -140,6 +142,8 @@ void finish_one(struct channel *c)
     a.solnt = r->notification & (a.status ? UCSOLNT : SCSOLNT);
     a.flags = a.sense_len ? SRP_RSP_FLAG_SNSVALID : 0;
     put_residuals(&a, r);
+    if (is_between(c, r))
+        count(FINISHED_BETWEEN);
     drop(c, r);
     a.delta = delta_after(c);
     lend();

@@ -15,10 +15,13 @@ static void end_managed(struct channel *c, uint64_t lun, uint8_t function, uint6
     while (i < c->held) {
         struct request *r = &c->commands[i];
         int one = function == SRP_TSK_ABORT_TASK && r->tag == managed;
-        if (r->lun == lun && (whole || one))
-            drop(c, r);
-        else
+        if (r->lun != lun || !(whole || one)) {
             i++;
+            continue;
+        }
+        if (is_between(c, r))
+            count(ABORTED_BETWEEN);
+        drop(c, r);
     }
 }
 

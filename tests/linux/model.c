@@ -1,6 +1,6 @@
-#include "model.h"
-
 #include <string.h>
+
+#include "model.h"
 
 uint32_t buffer_length(const struct side *s)
 {
@@ -93,6 +93,20 @@ uint32_t delta_after(struct channel *c)
     return delta;
 }
 
+int is_between(const struct channel *c, const struct request *r)
+{
+    return r > c->commands && r < c->commands + c->held - 1;
+}
+
+int ended_before(const struct channel *c, uint64_t tag)
+{
+    unsigned i;
+    for (i = 0; i < c->endings && i < MOST_COMMANDS; i++)
+        if (c->ended[i] == tag)
+            return 1;
+    return 0;
+}
+
 struct request *find(struct channel *c, uint64_t tag)
 {
     unsigned i;
@@ -104,6 +118,7 @@ struct request *find(struct channel *c, uint64_t tag)
 
 void drop(struct channel *c, struct request *r)
 {
+    c->ended[c->endings++ % MOST_COMMANDS] = r->tag;
     c->held--;
     memmove(r, r + 1, (size_t)(c->commands + c->held - r) * sizeof *r);
 }

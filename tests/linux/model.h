@@ -42,6 +42,8 @@ struct channel {
     int64_t wanted, announced;
     unsigned held;
     struct request commands[MOST_COMMANDS]; /* in the order of taking */
+    uint64_t ended[MOST_COMMANDS];          /* tags of the last that ended */
+    unsigned endings;
 };
 
 /* B, and the bytes of a table that are to be fetched. */
@@ -72,5 +74,9 @@ uint32_t delta_after(struct channel *c);
 /* The open command with a tag, or NULL; one that ends, which leaves the others in their order. */
 struct request *find(struct channel *c, uint64_t tag);
 void drop(struct channel *c, struct request *r);
+
+/* Whether an older command and a younger one are open; whether the tag is one of the last 16 that ended. */
+int is_between(const struct channel *c, const struct request *r);
+int ended_before(const struct channel *c, uint64_t tag);
 
 #endif

@@ -42,7 +42,7 @@ uint32_t take_message(uint32_t out_len, uint32_t in_len)
 }
 
 /* The open commands are listed as they were taken, oldest first. */
-static void agree_listing(struct channel *c)
+static void agree_listing(const struct channel *c)
 {
     uint64_t records[SRP_LIST_WORDS];
     unsigned i;

@@ -21,6 +21,8 @@ enum tally {
     STARS, RSP_CODES, COUNTS_ABOVE_32, OTHER_LENGTHS, OTHER_FORMATS, WRAPPED_SENSES, EVENT_REPORTS,
     /* answers */
     PIECES, DONES, LISTED,
+    /* commands with a tag used again; some that end with an older and a younger one open */
+    TAGS_AGAIN, FINISHED_BETWEEN, ABORTED_BETWEEN,
     TALLIES
 };
 

@@ -161,8 +161,8 @@ fn transfers(message: &CommandMessage, lists: &mut [SegmentList; 2], tables: Tab
 }
 
 impl Command {
-    fn new(head: &[u8; 48], older: u64, tag: u64, lun: u64, transfers: [Transfer; 2]) -> Self {
+    fn new(head: &[u8; 48], taken_before: u64, tag: u64, lun: u64, transfers: [Transfer; 2]) -> Self {
         let (ucsolnt, scsolnt) = (head[1] & 1 << 2 != 0, head[1] & 1 << 1 != 0);
-        Command { older, tag, lun, ucsolnt, scsolnt, planned: false, transfers }
+        Command { taken_before, tag, lun, ucsolnt, scsolnt, planned: false, transfers }
     }
 }

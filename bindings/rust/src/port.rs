@@ -232,8 +232,8 @@ impl Port {
         Ok(Counters { wanted: wanted as u32, announced: announced as u32, held: held as u32, owed: owed as i64 })
     }
 
-    /// Lists the open commands as they were taken, oldest first, with h of each direction. A tag used again counts as
-    /// taken anew. Returned is the part of `records` that was written; the others are kept.
+    /// Lists the open commands, each once, as they were taken, oldest first, with h of each direction. A tag used again
+    /// counts as taken anew. Returned is the part of `records` that was written; the others are kept.
     ///
     /// # Errors
     /// Refused: 21 closed; 11 `records` under [`MOST_BUFFERS`](crate::MOST_BUFFERS).

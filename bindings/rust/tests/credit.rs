@@ -121,7 +121,7 @@ fn sixteen_listed() {
     let mut port = open_port();
     port.add(12).unwrap();
     assert_eq!(port.grant(&mut lent()).unwrap()[7], 12);
-    (1..=16).for_each(|tag| take_command(&mut port, &p1(tag)));
-    assert!(tags(&port).into_iter().eq(1..=16));
+    (1..=16).rev().for_each(|tag| take_command(&mut port, &p1(tag)));
+    assert!(tags(&port).into_iter().eq((1..=16).rev()));
     assert_eq!(format!("{port:?}"), "Port(Ok(Counters { wanted: 16, announced: 0, held: 16, owed: 0 }))");
 }

@@ -17,14 +17,13 @@ use Rattle.srp.specs.declared.Refusal.{Refusal}
 use Rattle.srp.specs.declared.Record.{Record}
 use Rattle.srp.specs.declared.Reply.the-variants.{Listed}
 use Rattle.srp.specs.declared.Reply.{Reply}
-use Rattle.srp.proofs.Listing.{listed-all, refused-none}
+use Rattle.srp.proofs.Listing.{unlisted, listed-all, refused-none}
 use Rattle.answer.specs.Words.{answerWords}
 use Rattle.words.specs.View.{view}
 use Rattle.report.specs.Reports.{slotRecords, CountFor}
 use Rattle.exports.specs.Arguments.{recordSize, recordWords, allWords}
 use Rattle.exports.specs.Calls.{Gives, InC, Wordless, ListsInC}
 use Rattle.exports.proofs.InC.{in-numbers, silently}
-use Rattle.exports.proofs.Plain.{but}
 use denote.Enum.Declared.{tagOf}
 use types.Run.{OneOf, miss}
 use Rattle.srp.proofs.Reply.{the-type}
@@ -111,14 +110,14 @@ module _ (l before : List ℕ) (r : Reply) (C : CountFor l (length before / reco
       in-numbers (silently (listDef (view l st) (length before / recordSize)) (C .reply st) (list-unwritten (view l st) (length before / recordSize))) g
 
   -- a listing that is refused
-  pub list-wordless : OneOf (but 11) (tagOf the-type r) → Wordless r
+  pub list-wordless : OneOf unlisted (tagOf the-type r) → Wordless r
   list-wordless k = go (firstOf (listChecks (view l st) (length before / recordSize))) (C .reply st)
     where
       go : (x : Option Refusal) → r ≡ unless x (view l st) (listOutcome (view l st)) .reply → Wordless r
-      go none q = absurd (miss (but 11) 11 tt (subst (λ (y : Reply). OneOf (but 11) (tagOf the-type y)) q k))
+      go none q = absurd (miss unlisted 11 tt (subst (λ (y : Reply). OneOf unlisted (tagOf the-type y)) q k))
       go (some f) q = sym (ap (λ (y : Reply). answerWords (record { reply = y; wrote = 0 })) q)
 
-  pub list-refused : {n : ℕ} {w : List ℕ} → Gives n w (record { reply = r; wrote = 0 }) → OneOf (but 11) (tagOf the-type r) → ListsInC (view l st) before before n w
+  pub list-refused : {n : ℕ} {w : List ℕ} → Gives n w (record { reply = r; wrote = 0 }) → OneOf unlisted (tagOf the-type r) → ListsInC (view l st) before before n w
   list-refused g k =
       let e : recordsFor (view l st) (length before / recordSize) ≡ [] = refused-none (view l st) (length before / recordSize) r (C .reply st) k in
       record { numbers = numbered g; records = ap (λ (rs : List Record). over (allWords rs) before) (sym e) }

@@ -1,4 +1,4 @@
--- Document 01, "Credit", and document 02, job 1: the events of demand 3, each in one definition (specs/Actions.antt has what an event is).
+-- Document 01, "Credit", and document 02, jobs 1, 4 and 5: the events of demand 3, each in one definition (specs/Actions.antt has what an event is).
 use mathlib.Core.Path.{_≡_}
 use mathlib.Core.Bool.{Bool, true, false, cond, not, _&&_, _||_}
 use mathlib.Core.List.{List, [], _∷_, _++_}

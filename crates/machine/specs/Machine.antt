@@ -145,7 +145,7 @@ pub record Wire : Type 0 where
   pub toInitiator : List (List ℕ)
   pub waiting : Bool
 
--- the open commands; the tags of all commands taken, in the order of taking; and how many requests were taken and ended
+-- the open commands; the tags of all that were ever open, in the order of taking; and how many requests were taken and ended
 pub record Work : Type 0 where
   pub tracks : List Track
   pub tags : List ℕ

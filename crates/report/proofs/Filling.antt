@@ -21,8 +21,8 @@ use Rattle.words.specs.Slots.{slots, noSlot}
 use Rattle.words.specs.Head.{headOf}
 use Rattle.words.specs.View.{opens, openOf, view}
 use Rattle.words.specs.declared.Slot.{Slot}
-use Rattle.words.proofs.Ports.{opens-long, while-open, while-closed, view-live}
-use Rattle.srp.proofs.Listing.{open-all, closed-none}
+use Rattle.words.proofs.Ports.{opens-long, while-open, view-live}
+use Rattle.srp.proofs.Listing.{open-all, closed-none, as-many}
 use Rattle.report.specs.Reports.{slotRecord, noRecord, noRecords, CountFor}
 
 pub record Filling (l : List ℕ) (n : ℕ) (records : List Record) (i : ℕ) : Type 0 where
@@ -74,8 +74,8 @@ slot-records st [] = refl
 slot-records st (c ∷ cs) = ap (λ (x : List Record). slotRecord c ∷ x) (slot-records st cs)
 
 -- of the closed port: none, all blank
-pub closed-count : (l st : List ℕ) → headOf l .live ≡ false → 0 ≡ length (view l st .held)
-closed-count l st e = ap (λ (p : Port). length (p .held)) (sym (while-closed l st e))
+pub closed-count : (l st : List ℕ) → headOf l .live ≡ false → 0 ≡ length (calls.recordsFor (view l st) mostBuffers)
+closed-count l st e = ap length (sym (closed-none (view l st) mostBuffers (view-live l st ∙ e)))
 
 pub closed-listing : (l st : List ℕ) (x : Record) → headOf l .live ≡ false → x ≡ noRecord → replicate mostBuffers x ≡ calls.listedInto (view l st) noRecords
 closed-listing l st x e b =
@@ -84,6 +84,9 @@ closed-listing l st x e b =
 -- of an open port: those of its slots
 open-records : (l st : List ℕ) → headOf l .live ≡ true → calls.listing (view l st) ≡ map slotRecord (opens l)
 open-records l st e = ap (λ (p : Port). calls.listing p) (while-open l st e) ∙ slot-records st (opens l)
+
+pub open-count : (l st : List ℕ) → headOf l .live ≡ true → length (view l st .held) ≡ length (calls.recordsFor (view l st) mostBuffers)
+open-count l st e = sym (as-many (view l st)) ∙ ap length (sym (open-all (view l st) (view-live l st ∙ e)))
 
 pub open-listing : (l st : List ℕ) → headOf l .live ≡ true → map slotRecord (opens l) ++ drop (headOf l .held) noRecords ≡ calls.listedInto (view l st) noRecords
 open-listing l st e =

@@ -11,7 +11,6 @@ use types.Run.{OneOf}
 use Rattle.srp.specs.Limits.{mostBuffers}
 use Rattle.srp.specs.Credit.{Port}
 use Rattle.srp.specs.Calls.{listing, recordsFor}
-use Rattle.srp.specs.declared.Record.{Record}
 use Rattle.srp.specs.declared.Reply.{Reply}
 use Rattle.srp.specs.declared.Reply.the-variants.{Listed}
 use Rattle.srp.proofs.Listing.{unlisted, listed-all, refused-none, room-for-all, as-many}
@@ -25,10 +24,10 @@ module _ (w : List ℕ) (room : ℕ) (r : Reply) (C : CountFor w room r) (st : L
   p = view w st
 
   -- a refusal writes nothing
-  pub for-refused : OneOf unlisted (tagOf the-type r) → (records : List Record) → ListingFor p room (record { reply = r; count = 0; records = records })
-  for-refused k records =
+  pub for-refused : OneOf unlisted (tagOf the-type r) → (l : Listing) → ListingIs p l → ListingFor p room (record { reply = r; count = 0; records = l .records })
+  for-refused k l K =
       let e : recordsFor p room ≡ [] = refused-none p room r (C .reply st) k in
-      record { reply = C .reply st; fits = omega arith; small = omega arith; count = ap length (sym e); records = sym e }
+      record { reply = C .reply st; fits = omega arith; small = omega arith; count = ap length (sym e); written = sym e; records = K .records }
 
   -- unrefused
   pub for-open : (n : ℕ) → r ≡ Listed n → (l : Listing) → ListingIs p l → ListingFor p room (record { reply = Listed n; count = n; records = l .records })
@@ -41,5 +40,6 @@ module _ (w : List ℕ) (room : ℕ) (r : Reply) (C : CountFor w room r) (st : L
         fits = C .fits n e .0;
         small = C .fits n e .1;
         count = q .0 ∙ sym (as-many p) ∙ ap length (sym (q .1));
-        records = rw (K .records) (take-at (recordsFor p mostBuffers) _ n long ∙ all ∙ sym (q .1));
+        written = rw (K .records) (take-at (recordsFor p mostBuffers) _ n long ∙ all ∙ sym (q .1));
+        records = K .records;
       }

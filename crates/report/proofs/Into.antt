@@ -32,4 +32,4 @@ module _ {A : Type 0} (new old : List A) where
 -- the lent list with all that is to be written
 pub lists-into : (p : Port) (before : List Record) (f : Listing) → ListingFor p (length before) f
     → ListsInto p before (into (f .records) before (f .count)) (f .reply)
-lists-into p before f K = record { reply = K .reply; records = λ i. K .records i ++ drop (K .count i) before }
+lists-into p before f K = record { reply = K .reply; records = λ i. K .written i ++ drop (K .count i) before }

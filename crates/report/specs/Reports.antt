@@ -32,16 +32,17 @@ noRecords = replicate mostBuffers noRecord
 -- the listing of a port by value: how many, and 16 records, blank behind those of the open commands
 pub record ListingIs (p : Port) (r : Listing) : Type 0 where
   pub reply : r .reply ≡ listDef p mostBuffers .reply
-  pub count : r .count ≡ length (p .held)
+  pub count : r .count ≡ length (recordsFor p mostBuffers)
   pub records : r .records ≡ listedInto p noRecords
 
--- what a listing writes to a lent list of `room` records
+-- the same, with what is written to a lent list of `room` records: the first `count` of them
 pub record ListingFor (p : Port) (room : ℕ) (r : Listing) : Type 0 where
   pub reply : r .reply ≡ listDef p room .reply
   pub fits : r .count ≤ room
   pub small : r .count ≤ mostBuffers
   pub count : r .count ≡ length (recordsFor p room)
-  pub records : take (r .count) (r .records) ≡ recordsFor p room
+  pub written : take (r .count) (r .records) ≡ recordsFor p room
+  pub records : r .records ≡ listedInto p noRecords
 
 -- the lent list before and after the call
 pub record ListsInto (p : Port) (before after : List Record) (r : Reply) : Type 0 where

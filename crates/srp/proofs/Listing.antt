@@ -1,4 +1,4 @@
--- The listing: what its reply says of its records; they stand first in the lent list, oldest first, and the rest of the list is untouched.
+-- The listing: what its reply says of its records; they stand first in the lent list, and the rest of the list is untouched.
 -- Assumes nothing.
 use mathlib.Core.Path.{_≡_, refl, sym, ap, _∙_, subst}
 use mathlib.Core.Bool.{Bool, true, false}

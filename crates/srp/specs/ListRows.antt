@@ -23,19 +23,19 @@ opened tag lun out inn =
 abbrev pub holding : List Open → Port
 holding cs = record { live = true; wanted = 4; announced = 2; held = cs; unanswered = false; terms = noTerms }
 
-abbrev pub of-record : ℕ → ℕ → ℕ → ℕ → Record
-of-record tag lun out inn = record { tag = tag; lun = lun; out = out; inn = inn }
+abbrev pub listed-as : ℕ → ℕ → ℕ → ℕ → Record
+listed-as tag lun out inn = record { tag = tag; lun = lun; out = out; inn = inn }
 
 -- so many records of the owner's, each as before the call
 abbrev pub kept : ℕ → List Record
-kept n = replicate n (of-record 7 7 7 7)
+kept n = replicate n (listed-as 7 7 7 7)
 
 -- a port, the list before, and after
 abbrev pub rows : List (Port × (List Record × List Record))
 rows =
     -- the oldest first, though its tag is the larger; the rest untouched
-    (holding (opened 9 1 600 512 ∷ opened 2 3 0 4 ∷ []), (kept 18, of-record 9 1 600 512 ∷ of-record 2 3 0 4 ∷ kept 16))
-    ∷ (holding (opened 2 3 0 4 ∷ opened 9 1 600 512 ∷ []), (kept 16, of-record 2 3 0 4 ∷ of-record 9 1 600 512 ∷ kept 14))
+    (holding (opened 9 1 600 512 ∷ opened 2 3 0 4 ∷ []), (kept 18, listed-as 9 1 600 512 ∷ listed-as 2 3 0 4 ∷ kept 16))
+    ∷ (holding (opened 2 3 0 4 ∷ opened 9 1 600 512 ∷ []), (kept 16, listed-as 2 3 0 4 ∷ listed-as 9 1 600 512 ∷ kept 14))
     -- none open
     ∷ (holding [], (kept 16, kept 16))
     -- a short list, and a closed port: untouched

@@ -138,7 +138,7 @@ refusedBy p m r = conducted (conductOf r) p m r
 -- a message that draws no refusal; a bad one draws its own
 abbrev pub accepted : Port → List ℕ → Tables → Message → Outcome
 accepted p s t (Bad r) = refusedBy p (Bad r) r
--- "Taking a request: A - 1, H + 1"
+-- "Taking a request: A - 1, H + 1"; the commands stand in the order of taking
 accepted p s t (Cmd c) =
     silent (withHeld p (p .announced - 1) (p .held ++ (newOpen c s t ∷ []))) (NewCommand (c .request .tag) (c .request .lun) (c .cdb))
 -- a task request ends in the same call, as do the commands that it aborts

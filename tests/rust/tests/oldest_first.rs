@@ -161,7 +161,7 @@ fn every_list_of_six() {
     port.events.assert_each(500, &EVENTS);
 }
 
-/// Up to 16 commands of 18 tags, mostly as many as can be; one in 100 events ends all of a LUN.
+/// Up to 16 commands of 18 tags, often 16; where fewer are open, one event in 100 ends all of a LUN.
 #[test]
 fn sixteen_tags_used_again() {
     let (mut port, mut random) = (Followed::after_login(), Random::new(55));

@@ -13,7 +13,7 @@ use Rattle.words.proofs.Ports.{view-live}
 use Rattle.report.specs.Reports.{slotRecord, noRecords}
 use Rattle.state.proofs.Opened.{head-closed, head-open, held-is}
 use Rattle.report.proofs.Cases.{list-closed, listed}
-use Rattle.report.proofs.Filling.{Filling, fill-none, fill-more, filled, closed-count, closed-listing, open-listing}
+use Rattle.report.proofs.Filling.{Filling, fill-none, fill-more, filled, closed-count, closed-listing, open-count, open-listing}
 use Rattle.report.proofs.list.Statement.{statement}
 use Rattle.report.proofs.list.Tie as tie
 use Rattle.report.proofs.list.Reads as reads
@@ -99,7 +99,7 @@ returns-2 c =
     let e = head-open G (c .before .before .if1 .left) in
     record {
       reply = ap Listed (sym (held-is G st e)) ∙ sym (ap (λ (o : Outcome). o .reply) (listed (view l st) (view-live l st ∙ e)));
-      count = sym (held-is G st e);
+      count = sym (held-is G st e) ∙ open-count l st e;
       records =
           filled l (c .before .before .before .get-head .result .held) (c .before .loop .records) (c .before .loop .i) (c .before .loop .inv) (c .loop-test .left)
           ∙ ap (λ (n : ℕ). map slotRecord (opens l) ++ drop n noRecords) (G .held)

@@ -22,7 +22,7 @@ enum-known-reply c = search needs
 -- src/lib.rt:139:9
 returns : tie.Need-returns
 returns c =
-    λ st. for-refused (c .before .before .before .before .args .s .now) (c .before .before .before .before .args .room) (c .before .before .before .count-for .result) (c .before .before .before .count-for .ensures) st (c .match .keys2) (c .before .before .list .result .records)
+    λ st. for-refused (c .before .before .before .before .args .s .now) (c .before .before .before .before .args .room) (c .before .before .before .count-for .result) (c .before .before .before .count-for .ensures) st (c .match .keys2) (c .before .before .list .result) (c .before .before .list .ensures st)
 
 -- src/lib.rt:132:1
 returns-2 : tie.Need-returns-2

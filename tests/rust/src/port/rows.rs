@@ -138,7 +138,7 @@ fn judge(target: &mut impl Target, words: &[&str], level: u32) -> Result<(Call, 
     Ok((call, outcome.returned))
 }
 
-/// Sorts the records listed: "below level 5 the order is free".
+/// Sorts the records listed: "the order of its records is free".
 fn sort_listed(outcome: &mut Outcome) {
     let listed = &mut outcome.records.as_chunks_mut::<4>().0[..outcome.answer[0] as usize];
     listed.sort_unstable();

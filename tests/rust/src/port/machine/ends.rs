@@ -17,7 +17,7 @@ pub struct Ends {
     pub to_initiator: VecDeque<Vec<u8>>,
     /// In no order that counts.
     pub open: Vec<Open>,
-    /// The tags of all commands taken, in the order of taking.
+    /// The tags of all commands that were ever open, in the order of taking.
     pub taken: Vec<u64>,
     /// A credit request was written, and no answer to it was taken.
     pub unanswered: bool,
