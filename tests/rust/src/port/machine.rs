@@ -2,8 +2,8 @@
 //! the events' arguments, the calls' refusals and the messages written; of the port's state it is given D alone, as
 //! owed". Its own counts say what each message lifts, which operations are handed out and how many of a move, and which
 //! call is refused for what went before; what is in a command it reads with the model (`expected`). Its own list of the
-//! commands that were open says in which order they are listed. All of it is asserted of each event, as demand 3 has it, and so is
-//! the type of the message that is written. Each message sent is traced too (`lines`).
+//! commands that were open says in which order they are listed. All of it is asserted of each event, as demand 3 has
+//! it, and so is the type of the message that is written. Each message sent is traced too (`lines`).
 
 mod ends;
 mod expected;
