@@ -31,16 +31,17 @@
  *   - It takes messages from the initiator in the order in which they came, and sends messages in the order of the
  *     calls that wrote them, with a solicited event where the adapter has them and SOLNT (byte 1 bit 0) is 1. A buf
  *     may be lent again when its message has been sent.
- *   - For an SRP_CMD, srp_look first. It names the tables to fetch. They are fetched by RDMA Read in both directions.
- *     When these Reads are complete: srp_target_take, with both tables; later messages wait. All other messages, and
- *     commands that srp_look refuses, are taken without tables.
+ *   - For an SRP_CMD, srp_look first. It names the tables to fetch. They are fetched by RDMA Read in both directions;
+ *     where the adapter has a boundary, the owner splits a Read that would cross it. When these Reads are complete:
+ *     srp_target_take, with both tables; later messages wait. All other messages, and commands that srp_look refuses,
+ *     are taken without tables.
  *   - For a command taken: srp_target_plan; then for each part of its data, in the order in which the device has them,
  *     srp_target_move, and srp_target_step in that direction until done, each piece posted as the RDMA operation that
  *     the answer names; then srp_target_finish. One move of offset 0 and count R is all of a direction.
  *   - Each piece needs a slot of the adapter until its operation is complete; the slots are common to the moves of all
- *     commands and to the fetches of tables. A move of k bytes has at most 32 + k / M pieces, rounded down, and as few
- *     as can be: srp_target_step says more. An owner with fewer slots steps on when slots are free again. Bytes that are
- *     named in two moves instead of one can cost one piece more.
+ *     commands and to the fetches of tables. A move of k bytes has at most 32 + k / M pieces, rounded down, with a
+ *     boundary Q another 32 + k / Q at most, and as few as can be: srp_target_step says more. An owner with fewer slots
+ *     steps on when slots are free again. Bytes that are named in two moves instead of one can cost one piece more.
  *   - The port does not know EMDP (mode page 02h, byte 12 bit 7). While it is 0, each move in a direction starts at or
  *     behind the end of the one before it.
  *   - Data-out: RDMA Reads complete in any order. Wait for each Read's completion before its data are used. The port
@@ -73,9 +74,10 @@ extern "C" {
  * Version 2 has srp_trace; all else is as in version 1. There was no version 3: each version is named after the job of
  * document 02 that changed the interface, and job 3 did not. Version 4 has the number of pieces in the answer of
  * srp_target_step, where version 2 has 0; all else is as in version 2. Version 5 promises that the open commands are
- * listed oldest first, where version 4 promises no order; their libraries are the same. But for these two, the words
- * that a library of another version made are not a port of this one. */
-#define SRP_TARGET_VERSION 5
+ * listed oldest first, where version 4 promises no order; their libraries are the same. Version 6 has address
+ * boundaries: srp_target_login and srp_cut take one argument more, and where it is 0 all else is as in version 5. But
+ * for versions 4 and 5, the words that a library of one version made are not a port of another. */
+#define SRP_TARGET_VERSION 6
 
 /* Refusals: from the message or the caller. */
 #define SRP_REFUSED_SHORT_BUFFER 1  /* lent buffer too short */
@@ -127,6 +129,10 @@ extern "C" {
 #define SRP_LONGEST_PIECE     1048576 /* M is 1 to this */
 #define SRP_SHORTEST_AGREED   64      /* X and an agreed length are from this */
 #define SRP_LONGEST_AGREED    1364    /* to this */
+
+/* The boundary of a login and of the cut, Q: 0 for none, or a power of two. */
+#define SRP_LEAST_BOUNDARY    512        /* from this */
+#define SRP_GREATEST_BOUNDARY 4294967296 /* to this, 2^32 */
 
 /* Formats of data buffer descriptors, as bits of a login's required formats. */
 #define SRP_FORMAT_BIT_DIRECT   0x0002
@@ -180,6 +186,9 @@ uint64_t srp_target_words(void);
  *                  indirect   0 where format 2 is not supported, else it is
  *                  solicited  0 where the adapter has no solicited events; else SRP_LOGIN_RSP has SOLNTSUP (byte 26
  *                             bit 4). Nothing else depends on it: SOLNT bits are written either way
+ *   boundary       Q, for the whole channel: by its addresses no RDMA operation that srp_target_step names crosses a
+ *                  multiple of it. A power of two from 512 to 2^32, where the adapter fails an operation that crosses
+ *                  one; 0 for none
  *   own            the target port identifier
  *   msg, msg_len   the message, an SRP_LOGIN_REQ of 64 bytes. Over RDMA/CM Linux sends 56 of them, in another order:
  *                  the adapter restores the 64
@@ -187,7 +196,8 @@ uint64_t srp_target_words(void);
  *
  * Refusals, in the order of checking:
  *    1  buf_len under 132
- *    2  N outside 1 to 16, M outside 1 to 1,048,576, or X outside 64 to 1,364
+ *    2  N outside 1 to 16, M outside 1 to 1,048,576, X outside 64 to 1,364, or boundary neither 0 nor a power of two
+ *       from 512 to 2^32
  *    3  msg_len not 64
  *    4  byte 0, the type, other than 00h
  * Then the login is rejected, with the reason of the first that fits:
@@ -206,8 +216,8 @@ uint64_t srp_target_words(void);
  * The owner keeps, for srp_look, the agreed length, which is the requested length, and the agreed formats, which are
  * the required formats. After a rejection it sends the message and makes no connection; after a refusal it makes none.
  */
-uint32_t srp_target_login(uint64_t *port, const uint32_t settings[5], const uint8_t own[16], const uint8_t *msg,
-                          size_t msg_len, uint8_t *buf, size_t buf_len, uint64_t answer[8]);
+uint32_t srp_target_login(uint64_t *port, const uint32_t settings[5], uint64_t boundary, const uint8_t own[16],
+                          const uint8_t *msg, size_t msg_len, uint8_t *buf, size_t buf_len, uint64_t answer[8]);
 
 /*
  * Take: a message from the initiator, after the login.
@@ -327,17 +337,22 @@ uint32_t srp_target_move(uint64_t *port, uint64_t tag, uint32_t direction, uint3
  * answer after 0, with a piece:   1, operation (1 RDMA Read, 2 RDMA Write), handle, address, length, offset, number
  * answer after 0, done:           0, 0, 0, 0, 0, 0, number
  * A piece is handed out by the call. The first starts at the move's offset, each other one behind the last. It is 1 to
- * M long, with the login's M, and ends at the nearest of M bytes, its segment's end and the move's end; its data stand
- * at the offset in the command's data. Done comes when the current move has no bytes left, or none was named, and then
- * each time again until another is; it alters no word of the port.
+ * M long, with the login's M and Q, and ends at the nearest of M bytes, its segment's end, the move's end and, where Q
+ * is not 0, the next multiple of Q above its first address; its data stand at the offset in the command's data. So by
+ * its addresses no piece crosses a multiple of Q, and one that starts at a multiple may be Q long; 2^64 counts as one.
+ * Done comes when the current move has no bytes left, or none was named, and then each time again until another is; it
+ * alters no word of the port.
  *
  * The number is how many pieces of the current move have been handed out, this one included: 1, 2, 3 and so on. Done
  * has that of the last piece, each time again, and 0 where the move has no bytes or none was named. Each direction has
  * its own. For a finished move it is the length of the list of its pieces. Then:
- *   - Every other list of operations that covers the same bytes in order, each inside one segment and at most M long,
- *     has at least as many. Two segments that adjoin in memory are two: an operation over both is inside neither.
+ *   - Every other list of operations that covers the same bytes in order, each inside one segment, at most M long and
+ *     across no multiple of Q, has at least as many. Two segments that adjoin in memory are two: an operation over both
+ *     is inside neither.
  *   - It is at most (segments with a byte in the move) + (bytes of the move / M, rounded down), so at most
- *     32 + (2^32 - 1) / M: 4,127 with M = 1,048,576. A segment of length 0 has no byte.
+ *     32 + (2^32 - 1) / M: 4,127 with M = 1,048,576. A segment of length 0 has no byte. Where Q is not 0, this grows by
+ *     one for each multiple of Q strictly inside a segment's part of the move, which is the address of a byte of that
+ *     part other than its first: by at most 32 + (bytes of the move / Q, rounded down).
  */
 uint32_t srp_target_step(uint64_t *port, const uint8_t *store, uint64_t tag, uint32_t direction, uint64_t answer[8]);
 
@@ -472,24 +487,27 @@ uint32_t srp_target_list(const uint64_t *port, uint64_t *records, size_t words, 
  *   32-     as before
  * F is the table's length, and all of the table is to be fetched, if that is a multiple of 16 from 16 to 512 and not
  * 16c. Otherwise nothing is to be fetched, and all 16 bytes are 0: the format is 0 or 1, or the copies in the message
- * are the whole table, or the table's length is bad (taking such a command draws 10).
+ * are the whole table, or the table's length is bad (taking such a command draws 10). Look is given no boundary: the
+ * fetch that it names may cross a multiple of the login's Q, and is the owner's to split.
  */
 uint32_t srp_look(const uint8_t *msg, size_t msg_len, uint32_t agreed, uint32_t formats, uint8_t *buf, size_t buf_len);
 
 /*
  * The cut: the piece of a buffer that the next RDMA operation moves, or done. The buffer's B bytes are those of its
  * segments in order. Of its first min(R, B) bytes, `handed` have been handed out; the next piece starts there and ends
- * at the nearest of M bytes, its segment's end and min(R, B). Segments of length 0 are skipped.
+ * at the nearest of M bytes, its segment's end, min(R, B) and, where Q is not 0, the next multiple of Q above its first
+ * address. Segments of length 0 are skipped.
  *
  *   list, list_len   the segments, one memory descriptor of 16 bytes each; none is lawful (B = 0)
  *   m                M, the longest piece, 1 to 1,048,576
+ *   q                Q, the boundary, 0 for none, or a power of two from 512 to 2^32
  *   r                R, the length that the SCSI command requires
  *   handed           bytes already handed out: 0 at first, then the last piece's offset + its length
  *   buf, buf_len     where the answer goes
  *
  * Refusals, in the order of checking:
  *    1  buf_len under 32
- *    2  m outside 1 to 1,048,576
+ *    2  m outside 1 to 1,048,576, or q neither 0 nor a power of two from 512 to 2^32
  *   11  list_len not a multiple of 16, or above 512
  *   10  a segment with address + length above 2^64 (equal is fine), or a sum of lengths above 2^32 - 1
  *   11  handed above min(R, B)
@@ -503,8 +521,8 @@ uint32_t srp_look(const uint8_t *msg, size_t msg_len, uint32_t agreed, uint32_t 
  *    0-31   0
  *   32-     as before
  */
-uint32_t srp_cut(const uint8_t *list, size_t list_len, uint32_t m, uint32_t r, uint32_t handed, uint8_t *buf,
-                 size_t buf_len);
+uint32_t srp_cut(const uint8_t *list, size_t list_len, uint32_t m, uint64_t q, uint32_t r, uint32_t handed,
+                 uint8_t *buf, size_t buf_len);
 
 /*
  * Trace: writes one message as a line of text, 80 columns and a line feed, to be read on a terminal. It keeps no state

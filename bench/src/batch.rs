@@ -18,7 +18,7 @@ pub struct Message {
 
 /// Calls of one kind, one for each message or tag, or so many.
 pub enum Batch {
-    Login(Vec<[u8; 64]>),
+    Login { messages: Vec<[u8; 64]>, boundary: u64 },
     Take(Vec<Message>),
     Plan { tags: Vec<u64>, required: u32 },
     Move { tags: Vec<u64>, direction: u32, offset: u32, count: u32 },
@@ -31,7 +31,7 @@ pub enum Batch {
     Counters(usize),
     List(usize),
     Look(Vec<Vec<u8>>),
-    Cut { lists: Vec<Vec<u8>>, required: u32, handed: u32 },
+    Cut { lists: Vec<Vec<u8>>, boundary: u64, required: u32, handed: u32 },
     Trace { messages: Vec<Vec<u8>>, direction: u32 },
 }
 
@@ -65,7 +65,7 @@ impl Batch {
     /// How many calls it makes on a port.
     pub fn calls(&self) -> usize {
         match self {
-            Batch::Login(messages) => messages.len(),
+            Batch::Login { messages, .. } => messages.len(),
             Batch::Take(messages) => messages.len(),
             Batch::Plan { tags, .. } | Batch::Move { tags, .. } => tags.len(),
             Batch::Step { tags, .. } | Batch::Finish { tags, .. } => tags.len(),
@@ -84,7 +84,9 @@ impl Batch {
     pub unsafe fn run(&self, side: &Side, ports: &mut [Lent], mut after: impl FnMut(u32, &Lent)) {
         let (side, after) = (black_box(side), &mut after);
         match self {
-            Batch::Login(messages) => each(ports, messages, after, |lent, msg| unsafe { login(side, lent, msg) }),
+            Batch::Login { messages, boundary } => {
+                each(ports, messages, after, |lent, msg| unsafe { login(side, lent, *boundary, msg) })
+            }
             Batch::Take(messages) => each(ports, messages, after, |lent, message| unsafe { take(side, lent, message) }),
             Batch::Plan { tags, required } => {
                 each(ports, tags, after, |lent, tag| unsafe { (side.plan)(lent.port, *tag, *required, *required) })
@@ -109,8 +111,8 @@ impl Batch {
             Batch::Look(messages) => each(ports, messages, after, |lent, msg| unsafe {
                 (side.look)(msg.as_ptr(), msg.len(), AGREED, FORMATS, lent.buf.as_mut_ptr(), lent.buf.len())
             }),
-            Batch::Cut { lists, required, handed } => {
-                each(ports, lists, after, |lent, list| unsafe { cut(side, lent, list, *required, *handed) })
+            Batch::Cut { lists, boundary, required, handed } => {
+                each(ports, lists, after, |lent, list| unsafe { cut(side, lent, list, *boundary, *required, *handed) })
             }
             Batch::Trace { messages, direction } => each(ports, messages, after, |lent, msg| unsafe {
                 (side.trace)(msg.as_ptr(), msg.len(), *direction, lent.buf.as_mut_ptr(), lent.buf.len())
@@ -132,9 +134,9 @@ fn each<T>(ports: &mut [Lent], items: &[T], after: &mut impl FnMut(u32, &Lent), 
 // SAFETY, of all calls: the port is of this side, and each pointer leads to what its length says.
 
 #[inline(always)]
-unsafe fn login(side: &Side, lent: &mut Lent, msg: &[u8]) -> u32 {
+unsafe fn login(side: &Side, lent: &mut Lent, boundary: u64, msg: &[u8]) -> u32 {
     let (buf, buf_len, answer) = (lent.buf.as_mut_ptr(), lent.buf.len(), &mut *lent.answer);
-    unsafe { (side.login)(lent.port, &SETTINGS, &OWN, msg.as_ptr(), msg.len(), buf, buf_len, answer) }
+    unsafe { (side.login)(lent.port, &SETTINGS, boundary, &OWN, msg.as_ptr(), msg.len(), buf, buf_len, answer) }
 }
 
 #[inline(always)]
@@ -170,13 +172,13 @@ unsafe fn list(side: &Side, lent: &mut Lent) -> u32 {
 }
 
 #[inline(always)]
-unsafe fn cut(side: &Side, lent: &mut Lent, list: &[u8], required: u32, handed: u32) -> u32 {
+unsafe fn cut(side: &Side, lent: &mut Lent, list: &[u8], boundary: u64, required: u32, handed: u32) -> u32 {
     let (buf, buf_len) = (lent.buf.as_mut_ptr(), lent.buf.len());
-    unsafe { (side.cut)(list.as_ptr(), list.len(), MAX_PIECE, required, handed, buf, buf_len) }
+    unsafe { (side.cut)(list.as_ptr(), list.len(), MAX_PIECE, boundary, required, handed, buf, buf_len) }
 }
 
 impl Lent {
-    /// A port after an accepted login.
+    /// A port after an accepted login, without a boundary.
     pub fn after_login(side: &Side) -> Self {
         let mut lent = Lent {
             port: (side.new_port)(),
@@ -185,7 +187,7 @@ impl Lent {
             records: Box::new([0x5b; LIST_WORDS]),
             answer: Box::new([0x5b; ANSWER_WORDS]),
         };
-        let returned = unsafe { login(side, &mut lent, &login_request()) };
+        let returned = unsafe { login(side, &mut lent, 0, &login_request()) };
         assert_eq!((returned, *lent.answer), (0, [52, 0, 0, 0, 0, 0, 0, 0]), "{}: login", side.name);
         lent
     }

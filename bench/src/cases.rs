@@ -3,6 +3,7 @@
 
 use crate::batch::{login_request, Batch, Message};
 use crate::library::LIBRARY;
+use crate::messages::*;
 use crate::series::{Part, Series};
 use crate::sides::{Side, PLAIN, YARDSTICK};
 
@@ -18,8 +19,8 @@ pub struct Case {
 
 const IN: u32 = 1;
 
-/// Bytes of a segment: two pieces.
-const SEGMENT: u32 = 700;
+/// Q, in the cases that have one.
+pub const BOUNDARY: u64 = 4096;
 
 const TURNS: usize = 8;
 
@@ -30,106 +31,8 @@ fn tags() -> Vec<u64> {
     (0x100..0x110).collect()
 }
 
-// ---- Messages ----
-
-/// The first 48 bytes of an SRP_CMD, and 4n bytes more of CDB.
-fn command(formats: u8, count: u8, n: u8, tag: u64) -> Vec<u8> {
-    let mut msg = vec![0; 48 + 4 * usize::from(n)];
-    msg[0] = 0x02;
-    msg[5] = formats;
-    msg[6] = count;
-    msg[7] = count;
-    msg[8..16].copy_from_slice(&tag.to_be_bytes());
-    msg[31] = n << 2;
-    msg
-}
-
-fn memory(address: u64, length: u32) -> [u8; 16] {
-    let mut bytes = [0; 16];
-    bytes[0..8].copy_from_slice(&address.to_be_bytes());
-    bytes[8..12].copy_from_slice(&7u32.to_be_bytes());
-    bytes[12..16].copy_from_slice(&length.to_be_bytes());
-    bytes
-}
-
-fn segments(count: u32) -> Vec<u8> {
-    (0..u64::from(count)).flat_map(|i| memory(0x10_0000 + i * 4096, SEGMENT)).collect()
-}
-
-fn plain(bytes: Vec<u8>) -> Message {
-    Message { bytes, out: Vec::new(), inn: Vec::new() }
-}
-
-fn no_data(tag: u64) -> Message {
-    plain(command(0x00, 0, 0, tag))
-}
-
-fn direct(tag: u64) -> Message {
-    plain([command(0x01, 0, 0, tag), memory(0x1000, 1300).to_vec()].concat())
-}
-
-/// A table descriptor, the total length, and the first entries.
-fn indirect(entries: u32, copies: u32) -> Vec<u8> {
-    let (table, total) = (memory(0x9000, 16 * entries), (SEGMENT * entries).to_be_bytes());
-    [table.to_vec(), total.to_vec(), segments(copies)].concat()
-}
-
-/// Data-in of so many segments, all in the message.
-fn all_copied(count: u32, tag: u64) -> Message {
-    plain([command(0x02, count as u8, 0, tag), indirect(count, count)].concat())
-}
-
-/// n = 63, and both ways a table of which all 32 entries are in the message: 1,364 bytes.
-fn longest(tag: u64) -> Message {
-    plain([command(0x22, 32, 63, tag), indirect(32, 32), indirect(32, 32)].concat())
-}
-
-/// Data-in by a table of 32 entries that was fetched, some of them in the message too.
-fn fetched(copies: u32, tag: u64) -> Message {
-    let bytes = [command(0x02, copies as u8, 0, tag), indirect(32, copies)].concat();
-    Message { bytes, out: Vec::new(), inn: segments(32) }
-}
-
-/// An SRP_TSK_MGMT that aborts all commands of LUN 0.
-fn abort_task_set() -> Message {
-    let mut msg = vec![0; 48];
-    msg[0] = 0x01;
-    msg[15] = 0xff;
-    msg[30] = 0x02;
-    plain(msg)
-}
-
-/// The SRP_CRED_RSP to a grant.
-fn credit_response() -> Message {
-    let mut msg = vec![0; 16];
-    msg[0] = 0x41;
-    msg[15] = 1;
-    plain(msg)
-}
-
-/// An SRP_RSP with a delta and RSP_CODE 4.
-fn response() -> Message {
-    let mut msg = vec![0; 40];
-    msg[0] = 0xc1;
-    msg[7] = 1;
-    msg[15] = 0xff;
-    msg[18] = 1;
-    msg[35] = 4;
-    msg[39] = 4;
-    plain(msg)
-}
-
-/// An SRP_AER_REQ, of a type that document 01 does not have.
-fn other_type() -> Message {
-    let mut msg = vec![0; 52];
-    msg[0] = 0x82;
-    plain(msg)
-}
-
-// ---- Cases ----
-
-fn login() -> Batch {
-    Batch::Login(vec![login_request()])
+fn login(boundary: u64) -> Batch {
+    Batch::Login { messages: vec![login_request()], boundary }
 }
 
 fn take_all(message: impl Fn(u64) -> Message) -> Batch {
@@ -169,7 +72,7 @@ fn taken_anew_case() -> Case {
 }
 
 fn close_case() -> Case {
-    case("close, 16 commands open", vec![take_all(direct)], Batch::Close, vec![login()])
+    case("close, 16 commands open", vec![take_all(direct)], Batch::Close, vec![login(0)])
 }
 
 fn plan_case() -> Case {
@@ -206,6 +109,18 @@ fn step_case(part: Part, segments: u32) -> Case {
     Case { series: Some(series), ..case(&name, before, timed, vec![finish_all(tags())]) }
 }
 
+/// A step whose piece ends at a multiple of Q, before M bytes. Its port is logged in anew, with a boundary.
+fn bounded_step_case() -> Case {
+    let before = vec![
+        login(BOUNDARY),
+        take_all(direct_before_multiple),
+        Batch::Plan { tags: tags(), required: 1300 },
+        Batch::Move { tags: tags(), direction: IN, offset: 0, count: 1300 },
+    ];
+    let timed = Batch::Step { tags: tags(), direction: IN };
+    case("step, up to a multiple of Q, 16 commands open", before, timed, vec![finish_all(tags()), login(0)])
+}
+
 fn finish_case(name: &str, tag: u64, status: u8, sense: Vec<u8>) -> Case {
     let others = tags().into_iter().filter(|&other| other != tag).collect();
     let timed = Batch::Finish { tags: vec![tag], status, sense };
@@ -224,9 +139,16 @@ fn look_case(name: &str, message: Message) -> Case {
 fn cut_case(part: Part, count: u32) -> Case {
     let required = SEGMENT * count;
     let lists = vec![segments(count); REPEATED];
-    let timed = Batch::Cut { lists, required, handed: part.offset(required) };
+    let timed = Batch::Cut { lists, boundary: 0, required, handed: part.offset(required) };
     let series = Series { call: "cut", part, segments: count };
     Case { series: Some(series), ..case(&series.to_string(), vec![], timed, vec![]) }
+}
+
+/// As the step.
+fn bounded_cut_case() -> Case {
+    let lists = vec![before_multiple(); REPEATED];
+    let timed = Batch::Cut { lists, boundary: BOUNDARY, required: 1300, handed: 0 };
+    case("cut, up to a multiple of Q, 1 segment", vec![], timed, vec![])
 }
 
 /// Towards the port or from it.
@@ -258,7 +180,7 @@ impl Case {
 
 pub fn cases() -> Vec<Case> {
     let mut cases = vec![
-        case("login, accepted", vec![Batch::Close], login(), vec![]),
+        case("login, accepted", vec![Batch::Close], login(0), vec![]),
         take_case("no data", no_data),
         take_case("direct", direct),
         take_case("32 copies each way, 1,364 bytes", longest),
@@ -272,6 +194,7 @@ pub fn cases() -> Vec<Case> {
     ];
     cases.extend(by_segments(step_case));
     cases.extend([
+        bounded_step_case(),
         finish_case("oldest", 0x100, 0, vec![]),
         finish_case("newest", 0x10f, 0, vec![]),
         finish_case("newest, 96 bytes of sense,", 0x10f, 2, vec![0xa5; 96]),
@@ -286,6 +209,7 @@ pub fn cases() -> Vec<Case> {
     ]);
     cases.extend(by_segments(cut_case));
     cases.extend([
+        bounded_cut_case(),
         trace_case("SRP_CMD with 1 descriptor, 64 bytes", direct(1), 0),
         trace_case("SRP_CMD with 16 descriptors, 324 bytes", all_copied(16, 1), 0),
         trace_case("SRP_RSP with RSP_CODE, 40 bytes", response(), 1),

@@ -9,6 +9,7 @@ mod batch;
 mod cases;
 mod compare;
 mod library;
+mod messages;
 mod plain;
 mod port;
 mod report;

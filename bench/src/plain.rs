@@ -33,6 +33,7 @@ unsafe fn wrote(outcome: Result<usize, Refusal>, answer: *mut Answer) -> u32 {
 pub unsafe extern "C" fn plain_login(
     port: *mut Words,
     settings: *const sys::Settings,
+    boundary: u64,
     own: *const Own,
     msg: *const u8,
     msg_len: usize,
@@ -43,7 +44,8 @@ pub unsafe extern "C" fn plain_login(
     let (port, own) = unsafe { (&mut *port.cast::<Port>(), &*own) };
     let (msg, buf) = unsafe { (slice::from_raw_parts(msg, msg_len), slice::from_raw_parts_mut(buf, buf_len)) };
     let [buffers, max_piece, max_message, indirect, solicited] = unsafe { *settings };
-    let settings = Settings { buffers, max_piece, max_message, indirect: indirect != 0, solicited: solicited != 0 };
+    let (indirect, solicited) = (indirect != 0, solicited != 0);
+    let settings = Settings { buffers, max_piece, boundary, max_message, indirect, solicited };
     let outcome = port.login(&settings, own, msg, buf);
     let words = match outcome {
         Ok(Login::Accepted { wrote }) => [wrote as u64, 0],
@@ -204,13 +206,14 @@ pub unsafe extern "C" fn plain_cut<S: Search>(
     list: *const u8,
     list_len: usize,
     m: u32,
+    q: u64,
     r: u32,
     handed: u32,
     buf: *mut u8,
     buf_len: usize,
 ) -> u32 {
     let (list, buf) = unsafe { (slice::from_raw_parts(list, list_len), slice::from_raw_parts_mut(buf, buf_len)) };
-    stateless::cut::<S>(list, m, r, handed, buf).err().unwrap_or(0)
+    stateless::cut::<S>(list, m, q, r, handed, buf).err().unwrap_or(0)
 }
 
 #[inline(never)]

@@ -34,6 +34,7 @@ struct Channel {
     agreed_length: usize,
     formats: u32,
     max_piece: u32,
+    boundary: u64,
     crsolnt: bool,
     losolnt: bool,
     /// Document 01's W, A and D; H, the number of open commands, is W - A - D.
@@ -104,7 +105,7 @@ impl Port {
         }
         let list = &self.lists[slot][direction as usize];
         let transfer = &mut command.transfers[direction as usize];
-        let piece = transfer.next_piece::<S>(list, channel.max_piece);
+        let piece = transfer.next_piece::<S>(list, channel.max_piece, channel.boundary);
         Ok((piece, transfer.number()))
     }
 

@@ -1,7 +1,7 @@
 //! What is printed of the times: all of them, and how they grow where the segments double.
 
 use crate::batch::MAX_PIECE;
-use crate::cases::Case;
+use crate::cases::{Case, BOUNDARY};
 use crate::series::{Part, Series};
 use crate::timing::Times;
 
@@ -57,7 +57,8 @@ impl Report<'_> {
     }
 
     fn print_times(&self) {
-        println!("ns a call, the smallest of many rounds, the sides in turn; M = {MAX_PIECE}.\n");
+        print!("ns a call, the smallest of many rounds, the sides in turn; M = {MAX_PIECE}, ");
+        println!("Q = {BOUNDARY} where a case names it, else none.\n");
         println!("{:<54} {:>8} {:>10} {:>6}", "", "library", "plain Rust", "ratio");
         for (Case { name, .. }, times) in self.cases.iter().zip(self.times) {
             let (library, plain) = (times[LIBRARY], times[PLAIN]);

@@ -1,6 +1,7 @@
 //! The plain port and the yardstick against the rows of tests/rows, made elsewhere; read and judged as by tests/rust.
 
 use srp_target_sys::{Store, Words, STORE_BYTES};
+use srp_tests::limits::Limits;
 use srp_tests::port::call::{Call, Outcome, Target, UNWRITTEN};
 use srp_tests::{port, rows};
 
@@ -29,7 +30,9 @@ impl Current {
         let (msg, msg_len) = (call.input().as_ptr(), call.input().len());
         let [(out, out_len), (inn, in_len)] = call.tables().map(|table| (table.as_ptr(), table.len()));
         match call {
-            Call::Login { settings, own, .. } => (side.login)(port, settings, own, msg, msg_len, buf, buf_len, answer),
+            Call::Login { settings, boundary, own, .. } => {
+                (side.login)(port, settings, *boundary, own, msg, msg_len, buf, buf_len, answer)
+            }
             Call::Take { .. } => {
                 (side.take)(port, store, msg, msg_len, out, out_len, inn, in_len, buf, buf_len, answer)
             }
@@ -67,10 +70,15 @@ fn run_order(side: &'static Side) {
     port::rows::run_job_5(&mut closed_port(side), side.name);
 }
 
+fn run_boundary(side: &'static Side) {
+    port::rows::run_job_6(&mut closed_port(side), side.name);
+}
+
 fn run_cut(side: &'static Side) {
-    // SAFETY: as above.
-    rows::run_cut(side.name, |call, buf| unsafe {
-        (side.cut)(call.list.as_ptr(), call.list.len(), call.m, call.r, call.handed, buf.as_mut_ptr(), buf.len())
+    rows::run_cut(side.name, |call, buf| {
+        let (list, Limits { m, q }) = (&call.list, call.limits);
+        // SAFETY: as above.
+        unsafe { (side.cut)(list.as_ptr(), list.len(), m, q, call.r, call.handed, buf.as_mut_ptr(), buf.len()) }
     });
 }
 
@@ -92,6 +100,11 @@ fn number_rows() {
 #[test]
 fn order_rows() {
     run_order(&PLAIN);
+}
+
+#[test]
+fn boundary_rows() {
+    run_boundary(&PLAIN);
 }
 
 #[test]
@@ -133,6 +146,11 @@ fn number_rows_by_the_yardstick() {
 #[test]
 fn order_rows_by_the_yardstick() {
     run_order(&YARDSTICK);
+}
+
+#[test]
+fn boundary_rows_by_the_yardstick() {
+    run_boundary(&YARDSTICK);
 }
 
 #[test]

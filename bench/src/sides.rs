@@ -8,8 +8,17 @@ use crate::port::Port;
 use crate::search::{Plain, Search};
 use crate::yardstick::Yardstick;
 
-pub type Login =
-    unsafe extern "C" fn(*mut Words, *const Settings, *const Own, *const u8, usize, *mut u8, usize, *mut Answer) -> u32;
+pub type Login = unsafe extern "C" fn(
+    *mut Words,
+    *const Settings,
+    u64,
+    *const Own,
+    *const u8,
+    usize,
+    *mut u8,
+    usize,
+    *mut Answer,
+) -> u32;
 pub type Take = unsafe extern "C" fn(
     *mut Words,
     *mut Store,
@@ -33,7 +42,7 @@ pub type Close = unsafe extern "C" fn(*mut Words, u32, *mut u8, usize, *mut Answ
 pub type Counters = unsafe extern "C" fn(*const Words, *mut Answer) -> u32;
 pub type List = unsafe extern "C" fn(*const Words, *mut u64, usize, *mut Answer) -> u32;
 pub type Look = unsafe extern "C" fn(*const u8, usize, u32, u32, *mut u8, usize) -> u32;
-pub type Cut = unsafe extern "C" fn(*const u8, usize, u32, u32, u32, *mut u8, usize) -> u32;
+pub type Cut = unsafe extern "C" fn(*const u8, usize, u32, u64, u32, u32, *mut u8, usize) -> u32;
 pub type Trace = unsafe extern "C" fn(*const u8, usize, u32, *mut u8, usize) -> u32;
 
 pub struct Side {

@@ -69,13 +69,29 @@ fn table(format: u8, count: u8, msg: &[u8], at: usize) -> Option<&[u8; 16]> {
     Some(if fetched { table } else { &NO_FETCH })
 }
 
+/// Whether Q is one: 0 for none, or a power of two from 512 to 2^32.
+#[inline(always)]
+pub fn is_boundary(q: u64) -> bool {
+    q == 0 || q.is_power_of_two() && (9..=32).contains(&q.trailing_zeros())
+}
+
+/// How many bytes from an address on lie before the next multiple of Q above it.
+#[inline(always)]
+pub fn room_before(q: u64, address: u64) -> u64 {
+    if q == 0 {
+        u64::MAX
+    } else {
+        q - (address & (q - 1))
+    }
+}
+
 /// As look.
 #[inline(always)]
-pub fn cut<S: Search>(list: &[u8], m: u32, r: u32, handed: u32, buf: &mut [u8]) -> Result<(), u32> {
+pub fn cut<S: Search>(list: &[u8], m: u32, q: u64, r: u32, handed: u32, buf: &mut [u8]) -> Result<(), u32> {
     let [piece, offset, ..] = buf.as_chunks_mut::<16>().0 else {
         return Err(1);
     };
-    if !(1..=1 << 20).contains(&m) {
+    if !(1..=1 << 20).contains(&m) || !is_boundary(q) {
         return Err(2);
     }
     let (segments, []) = list.as_chunks::<16>() else {
@@ -91,7 +107,7 @@ pub fn cut<S: Search>(list: &[u8], m: u32, r: u32, handed: u32, buf: &mut [u8]) 
     }
     (*piece, *offset) = ([0; 16], [0; 16]);
     if from < end {
-        *piece = piece_at::<S>(segments, from, (end - from).min(m as u64));
+        *piece = piece_at::<S>(segments, q, from, (end - from).min(m as u64));
         *offset.first_chunk_mut().unwrap() = handed.to_be_bytes();
     }
     Ok(())
@@ -112,13 +128,15 @@ fn sum(segments: &[Segment]) -> Result<u64, u32> {
     Ok(b)
 }
 
-/// The piece from an offset below B on, up to `most` bytes long.
+/// The piece from an offset below B on, up to `most` bytes long and across no multiple of Q.
 #[inline(always)]
-fn piece_at<S: Search>(segments: &[Segment], from: u64, most: u64) -> Segment {
+fn piece_at<S: Search>(segments: &[Segment], q: u64, from: u64, most: u64) -> Segment {
     let mut piece = [0; 16];
     if let Some((segment, within)) = S::in_cut(segments, from) {
-        let handle_and_length = tail_of(segment) & !0xffff_ffff | (length_of(segment) - within).min(most);
-        *piece.first_chunk_mut().unwrap() = (address_of(segment) + within).to_be_bytes();
+        let address = address_of(segment) + within;
+        let length = (length_of(segment) - within).min(most).min(room_before(q, address));
+        let handle_and_length = tail_of(segment) & !0xffff_ffff | length;
+        *piece.first_chunk_mut().unwrap() = address.to_be_bytes();
         *piece.last_chunk_mut().unwrap() = handle_and_length.to_be_bytes();
     }
     piece

@@ -2,12 +2,11 @@
  * Any words are a port, and any bytes its store: every call returns 0 or a refusal of its own, and writes nothing but
  * what it is lent to write.
  */
-#include <string.h>
-
 #include "calls.h"
 #include "cases.h"
 
-enum { M = 512 };
+/* The word of a port that has Q. */
+enum { M = 512, BOUNDARY = 10 };
 
 static uint64_t state;
 
@@ -20,6 +19,13 @@ static uint64_t next(void)
     return state;
 }
 
+/* None, some, and numbers that are no boundary. */
+static uint64_t some_boundary(void)
+{
+    static const uint64_t some[8] = {0, 512, 4096, SRP_GREATEST_BOUNDARY, 1, 511, 768, 2 * SRP_GREATEST_BOUNDARY};
+    return some[next() >> 61];
+}
+
 /* Arbitrary words, large numbers and small ones; an odd first word is an open port's, and most are. */
 static void arbitrary_port(void)
 {
@@ -29,6 +35,7 @@ static void arbitrary_port(void)
     for (i = 0; i < SRP_PORT_WORDS; i++)
         words[i] = next() & masks[next() >> 62];
     words[0] |= next() >> 62 != 0;
+    words[BOUNDARY] = some_boundary();
     lay(PORT, words, sizeof words);
     lay(STORE, NULL, 0);
 }
@@ -94,6 +101,20 @@ static void judge_number(const char *name)
     numbered_dones += !answer[0] && number > 0;
 }
 
+/* Steps that had a piece up to a multiple of the boundary in the words. */
+static unsigned bounded_pieces;
+
+/* No piece crosses a multiple of it, unless it is none. */
+static void judge_boundary(const char *name)
+{
+    const uint64_t *answer = lent_words(ANSWER), q = lent_words(PORT)[BOUNDARY], last = answer[3] + answer[4] - 1;
+    if (!answer[0] || q < SRP_LEAST_BOUNDARY || q > SRP_GREATEST_BOUNDARY || (q & (q - 1)) != 0)
+        return;
+    if (answer[3] / q != last / q)
+        fail(name, "a piece across a boundary");
+    bounded_pieces += last % q == q - 1;
+}
+
 /* A refusal without a message leaves all as it was, but that a login closes the port, and the answer is 0. */
 static void judge(enum call call, uint32_t returned)
 {
@@ -105,8 +126,10 @@ static void judge(enum call call, uint32_t returned)
         expect(ANSWER, 0, zeros, 8 * SRP_ANSWER_WORDS);
     if (logout || (call == CLOSE && returned == 0) || (call == LOGIN && returned))
         expect(PORT, 0, zeros, sizeof zeros);
-    if (returned == 0 && (call == STEP_OUT || call == STEP_IN))
+    if (returned == 0 && (call == STEP_OUT || call == STEP_IN)) {
         judge_number(rules[call].name);
+        judge_boundary(rules[call].name);
+    }
     compare(rules[call].name, returned, among(rules[call].refusals, returned) ? returned : 0);
 }
 
@@ -161,8 +184,8 @@ static uint32_t made(enum call call, uint64_t tag, size_t msg_len)
     case CLOSE:
         return srp_target_close(port, (uint32_t)next(), buf, 132, answer);
     default:
-        return srp_target_login(port, (const uint32_t *)(const void *)lent(SETTINGS), lent(OWN), lent(MSG), msg_len,
-                                buf, 132, answer);
+        return srp_target_login(port, (const uint32_t *)(const void *)lent(SETTINGS), some_boundary(), lent(OWN),
+                                lent(MSG), msg_len, buf, 132, answer);
     }
 }
 
@@ -224,41 +247,6 @@ static void some_login(void)
         fail("any words, login", "counters or listing out of their ranges");
 }
 
-/* Words that are all 0 are a closed port. */
-static void all_zero(void)
-{
-    static const uint64_t zeros[SRP_PORT_WORDS];
-    lay(PORT, zeros, sizeof zeros);
-    take("words of 0", SRP_REFUSED_CLOSED, NOTHING, command(1, 0, 0), NO_BYTES, NO_BYTES, 132);
-    plan("words of 0", SRP_REFUSED_CLOSED, 0, 0, 0);
-    move("words of 0", SRP_REFUSED_CLOSED, 0, 0, 0, 0);
-    step("words of 0", SRP_REFUSED_CLOSED, NOTHING, 0, 0);
-    finish("words of 0", SRP_REFUSED_CLOSED, NOTHING, 0, 0, NO_BYTES, 132);
-    add("words of 0", SRP_REFUSED_CLOSED, 1);
-    withdraw("words of 0", SRP_REFUSED_CLOSED, 1);
-    grant("words of 0", SRP_REFUSED_CLOSED, NOTHING, 132);
-    close_channel("words of 0", SRP_REFUSED_CLOSED, NOTHING, 0, 132);
-    counters("words of 0", SRP_REFUSED_CLOSED, 0, 0, 0, 0);
-    list("words of 0", SRP_REFUSED_CLOSED, SRP_LIST_WORDS, 0, NULL);
-}
-
-/* A port's words and its store may be copied together between calls. */
-static void copied(void)
-{
-    static uint64_t port[SRP_PORT_WORDS];
-    static uint8_t store[SRP_STORE_BYTES];
-    static const uint8_t direct[16] = {0, 0, 0, 0, 0, 0, 0x10, 0, 0, 0, 0, 7, 0, 0, 0x05, 0x14};
-    opened(2, M);
-    taken("before the copy", command_with(5, 0, 0x01, 0, 0, BYTES(direct)));
-    memcpy(port, lent(PORT), sizeof port);
-    memcpy(store, lent(STORE), sizeof store);
-    opened(1, 1);
-    lay(PORT, port, sizeof port);
-    lay(STORE, store, sizeof store);
-    planned("after the copy", 5, 0, 1300);
-    piece("after the copy", 5, 1, 7, 0x1000, 512, 0, 1);
-}
-
 void any_words_cases(void)
 {
     unsigned i;
@@ -271,6 +259,6 @@ void any_words_cases(void)
     }
     if (!later_pieces || !numbered_dones)
         fail("any words", "no step with a number to judge");
-    all_zero();
-    copied();
+    if (!bounded_pieces)
+        fail("any words", "no piece up to a boundary");
 }

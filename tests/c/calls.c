@@ -4,8 +4,8 @@
 
 /* The header's declarations have these types and no other. */
 static uint64_t (*const words_of_header)(void) = srp_target_words;
-static uint32_t (*const login_of_header)(uint64_t *, const uint32_t *, const uint8_t *, const uint8_t *, size_t,
-                                         uint8_t *, size_t, uint64_t *) = srp_target_login;
+static uint32_t (*const login_of_header)(uint64_t *, const uint32_t *, uint64_t, const uint8_t *, const uint8_t *,
+                                         size_t, uint8_t *, size_t, uint64_t *) = srp_target_login;
 static uint32_t (*const take_of_header)(uint64_t *, uint8_t *, const uint8_t *, size_t, const uint8_t *, size_t,
                                         const uint8_t *, size_t, uint8_t *, size_t, uint64_t *) = srp_target_take;
 static uint32_t (*const plan_of_header)(uint64_t *, uint64_t, uint32_t, uint32_t) = srp_target_plan;
@@ -20,7 +20,7 @@ static uint32_t (*const close_of_header)(uint64_t *, uint32_t, uint8_t *, size_t
 static uint32_t (*const counters_of_header)(const uint64_t *, uint64_t *) = srp_target_counters;
 static uint32_t (*const list_of_header)(const uint64_t *, uint64_t *, size_t, uint64_t *) = srp_target_list;
 static uint32_t (*const look_of_header)(const uint8_t *, size_t, uint32_t, uint32_t, uint8_t *, size_t) = srp_look;
-static uint32_t (*const cut_of_header)(const uint8_t *, size_t, uint32_t, uint32_t, uint32_t, uint8_t *,
+static uint32_t (*const cut_of_header)(const uint8_t *, size_t, uint32_t, uint64_t, uint32_t, uint32_t, uint8_t *,
                                        size_t) = srp_cut;
 static uint32_t (*const trace_of_header)(const uint8_t *, size_t, uint32_t, uint8_t *, size_t) = srp_trace;
 
@@ -69,13 +69,13 @@ void look(const char *name, uint32_t number, const uint8_t *answer, struct bytes
     compare(name, returned, number);
 }
 
-void cut(const char *name, uint32_t number, const uint8_t *answer, struct bytes list, uint32_t m, uint32_t r,
-         uint32_t handed, size_t buf_len)
+void cut(const char *name, uint32_t number, const uint8_t *answer, struct bytes list, uint32_t m, uint64_t q,
+         uint32_t r, uint32_t handed, size_t buf_len)
 {
     uint32_t returned;
     lay(SEGMENTS, list.at, list.len);
     lend_answers();
-    returned = cut_of_header(lent(SEGMENTS), list.len, m, r, handed, lent(BUF), buf_len);
+    returned = cut_of_header(lent(SEGMENTS), list.len, m, q, r, handed, lent(BUF), buf_len);
     if (answer)
         expect(BUF, 0, answer, SRP_ANSWER_BYTES);
     compare(name, returned, number);
@@ -94,8 +94,8 @@ void trace(const char *name, uint32_t number, const char *line, struct bytes msg
     compare(name, returned, number);
 }
 
-void login(const char *name, uint32_t number, struct after after, const uint32_t *settings, struct bytes msg,
-           size_t buf_len)
+void login(const char *name, uint32_t number, struct after after, const uint32_t *settings, uint64_t boundary,
+           struct bytes msg, size_t buf_len)
 {
     uint32_t returned;
     if (words_of_header() != SRP_PORT_WORDS)
@@ -105,8 +105,8 @@ void login(const char *name, uint32_t number, struct after after, const uint32_t
     lay(OWN, own_identifier, sizeof own_identifier);
     lay(MSG, msg.at, msg.len);
     lend_answers();
-    returned = login_of_header(lent_words(PORT), (const uint32_t *)(const void *)lent(SETTINGS), lent(OWN), lent(MSG),
-                               msg.len, lent(BUF), buf_len, lent_words(ANSWER));
+    returned = login_of_header(lent_words(PORT), (const uint32_t *)(const void *)lent(SETTINGS), boundary, lent(OWN),
+                               lent(MSG), msg.len, lent(BUF), buf_len, lent_words(ANSWER));
     judge(name, returned, number, &after);
 }
 
@@ -205,12 +205,17 @@ void list(const char *name, uint32_t number, size_t words, size_t count, const u
     judge(name, returned, number, &after);
 }
 
-void opened(uint32_t n, uint32_t m)
+void opened_with(uint32_t n, uint32_t m, uint64_t boundary)
 {
     struct bytes request = login_request(9, SRP_LONGEST_AGREED, 0x0006, CRSOLNT | LOSOLNT, own_identifier);
     struct after after = {OTHER, {52, 0}, login_response(n, 9, SRP_LONGEST_AGREED, 0x0006, 0x10)};
     lay(STORE, NULL, 0);
-    login("login", 0, after, SETTINGS_OF(n, m, SRP_LONGEST_AGREED, 1, 1), request, SRP_MESSAGE_BYTES);
+    login("login", 0, after, SETTINGS_OF(n, m, SRP_LONGEST_AGREED, 1, 1), boundary, request, SRP_MESSAGE_BYTES);
+}
+
+void opened(uint32_t n, uint32_t m)
+{
+    opened_with(n, m, 0);
 }
 
 static uint64_t number_at(const uint8_t *bytes, size_t at)

@@ -28,15 +28,15 @@ extern const uint8_t own_identifier[16];
 
 void look(const char *name, uint32_t number, const uint8_t *answer, struct bytes msg, uint32_t agreed,
           uint32_t formats, size_t buf_len);
-void cut(const char *name, uint32_t number, const uint8_t *answer, struct bytes list, uint32_t m, uint32_t r,
-         uint32_t handed, size_t buf_len);
+void cut(const char *name, uint32_t number, const uint8_t *answer, struct bytes list, uint32_t m, uint64_t q,
+         uint32_t r, uint32_t handed, size_t buf_len);
 
 /* The line expected has its line feed, and is NULL for a refusal. */
 void trace(const char *name, uint32_t number, const char *line, struct bytes msg, uint32_t direction, size_t buf_len);
 
 /* The words of the port are arbitrary before a login. */
-void login(const char *name, uint32_t number, struct after after, const uint32_t *settings, struct bytes msg,
-           size_t buf_len);
+void login(const char *name, uint32_t number, struct after after, const uint32_t *settings, uint64_t boundary,
+           struct bytes msg, size_t buf_len);
 void take(const char *name, uint32_t number, struct after after, struct bytes msg, struct bytes out, struct bytes in,
           size_t buf_len);
 void plan(const char *name, uint32_t number, uint64_t tag, uint32_t r_out, uint32_t r_in);
@@ -53,9 +53,10 @@ void counters(const char *name, uint32_t number, uint64_t w, uint64_t a, uint64_
 /* The records expected, in their order. */
 void list(const char *name, uint32_t number, size_t words, size_t count, const uint64_t (*records)[SRP_RECORD_WORDS]);
 
-/* Calls that leave little to say: a port opened with N and M, a command taken, a move that may have no bytes, a plan
- * with a move each way of offset 0 and count R, a piece, done, an end with status 0. */
+/* Calls that leave little to say: a port opened with N and M, perhaps with Q, a command taken, a move that may have no
+ * bytes, a plan with a move each way of offset 0 and count R, a piece, done, an end with status 0. */
 void opened(uint32_t n, uint32_t m);
+void opened_with(uint32_t n, uint32_t m, uint64_t boundary);
 void taken(const char *name, struct bytes msg);
 void named(const char *name, uint64_t tag, uint32_t direction, uint32_t offset, uint32_t count);
 void planned(const char *name, uint64_t tag, uint32_t r_out, uint32_t r_in);

@@ -18,10 +18,12 @@ void move_cases(void);
 void search_cases(void);
 void highest_cases(void);
 void fewest_cases(void);
+void boundary_cases(void);
 void finish_cases(void);
 void credit_cases(void);
 void list_cases(void);
 void any_words_cases(void);
+void words_cases(void);
 void no_memory_cases(void);
 void readme_lines(void); /* README.md's lines for C */
 void points(void);       /* P1 to P10 of document 01 */

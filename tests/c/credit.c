@@ -51,13 +51,13 @@ static void notification(void)
 {
     struct bytes request = login_request(1, 64, 0, CRSOLNT, own_identifier);
     struct after after = {OTHER, {52, 0}, login_response(2, 1, 64, 0x0002, 0)};
-    login("login, CRSOLNT", 0, after, SETTINGS_OF(2, M, 64, 0, 0), request, 132);
+    login("login, CRSOLNT", 0, after, SETTINGS_OF(2, M, 64, 0, 0), 0, request, 132);
     add("add", 0, 1);
     grant("grant, CRSOLNT", 0, (struct after){OTHER, {16}, credit_request(1, 1)}, 132);
     close_channel("close, CRSOLNT", 0, (struct after){CLOSED, {16}, target_logout(0, 1)}, 1, 132);
     request = login_request(1, 64, 0, LOSOLNT, own_identifier);
     after.message = login_response(2, 1, 64, 0x0002, 0);
-    login("login, LOSOLNT", 0, after, SETTINGS_OF(2, M, 64, 0, 0), request, 132);
+    login("login, LOSOLNT", 0, after, SETTINGS_OF(2, M, 64, 0, 0), 0, request, 132);
     add("add", 0, 1);
     grant("grant, LOSOLNT", 0, (struct after){OTHER, {16}, credit_request(0, 1)}, 132);
     close_channel("close, LOSOLNT", 0, (struct after){CLOSED, {16}, target_logout(1, 1)}, 1, 132);

@@ -100,7 +100,7 @@ static void abort_and_grant(void)
 void exchange(void)
 {
     lay(STORE, NULL, 0);
-    login("login", 0, (struct after){OTHER, {52, 0}, login_rsp}, SETTINGS_OF(4, 512, 1364, 1, 1), BYTES(login_req),
+    login("login", 0, (struct after){OTHER, {52, 0}, login_rsp}, SETTINGS_OF(4, 512, 1364, 1, 1), 0, BYTES(login_req),
           132);
     read_command();
     write_command();

@@ -1,6 +1,7 @@
 /*
  * Step's number: how many pieces of the current move were handed out. For a finished move no list of operations that
- * covers its bytes has fewer, and it is at most the segments with a byte in the move + the move's bytes / M.
+ * covers its bytes has fewer, and it is at most the segments with a byte in the move + the move's bytes / M + the
+ * multiples of Q strictly inside a segment's part of the move.
  */
 #include <limits.h>
 
@@ -143,22 +144,44 @@ static const struct row rows[] = {
     {"M = 1, inside", 3, {3, 0, 2}, 1, 2, 2, 2, {1, 1}, 2 + 2},
 };
 
+/* The same with a boundary, and the address of the first segment. */
+struct bounded {
+    uint64_t q, address;
+    struct row row;
+};
+
+static const struct bounded bounded[] = {
+    /* the bound is met */
+    {512, 0x1ffd, {"one multiple inside", 1, {6}, 8, 0, 6, 2, {3, 3}, 1 + 0 + 1}},
+    {512, 0x1ff7, {"M + 1 bytes on either side", 1, {18}, 8, 0, 18, 4, {8, 1, 8, 1}, 1 + 2 + 1}},
+    {512, 0x1ffc, {"in the second segment", 2, {2, 4}, 8, 0, 6, 3, {2, 2, 2}, 2 + 0 + 1}},
+    {512, 0x2000, {"from a multiple", 1, {8}, 9, 0, 8, 1, {8}, 1 + 0 + 0}},
+    {512, 0x1ffc, {"from a multiple in a segment", 1, {8}, 8, 4, 4, 1, {4}, 1 + 0 + 0}},
+    {512, 0x1ffc, {"up to a multiple in a segment", 1, {8}, 8, 0, 4, 1, {4}, 1 + 0 + 0}},
+    {SRP_GREATEST_BOUNDARY, 0xfffffffd, {"2^32", 1, {6}, 8, 0, 6, 2, {3, 3}, 1 + 0 + 1}},
+    /* it is not */
+    {512, 0x1ff8, {"up to a multiple", 1, {8}, 8, 0, 8, 1, {8}, 1 + 1 + 0}},
+    {512, 0x1ffc, {"between two segments", 2, {4, 4}, 8, 0, 8, 2, {4, 4}, 2 + 1 + 0}},
+    {512, 0x1ff9, {"M bytes behind a multiple", 1, {15}, 8, 0, 15, 2, {7, 8}, 1 + 1 + 1}},
+    {1024, 0x21fc, {"a multiple of half of Q", 1, {9}, 9, 0, 9, 1, {9}, 1 + 1 + 0}},
+};
+
 /* The port of a row, its segments adjoining in memory with one handle; its move is handed out whole. */
-static void moved(const struct row *r)
+static void moved(const struct row *r, uint64_t q, uint64_t address)
 {
     struct segment segments[MOST];
     uint32_t b = 0, at = r->offset;
     unsigned i;
     for (i = 0; i < r->segments; i++) {
-        segments[i] = (struct segment){ADDRESS + b, HANDLE, r->lengths[i]};
+        segments[i] = (struct segment){address + b, HANDLE, r->lengths[i]};
         b += r->lengths[i];
     }
-    opened(N, r->m);
+    opened_with(N, r->m, q);
     taken(r->name, command_with(TAG, 0, 0x02, 0, (uint8_t)r->segments, whole_table(segments, r->segments)));
     plan(r->name, 0, TAG, 0, b);
     move(r->name, 0, TAG, 1, r->offset, r->count);
     for (i = 0; i < r->number; i++) {
-        piece(r->name, TAG, 1, HANDLE, ADDRESS + at, r->pieces[i], at, i + 1);
+        piece(r->name, TAG, 1, HANDLE, address + at, r->pieces[i], at, i + 1);
         at += r->pieces[i];
     }
     done(r->name, TAG, 1, r->number);
@@ -176,13 +199,23 @@ static unsigned buffer_of(const struct row *r, unsigned *segment_of)
     return b;
 }
 
-/* The fewest operations, of all lists that cover the bytes in order, each inside one segment and at most M long. */
-static unsigned fewest(const unsigned *segment_of, unsigned from, unsigned to, uint32_t m)
+/* Of each byte the part of its segment that it is in: a multiple of Q begins another. */
+static void parts_of(const unsigned *segment_of, unsigned b, uint64_t q, uint64_t address, unsigned *part_of)
+{
+    unsigned i, part = 0;
+    for (i = 0; i < b; i++) {
+        part += i && (segment_of[i] != segment_of[i - 1] || (q && (address + i) % q == 0));
+        part_of[i] = part;
+    }
+}
+
+/* The fewest operations, of all lists that cover the bytes in order, each inside one part and at most M long. */
+static unsigned fewest(const unsigned *part_of, unsigned from, unsigned to, uint32_t m)
 {
     unsigned least[BYTES_AT_MOST + 1] = {0}, first, end;
     for (end = from + 1; end <= to; end++) {
         least[end] = UINT_MAX;
-        for (first = end; first-- > from && end - first <= m && segment_of[first] == segment_of[end - 1];)
+        for (first = end; first-- > from && end - first <= m && part_of[first] == part_of[end - 1];)
             if (least[first] + 1 < least[end])
                 least[end] = least[first] + 1;
     }
@@ -190,15 +223,19 @@ static unsigned fewest(const unsigned *segment_of, unsigned from, unsigned to, u
 }
 
 /* The number and the bound of a row, by a table of its bytes. */
-static void judged(const struct row *r)
+static void judged(const struct row *r, uint64_t q, uint64_t address)
 {
-    unsigned segment_of[BYTES_AT_MOST], b = buffer_of(r, segment_of), from = r->offset, i, with_a_byte = 0;
-    unsigned to = r->count < b - from ? from + r->count : b;
-    for (i = from; i < to; i++)
-        with_a_byte += i == from || segment_of[i] != segment_of[i - 1];
-    if (fewest(segment_of, from, to, r->m) != r->number)
+    unsigned segment_of[BYTES_AT_MOST], part_of[BYTES_AT_MOST], b = buffer_of(r, segment_of), from = r->offset, i;
+    unsigned to = r->count < b - from ? from + r->count : b, with_a_byte = 0, inside = 0;
+    parts_of(segment_of, b, q, address, part_of);
+    for (i = from; i < to; i++) {
+        int first = i == from || segment_of[i] != segment_of[i - 1];
+        with_a_byte += first;
+        inside += !first && q && (address + i) % q == 0;
+    }
+    if (fewest(part_of, from, to, r->m) != r->number)
         fail(r->name, "not the fewest operations");
-    if (with_a_byte + (to - from) / r->m != r->bound || r->number > r->bound)
+    if (with_a_byte + (to - from) / r->m + inside != r->bound || r->number > r->bound)
         fail(r->name, "another bound");
 }
 
@@ -211,8 +248,8 @@ static void thirty_two(void)
         r.lengths[i] = 2;
     for (i = 1; i < MOST; i++)
         r.pieces[i] = 2;
-    moved(&r);
-    judged(&r);
+    moved(&r, 0, ADDRESS);
+    judged(&r, 0, ADDRESS);
 }
 
 void fewest_cases(void)
@@ -224,8 +261,12 @@ void fewest_cases(void)
     commands();
     many();
     for (i = 0; i < sizeof rows / sizeof rows[0]; i++) {
-        moved(&rows[i]);
-        judged(&rows[i]);
+        moved(&rows[i], 0, ADDRESS);
+        judged(&rows[i], 0, ADDRESS);
+    }
+    for (i = 0; i < sizeof bounded / sizeof bounded[0]; i++) {
+        moved(&bounded[i].row, bounded[i].q, bounded[i].address);
+        judged(&bounded[i].row, bounded[i].q, bounded[i].address);
     }
     thirty_two();
 }

@@ -21,7 +21,8 @@ static void stateless() {
     const char line[] = "> CMD          0000000000000000 0000000000000000                                \n";
     uint8_t buf[SRP_ANSWER_BYTES] = {1}, page[SRP_TRACE_BYTES];
     check("srp_look", srp_look(msg, sizeof msg, 64, 0, buf, sizeof buf) == 0 && buf[0] == 0);
-    check("srp_cut", srp_cut(list, sizeof list, 512, 60, 10, buf, sizeof buf) == 0 && buf[7] == 10 && buf[15] == 50);
+    check("srp_cut",
+          srp_cut(list, sizeof list, 512, 4096, 60, 10, buf, sizeof buf) == 0 && buf[7] == 10 && buf[15] == 50);
     check("srp_trace",
           srp_trace(msg, sizeof msg, 0, page, sizeof page) == 0 && std::memcmp(page, line, sizeof page) == 0);
 }
@@ -37,8 +38,9 @@ static void login() {
     msg[19] = 64;
     msg[25] = SRP_FORMAT_BIT_DIRECT;
     check("srp_target_words", srp_target_words() == SRP_PORT_WORDS);
-    check("srp_target_login", srp_target_login(port, settings, own, msg, sizeof msg, buf, sizeof buf, answer) == 0 &&
-                                  answer[0] == 52 && answer[1] == 0 && buf[0] == 0xc0 && buf[7] == 2);
+    check("srp_target_login",
+          srp_target_login(port, settings, SRP_GREATEST_BOUNDARY, own, msg, sizeof msg, buf, sizeof buf, answer) == 0 &&
+              answer[0] == 52 && answer[1] == 0 && buf[0] == 0xc0 && buf[7] == 2);
 }
 
 // Data-in of 100 bytes at 1000h, handle 7; tag 9.

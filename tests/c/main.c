@@ -17,10 +17,12 @@ int main(void)
     search_cases();
     highest_cases();
     fewest_cases();
+    boundary_cases();
     finish_cases();
     credit_cases();
     list_cases();
     any_words_cases();
+    words_cases();
     no_memory_cases();
     readme_lines();
     points();

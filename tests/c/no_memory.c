@@ -18,9 +18,9 @@ static void stateless(void)
     fresh();
     compare("look, NULL message", srp_look(NULL, 0, 1364, 6, lent(BUF), 40), SRP_REFUSED_LENGTH);
     compare("look, NULL both", srp_look(NULL, 0, 1364, 6, NULL, 0), SRP_REFUSED_SHORT_BUFFER);
-    compare("cut, NULL both", srp_cut(NULL, 0, 300, 650, 0, NULL, 0), SRP_REFUSED_SHORT_BUFFER);
+    compare("cut, NULL both", srp_cut(NULL, 0, 300, 0, 650, 0, NULL, 0), SRP_REFUSED_SHORT_BUFFER);
     expect(BUF, 0, nothing, sizeof nothing);
-    compare("cut, NULL list", srp_cut(NULL, 0, 300, 650, 0, lent(BUF), 40), 0);
+    compare("cut, NULL list", srp_cut(NULL, 0, 300, 0, 650, 0, lent(BUF), 40), 0);
     fresh();
     compare("trace, NULL both", srp_trace(NULL, 0, 0, NULL, 0), SRP_REFUSED_SHORT_BUFFER);
     expect(BUF, 0, no_message, SRP_TRACE_BYTES);
@@ -80,9 +80,9 @@ static void logins(void)
     const uint32_t *settings = SETTINGS_OF(2, 512, 64, 0, 0);
     fresh();
     expect(PORT, 0, closed, sizeof closed);
-    refused("login, NULL message", srp_target_login(port, settings, own_identifier, NULL, 0, lent(BUF), 132, answer),
-            3);
-    refused("login, all NULL", srp_target_login(port, settings, own_identifier, NULL, 0, NULL, 0, answer), 1);
+    refused("login, NULL message",
+            srp_target_login(port, settings, 0, own_identifier, NULL, 0, lent(BUF), 132, answer), 3);
+    refused("login, all NULL", srp_target_login(port, settings, 0, own_identifier, NULL, 0, NULL, 0, answer), 1);
 }
 
 void no_memory_cases(void)

@@ -4,7 +4,7 @@
  */
 #include "srp_target.h"
 
-_Static_assert(SRP_TARGET_VERSION == 5, "version");
+_Static_assert(SRP_TARGET_VERSION == 6, "version");
 
 _Static_assert(SRP_REFUSED_SHORT_BUFFER == 1, "short buffer");
 _Static_assert(SRP_REFUSED_SETTING == 2, "setting");
@@ -41,6 +41,7 @@ _Static_assert(SRP_RECORD_WORDS == 4, "record");
 _Static_assert(SRP_LIST_WORDS == 64, "listing");
 _Static_assert(SRP_MOST_BUFFERS == 16 && SRP_LONGEST_PIECE == 1048576, "N and M");
 _Static_assert(SRP_SHORTEST_AGREED == 64 && SRP_LONGEST_AGREED == 1364, "X");
+_Static_assert(SRP_LEAST_BOUNDARY == 512 && SRP_GREATEST_BOUNDARY == 1ull << 32, "Q");
 
 _Static_assert(SRP_SETTING_BUFFERS == 0 && SRP_SETTING_PIECE == 1 && SRP_SETTING_LENGTH == 2, "N, M, X");
 _Static_assert(SRP_SETTING_INDIRECT == 3 && SRP_SETTING_SOLICITED == 4 && SRP_SETTINGS == 5, "indirect, solicited");

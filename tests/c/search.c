@@ -39,7 +39,7 @@ static void finds(const char *name, struct bytes descriptors, uint32_t b, struct
     put(answer, 8, 4, at.handle);
     put(answer, 12, 4, at.length);
     put(answer, 16, 4, at.offset);
-    cut(name, 0, answer, list, M, b, at.offset, SRP_ANSWER_BYTES);
+    cut(name, 0, answer, list, M, 0, b, at.offset, SRP_ANSWER_BYTES);
     opened(N, M);
     taken(name, command_with(TAG, 0, 0x02, 0, (uint8_t)(list.len / SEGMENT), descriptors));
     plan(name, 0, TAG, 0, b);
@@ -52,7 +52,7 @@ static void ends(const char *name, struct bytes descriptors, uint32_t b)
 {
     static const uint8_t nothing[SRP_ANSWER_BYTES];
     struct bytes list = {descriptors.at + TABLE, descriptors.len - TABLE};
-    cut(name, 0, nothing, list, M, b, b, SRP_ANSWER_BYTES);
+    cut(name, 0, nothing, list, M, 0, b, b, SRP_ANSWER_BYTES);
     done(name, TAG, SRP_DIRECTION_IN, 1);
     named(name, TAG, SRP_DIRECTION_IN, b, 1);
     done(name, TAG, SRP_DIRECTION_IN, 0);

@@ -130,7 +130,7 @@ static void notification(void)
     struct bytes request = login_request(1, 64, 0, 0xff & ~LOSOLNT & ~3, own_identifier);
     struct after after = {OTHER, {52, 0}, login_response(N, 1, 64, 0x0002, 0)};
     lay(STORE, NULL, 0);
-    login("login without LOSOLNT", 0, after, SETTINGS_OF(N, M, 64, 0, 0), request, 132);
+    login("login without LOSOLNT", 0, after, SETTINGS_OF(N, M, 64, 0, 0), 0, request, 132);
     after = (struct after){CLOSED, {16}, target_logout(0, SRP_LOGOUT_IN_FORMAT)};
     take("take 6, format not agreed", SRP_REFUSED_IN_FORMAT, after, command_with(1, 0, 0x01, 0, 0, BYTES(direct)),
          NO_BYTES, NO_BYTES, 132);

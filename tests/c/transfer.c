@@ -36,6 +36,21 @@ static void directions(void)
     done("direction 256", TAG, 0x100, 2);
 }
 
+/* Each direction's pieces end at multiples of Q, as long as M lets them; both buffers start at one. */
+static void boundary(void)
+{
+    opened_with(N, 1024, 512);
+    taken("both ways", command_both_ways(TAG, 0));
+    planned("plan", TAG, 1300, 700);
+    piece("out, from a multiple", TAG, SRP_DIRECTION_OUT, 7, 0x1000, 512, 0, 1);
+    piece("in, from a multiple", TAG, SRP_DIRECTION_IN, 9, 0x5000, 512, 0, 1);
+    piece("out, the next", TAG, SRP_DIRECTION_OUT, 7, 0x1200, 512, 512, 2);
+    piece("in, the last", TAG, SRP_DIRECTION_IN, 9, 0x5200, 188, 512, 2);
+    piece("out, the last", TAG, SRP_DIRECTION_OUT, 7, 0x1400, 276, 1024, 3);
+    done("done out", TAG, SRP_DIRECTION_OUT, 3);
+    done("done in", TAG, SRP_DIRECTION_IN, 2);
+}
+
 /* R of 0, and R above B. */
 static void lengths(void)
 {
@@ -68,6 +83,7 @@ void transfer_cases(void)
 {
     arguments();
     directions();
+    boundary();
     lengths();
     refusals();
 }

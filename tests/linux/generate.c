@@ -9,10 +9,19 @@ void any_settings(struct settings *s)
     static const uint32_t pieces[4] = {16, 700, 5000, 1048576};
     s->buffers = from_to(1, 16);
     s->longest_piece = from_to(1, pieces[from_to(0, 3)]);
+    s->boundary = one_in(3) ? 0 : (uint64_t)1 << (one_in(2) ? from_to(9, 12) : from_to(9, 32));
     s->longest_message = one_in(2) ? 1364 : from_to(64, 1364);
     s->indirect = !one_in(4);
     s->solicited = one_in(2);
     any_bytes(s->own, sizeof s->own);
+}
+
+/* A power of two below 512 or above 2^32, or a lawful one with a lower bit beside it. */
+uint64_t bad_boundary(void)
+{
+    if (one_in(2))
+        return (uint64_t)1 << (one_in(2) ? from_to(0, 8) : from_to(33, 63));
+    return (uint64_t)1 << from_to(9, 32) | (uint64_t)1 << from_to(0, 8);
 }
 
 static unsigned supported(const struct settings *s)
@@ -52,11 +61,13 @@ uint32_t rejection(const struct login *l, const struct settings *s)
     return memcmp(l->target, s->own, sizeof l->target) ? SRP_LOGIN_REJ_UNABLE_ASSOCIATE_CHANNEL : 0;
 }
 
-/* A segment may end at 2^64 and not past it. */
+/* A segment may end at 2^64 and not past it; many have multiples of small boundaries inside. */
 static void any_segment(struct segment *s)
 {
     s->length = one_in(5) ? 0 : from_to(1, one_in(3) ? 10 : 3000);
     s->address = any_number();
+    if (one_in(6))
+        s->address = (s->address >> 1 | 0xffffffff) - from_to(0, s->length);
     if (s->length && (s->address > (uint64_t)0 - s->length || one_in(6)))
         s->address = (uint64_t)0 - s->length;
     s->handle = (uint32_t)any_number();

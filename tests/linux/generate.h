@@ -7,11 +7,14 @@
 
 struct settings {
     uint32_t buffers, longest_piece, longest_message;
+    uint64_t boundary;
     int indirect, solicited;
     uint8_t own[16];
 };
 
+/* Lawful ones; a boundary that is not. */
 void any_settings(struct settings *s);
+uint64_t bad_boundary(void);
 void any_login(struct login *l, const struct settings *s);
 
 /* The reason of its rejection, 0 where it is accepted. */

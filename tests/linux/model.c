@@ -32,7 +32,13 @@ void name_move(struct side *s, uint32_t offset, uint32_t count)
     s->operations = 0;
 }
 
-int next_piece(const struct side *s, uint32_t longest, struct piece *p)
+/* How many bytes from an address on lie before the next multiple of a boundary above it. */
+static uint64_t room_before(uint64_t boundary, uint64_t address)
+{
+    return boundary ? boundary - address % boundary : UINT64_MAX;
+}
+
+int next_piece(const struct side *s, const struct channel *c, struct piece *p)
 {
     uint32_t within = s->at;
     const struct segment *segment = s->segments;
@@ -44,10 +50,13 @@ int next_piece(const struct side *s, uint32_t longest, struct piece *p)
     p->handle = segment->handle;
     p->offset = s->at;
     p->length = segment->length - within;
-    if (p->length > longest)
-        p->length = longest;
+    if (p->length > c->longest_piece)
+        p->length = c->longest_piece;
+    if (p->length > room_before(c->boundary, p->address))
+        p->length = (uint32_t)room_before(c->boundary, p->address);
     if (p->length > s->end - s->at)
         p->length = s->end - s->at;
+    p->left = segment->length - within - p->length;
     return 1;
 }
 

@@ -37,6 +37,7 @@ struct request {
 
 struct channel {
     uint32_t longest_piece, agreed;
+    uint64_t boundary;
     unsigned formats;
     int crsolnt, losolnt, open, unanswered;
     int64_t wanted, announced;
@@ -54,12 +55,12 @@ uint32_t fetched_length(const struct side *s);
 uint32_t data_length(const struct side *s);
 void name_move(struct side *s, uint32_t offset, uint32_t count);
 
-/* The next piece of the current move, 0 where none is left; it is handed out. */
+/* The next piece of the current move, 0 where none is left; it is handed out. `left` is of its segment, behind it. */
 struct piece {
     uint64_t address;
-    uint32_t handle, length, offset;
+    uint32_t handle, length, offset, left;
 };
-int next_piece(const struct side *s, uint32_t longest, struct piece *p);
+int next_piece(const struct side *s, const struct channel *c, struct piece *p);
 void hand_out(struct side *s, const struct piece *p);
 
 /* Whether more was required than B (1), or h stayed below it (-1); and by how much. */

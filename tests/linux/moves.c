@@ -52,12 +52,27 @@ static void name_one(struct request *r, struct side *s, uint32_t in)
     count_move(s, offset, bytes);
 }
 
+/* The piece that was answered lies between two multiples of the boundary. It may have all bytes between, or end at the
+ * second and at nothing else. */
+static void judge_piece(const struct channel *c, const struct side *s, const struct piece *p)
+{
+    uint64_t q = c->boundary, first = port.answer[3], last = first + port.answer[4] - 1;
+    count(PIECES);
+    if (!q)
+        return;
+    same("piece", "boundaries below its last byte", last / q, first / q);
+    if (p->left && p->length < c->longest_piece && s->at < s->end)
+        count(UP_TO_BOUNDARY);
+    if (p->length == q)
+        count(BETWEEN_BOUNDARIES);
+}
+
 static void step_once(const struct channel *c, uint64_t tag, struct side *s, uint32_t in)
 {
     struct piece p;
     lend();
     same("step", "returned", srp_target_step(port.words, port.store, tag, in, port.answer), 0);
-    if (!next_piece(s, c->longest_piece, &p)) {
+    if (!next_piece(s, c, &p)) {
         answered("done", (const uint64_t[SRP_ANSWER_WORDS]){0, 0, 0, 0, 0, 0, s->operations});
         if (s->operations > 1)
             count(DONES);
@@ -66,7 +81,7 @@ static void step_once(const struct channel *c, uint64_t tag, struct side *s, uin
     hand_out(s, &p);
     answered("piece", (const uint64_t[SRP_ANSWER_WORDS]){1, in ? SRP_RDMA_WRITE : SRP_RDMA_READ, p.handle, p.address,
                                                          p.length, p.offset, s->operations});
-    count(PIECES);
+    judge_piece(c, s, &p);
 }
 
 static void step_side(const struct channel *c, struct request *r, uint32_t in, uint32_t steps)

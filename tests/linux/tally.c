@@ -18,6 +18,7 @@ static const char *const names[TALLIES] = {
     "line with *****", "line with RSP_CODE", "line of a count above 32", "line of another length",
     "line of another format", "line of a sense past 2^32", "line of an event report",
     "RDMA operation", "done after several operations", "record",
+    "RDMA operation up to a boundary", "RDMA operation between boundaries", "bad boundary",
     "tag used again", "finished between two", "aborted between two",
 };
 static unsigned tallies[TALLIES], comparisons, failures;

@@ -19,8 +19,8 @@ enum tally {
     LINES_LOGIN_RSP, LINES_RSP, LINES_LOGIN_REJ, LINES_UNKNOWN,
     /* of those: a number above 99,999, an RSP_CODE, counts that a port refuses; why a message is UNKNOWN */
     STARS, RSP_CODES, COUNTS_ABOVE_32, OTHER_LENGTHS, OTHER_FORMATS, WRAPPED_SENSES, EVENT_REPORTS,
-    /* answers */
-    PIECES, DONES, LISTED,
+    /* answers; pieces that a boundary ended, and those from one multiple to the next; logins with a bad one */
+    PIECES, DONES, LISTED, UP_TO_BOUNDARY, BETWEEN_BOUNDARIES, BAD_BOUNDARIES,
     /* commands with a tag used again; some that end with an older and a younger one open */
     TAGS_AGAIN, FINISHED_BETWEEN, ABORTED_BETWEEN,
     TALLIES

@@ -3,11 +3,14 @@
 use super::message;
 use super::request::{u32_at, u64_at};
 use super::{Channel, Port, Refusal};
+use crate::stateless::is_boundary;
 
 #[derive(Clone, Copy, Debug)]
 pub struct Settings {
     pub buffers: u32,
     pub max_piece: u32,
+    /// Of which no piece crosses a multiple; 0 for none.
+    pub boundary: u64,
     pub max_message: u32,
     pub indirect: bool,
     pub solicited: bool,
@@ -24,6 +27,7 @@ impl Settings {
     fn in_range(&self) -> bool {
         (1..=16).contains(&self.buffers)
             && (1..=1_048_576).contains(&self.max_piece)
+            && is_boundary(self.boundary)
             && (64..=1364).contains(&self.max_message)
     }
 
@@ -93,6 +97,7 @@ impl Channel {
             agreed_length: u32_at(msg, 16) as usize,
             formats: required_formats(msg).into(),
             max_piece: settings.max_piece,
+            boundary: settings.boundary,
             crsolnt: msg[26] & 1 << 5 != 0,
             losolnt: msg[26] & 1 << 4 != 0,
             wanted: settings.buffers,

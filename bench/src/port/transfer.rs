@@ -4,6 +4,7 @@ use super::message::Residual;
 use super::request::{u32_at, u64_at};
 use super::Refusal;
 use crate::search::Search;
+use crate::stateless::room_before;
 
 #[derive(Clone, Copy)]
 pub enum Direction {
@@ -118,7 +119,7 @@ impl Transfer {
     }
 
     /// The next piece of the current move, or None: done.
-    pub fn next_piece<S: Search>(&mut self, list: &SegmentList, max_piece: u32) -> Option<Piece> {
+    pub fn next_piece<S: Search>(&mut self, list: &SegmentList, max_piece: u32, boundary: u64) -> Option<Piece> {
         let left = self.end - self.at;
         if left == 0 {
             return None;
@@ -132,8 +133,9 @@ impl Transfer {
             self.within = 0;
         }
         let segment = list.0[self.segment];
-        let length = (segment.length - self.within).min(left).min(max_piece);
         let address = segment.address + u64::from(self.within);
+        let most = (segment.length - self.within).min(left).min(max_piece);
+        let length = room_before(boundary, address).min(most.into()) as u32;
         let piece = Piece { handle: segment.handle, address, length, offset: self.at };
         self.within += length;
         self.at += length;
@@ -182,7 +184,7 @@ mod tests {
     fn segments_of_length_zero_in_a_row_are_skipped() {
         let (list, mut transfer) = transfer(&[0, 0, 600, 0, 0, 100, 0], 700);
         let mut next =
-            || transfer.next_piece::<Plain>(&list, 512).map(|piece| (piece.address, piece.length, piece.offset));
+            || transfer.next_piece::<Plain>(&list, 512, 0).map(|piece| (piece.address, piece.length, piece.offset));
         assert_eq!(next(), Some((12288, 512, 0)));
         assert_eq!(next(), Some((12288 + 512, 88, 512)));
         assert_eq!(next(), Some((24576, 100, 600)));
@@ -194,7 +196,7 @@ mod tests {
     fn moves_from_inside_a_segment() {
         let (list, mut transfer) = transfer(&[0, 600, 0, 100], 650);
         assert_eq!(transfer.name_move(&list, 0, 1), Err(Refusal::Unfinished));
-        while transfer.next_piece::<Plain>(&list, 512).is_some() {}
+        while transfer.next_piece::<Plain>(&list, 512, 0).is_some() {}
         assert_eq!((transfer.name_move(&list, 651, 0), transfer.number()), (Err(Refusal::Offset), 3));
         for (offset, count, expected) in [
             (599, u32::MAX, vec![(8192 + 599, 1, 599), (16384, 50, 600)]),
@@ -203,12 +205,26 @@ mod tests {
             (650, 9, vec![]),
         ] {
             assert_eq!((transfer.name_move(&list, offset, count), transfer.number()), (Ok(()), 0));
-            let pieces = std::iter::from_fn(|| transfer.next_piece::<Plain>(&list, 512));
+            let pieces = std::iter::from_fn(|| transfer.next_piece::<Plain>(&list, 512, 0));
             let pieces: Vec<_> = pieces.map(|piece| (piece.address, piece.length, piece.offset)).collect();
             assert_eq!(pieces, expected, "{count} bytes from {offset} on");
             assert_eq!(transfer.number(), expected.len() as u32, "{count} bytes from {offset} on");
         }
         assert_eq!((transfer.reached, transfer.residual()), (650, Residual::Under(50)));
+    }
+
+    #[test]
+    fn pieces_up_to_a_boundary() {
+        for (boundary, expected) in [
+            (0, vec![(4096, 2048), (6144, 952), (8192, 700)]),
+            (1024, vec![(4096, 1024), (5120, 1024), (6144, 952), (8192, 700)]),
+            (8192, vec![(4096, 2048), (6144, 952), (8192, 700)]),
+        ] {
+            let (list, mut transfer) = transfer(&[3000, 700], 3700);
+            let pieces = std::iter::from_fn(|| transfer.next_piece::<Plain>(&list, 2048, boundary));
+            let pieces: Vec<_> = pieces.map(|piece| (piece.address, piece.length)).collect();
+            assert_eq!(pieces, expected, "boundary {boundary}");
+        }
     }
 
     #[test]
@@ -223,7 +239,7 @@ mod tests {
         ] {
             let (list, mut transfer) = transfer(&[700], required);
             for _ in 0..pieces {
-                transfer.next_piece::<Plain>(&list, 512).expect("a piece");
+                transfer.next_piece::<Plain>(&list, 512, 0).expect("a piece");
             }
             assert_eq!(transfer.residual(), expected, "required {required}, pieces {pieces}");
         }

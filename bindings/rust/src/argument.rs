@@ -9,6 +9,8 @@ pub struct Settings {
     pub buffers: u32,
     /// M: the longest RDMA operation, 1 to 1,048,576 bytes.
     pub maximum: u32,
+    /// Q: a power of two from 512 to 2^32, of which no RDMA operation crosses a multiple by its addresses; 0 for none.
+    pub boundary: u64,
     /// X: the longest message from the initiator, 64 to 1,364 bytes.
     pub longest: u32,
     /// Whether indirect tables, format 2, are supported.
@@ -18,7 +20,7 @@ pub struct Settings {
 }
 
 impl Settings {
-    /// In the order of the C interface.
+    /// In the order of the C interface, which has the boundary apart from them.
     pub(crate) fn words(&self) -> [u32; SETTINGS] {
         [self.buffers, self.maximum, self.longest, self.indirect.into(), self.solicited.into()]
     }

@@ -37,10 +37,12 @@ pub fn agrees() -> bool {
     unsafe { srp_target_words() == PORT_WORDS as u64 }
 }
 
-pub fn login(port: &mut Words, settings: &Settings, own: &Own, msg: &[u8], buf: &mut [u8]) -> Outcome {
+pub fn login(port: &mut Words, settings: &Settings, boundary: u64, own: &Own, msg: &[u8], buf: &mut [u8]) -> Outcome {
     let (to, len) = (buf.as_mut_ptr(), buf.len());
     // SAFETY: lengths, aliasing and content as said at the top, here and below.
-    answered(|answer| unsafe { srp_target_login(port, settings, own, msg.as_ptr(), msg.len(), to, len, answer) })
+    answered(|answer| unsafe {
+        srp_target_login(port, settings, boundary, own, msg.as_ptr(), msg.len(), to, len, answer)
+    })
 }
 
 pub fn take(
@@ -119,9 +121,9 @@ pub fn look(msg: &[u8], agreed: u32, formats: u32, buf: &mut Bytes) -> u32 {
     unsafe { srp_look(msg.as_ptr(), msg.len(), agreed, formats, buf.as_mut_ptr(), buf.len()) }
 }
 
-pub fn cut(list: &[u8], m: u32, r: u32, handed: u32, buf: &mut Bytes) -> u32 {
+pub fn cut(list: &[u8], m: u32, q: u64, r: u32, handed: u32, buf: &mut Bytes) -> u32 {
     // SAFETY: as said at the top.
-    unsafe { srp_cut(list.as_ptr(), list.len(), m, r, handed, buf.as_mut_ptr(), buf.len()) }
+    unsafe { srp_cut(list.as_ptr(), list.len(), m, q, r, handed, buf.as_mut_ptr(), buf.len()) }
 }
 
 pub fn trace(msg: &[u8], direction: u32, buf: &mut [u8]) -> u32 {

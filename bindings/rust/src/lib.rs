@@ -16,7 +16,7 @@
 //! ```
 //! use srp_target::{Direction, Kind, Port, Settings, Step, Tables, Taken, MESSAGE_BYTES};
 //!
-//! let settings = Settings { buffers: 4, maximum: 512, longest: 1364, indirect: true, solicited: false };
+//! let settings = Settings { buffers: 4, maximum: 512, boundary: 0, longest: 1364, indirect: true, solicited: false };
 //! let own = [0xa5; 16];
 //! let mut buf = [0; MESSAGE_BYTES];
 //!

@@ -24,7 +24,7 @@ impl<'p> Pieces<'p> {
     }
 
     /// How many operations of the move were handed out so far. At its end no other list of operations that covers the
-    /// same bytes in order, each inside one segment and at most M long, has fewer.
+    /// same bytes in order, each inside one segment, at most M long and across no multiple of Q, has fewer.
     pub fn number(&self) -> u32 {
         self.number
     }

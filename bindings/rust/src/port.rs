@@ -74,7 +74,7 @@ impl Port {
         buf: &'b mut [u8],
     ) -> Result<Message<'b>, LoginRefusal<'b>> {
         assert!(ffi::agrees(), "libexports.a has ports of another size");
-        let outcome = ffi::login(&mut self.words, &settings.words(), own, msg, buf);
+        let outcome = ffi::login(&mut self.words, &settings.words(), settings.boundary, own, msg, buf);
         checked(outcome.number).map_err(LoginRefusal::Refused)?;
         let message = written(buf, &outcome);
         match outcome.words[1] as u32 {
@@ -127,9 +127,13 @@ impl Port {
     }
 
     /// Hands out the next RDMA operation of a direction's current move, or says done by none: the move has no bytes
-    /// left, or there is none. Either way it tells how many were handed out for that move. Done, no other list of
-    /// operations that covers the same bytes in order, each inside one segment and at most M long, has fewer; and they
-    /// are at most (segments with a byte in the move) + (bytes of the move divided by M, rounded down).
+    /// left, or there is none. An operation ends at the nearest of M bytes, its segment's end, the move's end and,
+    /// where Q is not 0, the next multiple of Q above its first address; one that starts at a multiple may be Q long.
+    ///
+    /// Either way it tells how many were handed out for that move. Done, no other list of operations that covers the
+    /// same bytes in order, each inside one segment, at most M long and across no multiple of Q, has fewer; and they
+    /// are at most (segments with a byte in the move) + (bytes of the move divided by M, rounded down) + (multiples of
+    /// Q strictly inside a segment's part of the move, which are at most 32 + the bytes of the move divided by Q).
     ///
     /// # Errors
     /// Refused: 21 closed; 24 tag not open; 29 not planned.

@@ -6,7 +6,8 @@ use crate::ffi::{self, Bytes};
 use crate::outcome::checked;
 use crate::refusal::Refusal;
 
-/// A table of memory descriptors that is to be fetched by RDMA Read, in both directions.
+/// A table of memory descriptors that is to be fetched by RDMA Read, in both directions. It may cross a multiple of the
+/// login's boundary: the owner splits the Read where the adapter must not cross one.
 #[derive(Clone, Copy, Debug, PartialEq, Eq, Hash)]
 pub struct Fetch {
     /// Address of the table in the initiator's memory.
@@ -72,23 +73,29 @@ pub fn look(msg: &[u8], agreed: u32, formats: u32) -> Result<Fetches, Refusal> {
 }
 
 /// The piece of a buffer that the next RDMA operation moves, or none: done. `list` has the buffer's memory descriptors,
-/// 16 bytes each, `m` is M, `r` is R, and `handed` counts the bytes already handed out.
+/// 16 bytes each, `m` is M, `q` is Q, `r` is R, and `handed` counts the bytes already handed out. The piece ends at the
+/// nearest of M bytes, its segment's end, R and, where Q is not 0, the next multiple of Q above its first address.
 ///
 /// # Errors
-/// Refused: 2 `m` outside 1 to 1,048,576; 11 `list` not a multiple of 16 up to 512 bytes; 10 a segment past 2^64, or a
-/// sum of lengths above 2^32 - 1; 11 more handed out than the smaller of R and that sum.
+/// Refused: 2 `m` outside 1 to 1,048,576, or `q` neither 0 nor a power of two from 512 to 2^32; 11 `list` not a
+/// multiple of 16 up to 512 bytes; 10 a segment past 2^64, or a sum of lengths above 2^32 - 1; 11 more handed out than
+/// the smaller of R and that sum.
 ///
 /// # Examples
 /// ```
 /// let list = [0, 0, 0, 0, 0, 0, 0x10, 0, 0, 0, 0, 7, 0, 0, 5, 0x14]; // 1000h, handle 7, 1,300 bytes
-/// let piece = srp_target::cut(&list, 512, 1300, 1024)?.expect("276 bytes are due");
+/// let piece = srp_target::cut(&list, 512, 0, 1300, 1024)?.expect("276 bytes are due");
 /// assert_eq!((piece.address, piece.length), (0x1400, 276));
-/// assert_eq!(srp_target::cut(&list, 512, 1300, 1300), Ok(None));
+/// assert_eq!(srp_target::cut(&list, 512, 0, 1300, 1300), Ok(None));
+/// let piece = srp_target::cut(&list, 512, 4096, 1300, 0)?.expect("1,300 bytes are due");
+/// assert_eq!((piece.address, piece.length), (0x1000, 512)); // the next multiple of 4,096 is 2000h
+/// let piece = srp_target::cut(&list, 1024, 512, 1300, 100)?.expect("1,200 bytes are due");
+/// assert_eq!((piece.address, piece.length), (0x1064, 412)); // up to 1200h, a multiple of 512
 /// # Ok::<(), srp_target::Refusal>(())
 /// ```
-pub fn cut(list: &[u8], m: u32, r: u32, handed: u32) -> Result<Option<Piece>, Refusal> {
+pub fn cut(list: &[u8], m: u32, q: u64, r: u32, handed: u32) -> Result<Option<Piece>, Refusal> {
     let mut answer = [0; ANSWER_BYTES];
-    checked(ffi::cut(list, m, r, handed, &mut answer))?;
+    checked(ffi::cut(list, m, q, r, handed, &mut answer))?;
     Ok(fetch_at(&answer, 0).map(|Fetch { address, handle, length }| {
         let offset = number_at(&answer, 16);
         Piece { address, handle, length, offset }

@@ -37,14 +37,22 @@ fn settings_arrive_each_in_its_place() {
         Settings { maximum: 1_048_577, ..SETTINGS },
         Settings { longest: 63, ..SETTINGS },
         Settings { longest: 1365, ..SETTINGS },
+        Settings { boundary: 1, ..SETTINGS },
+        Settings { boundary: 511, ..SETTINGS },
+        Settings { boundary: 256, ..SETTINGS },
+        Settings { boundary: 768, ..SETTINGS },
+        Settings { boundary: 1 << 33, ..SETTINGS },
+        Settings { boundary: u64::MAX, ..SETTINGS },
     ];
     for settings in bad {
         let mut buf = lent();
         assert_eq!(refused(&settings, &login_request(), &mut buf), LoginRefusal::Refused(Refusal::Setting));
         assert!(is_untouched(&buf), "{settings:?}");
     }
-    let bounds =
-        [Settings { buffers: 1, maximum: 1, ..SETTINGS }, Settings { buffers: 16, maximum: 1_048_576, ..SETTINGS }];
+    let bounds = [
+        Settings { buffers: 1, maximum: 1, boundary: 512, ..SETTINGS },
+        Settings { buffers: 16, maximum: 1_048_576, boundary: 1 << 32, ..SETTINGS },
+    ];
     for settings in bounds {
         assert!(Port::login(&settings, &OWN, &login_request(), &mut lent()).is_ok(), "{settings:?}");
     }
@@ -59,7 +67,9 @@ fn refused_in_order_without_a_message() {
     assert_eq!(refused(&bad, &short_login, &mut buf), LoginRefusal::Refused(Refusal::ShortBuffer));
     assert!(is_untouched(&buf));
     let mut buf = lent();
-    assert_eq!(refused(&bad, &short_login, &mut buf), LoginRefusal::Refused(Refusal::Setting));
+    for settings in [bad, Settings { boundary: 513, ..SETTINGS }] {
+        assert_eq!(refused(&settings, &short_login, &mut buf), LoginRefusal::Refused(Refusal::Setting));
+    }
     assert_eq!(refused(&SETTINGS, &short_login, &mut buf), LoginRefusal::Refused(Refusal::Length));
     assert_eq!(refused(&SETTINGS, &[], &mut buf), LoginRefusal::Refused(Refusal::Length));
     assert_eq!(refused(&SETTINGS, &other_type, &mut buf), LoginRefusal::Refused(Refusal::OtherType));

@@ -52,7 +52,7 @@ fn cut_piece_after_piece() {
     let list = [memory(0x2000, 7, 0), memory(0x3000, 8, 600), memory(0x0102_0304_0506_0708, 9, 100)].concat();
     let mut pieces = Vec::new();
     let mut handed = 0;
-    while let Some(piece) = cut(&list, 512, 700, handed).unwrap() {
+    while let Some(piece) = cut(&list, 512, 0, 700, handed).unwrap() {
         handed += piece.length;
         pieces.push(piece);
     }
@@ -62,18 +62,40 @@ fn cut_piece_after_piece() {
         Piece { address: 0x0102_0304_0506_0708, handle: 9, length: 100, offset: 600 },
     ];
     assert_eq!(pieces, expected);
-    assert_eq!(cut(&[], 1, 0, 0), Ok(None));
+    assert_eq!(cut(&[], 1, 0, 0, 0), Ok(None));
+}
+
+/// Up to a multiple of Q, from one Q bytes, and up to 2^64.
+#[test]
+fn cut_at_a_boundary() {
+    let last = 0u64.wrapping_sub(600);
+    let list = [memory(0x0fff, 7, 1300), memory(last, 8, 600)].concat();
+    for (q, handed, address, length) in [
+        (512, 0, 0x0fff, 1),
+        (512, 1, 0x1000, 512),
+        (512, 513, 0x1200, 512),
+        (512, 1025, 0x1400, 275),    // up to the segment's end
+        (512, 1300, last, 88),       // up to the last multiple below 2^64
+        (512, 1388, last + 88, 512), // up to 2^64
+        (1 << 32, 0, 0x0fff, 1024),  // M is nearer
+    ] {
+        let piece = cut(&list, 1024, q, 1900, handed).unwrap().map(|piece| (piece.address, piece.length));
+        assert_eq!(piece, Some((address, length)), "Q {q}, {handed} handed out");
+    }
 }
 
 /// 2, 11, 10, 11 in that order.
 #[test]
 fn cut_refused() {
     let past = memory(u64::MAX, 7, 2);
-    assert_eq!(cut(&past[..15], 0, 2, 3), Err(Refusal::Setting));
-    assert_eq!(cut(&past[..15], 1_048_577, 2, 3), Err(Refusal::Setting));
-    assert_eq!(cut(&past[..15], 1, 2, 3), Err(Refusal::Argument));
-    assert_eq!(cut(&past.repeat(33), 1, 2, 3), Err(Refusal::Argument));
-    assert_eq!(cut(&past, 1, 2, 3), Err(Refusal::Fields));
-    assert_eq!(cut(&memory(0, 7, 2), 1, 2, 3), Err(Refusal::Argument));
-    assert_eq!(cut(&memory(0, 7, 9), 1, 2, 2), Ok(None));
+    assert_eq!(cut(&past[..15], 0, 0, 2, 3), Err(Refusal::Setting));
+    assert_eq!(cut(&past[..15], 1_048_577, 0, 2, 3), Err(Refusal::Setting));
+    for q in [1, 256, 511, 513, 768, 1 << 33, u64::MAX] {
+        assert_eq!(cut(&past[..15], 1, q, 2, 3), Err(Refusal::Setting), "Q {q}");
+    }
+    assert_eq!(cut(&past[..15], 1, 1 << 32, 2, 3), Err(Refusal::Argument));
+    assert_eq!(cut(&past.repeat(33), 1, 0, 2, 3), Err(Refusal::Argument));
+    assert_eq!(cut(&past, 1, 512, 2, 3), Err(Refusal::Fields));
+    assert_eq!(cut(&memory(0, 7, 2), 1, 0, 2, 3), Err(Refusal::Argument));
+    assert_eq!(cut(&memory(0, 7, 9), 1, 0, 2, 2), Ok(None));
 }

@@ -3,7 +3,9 @@
 mod messages;
 
 use messages::*;
-use srp_target::{Direction, Kind, Message, Operation, Port, Record, Refusal, Step, Tables, Taken, SENSE_BYTES};
+use srp_target::{
+    Direction, Kind, Message, Operation, Port, Record, Refusal, Settings, Step, Tables, Taken, SENSE_BYTES,
+};
 
 /// Data-out: 3000h, handle 5, 600 bytes. Data-in: a table in the message, the segments of P2.
 fn both_ways(tag: u64) -> Vec<u8> {
@@ -202,6 +204,25 @@ fn pieces_are_numbered() {
     let mut pieces = port.pieces(9, Direction::In, 512, 788).unwrap();
     assert_eq!((pieces.next(), pieces.number()), (Some(write(7, 0x1200, 512, 512)), 1));
     assert_eq!(port.step(9, Direction::In), stepped(write(7, 0x1400, 276, 1024), 2));
+}
+
+/// Operations end at multiples of Q, from one of them on they may be Q long, and they are counted with the others. The
+/// port's next login has a boundary of its own.
+#[test]
+fn operations_up_to_a_boundary() {
+    let bounded = Settings { maximum: 8192, boundary: 4096, ..SETTINGS };
+    let mut port = port_with(&bounded);
+    for (settings, expected) in [
+        (bounded, vec![write(7, 0x1f00, 256, 0), write(7, 0x2000, 4096, 256), write(7, 0x3000, 1648, 4352)]),
+        (Settings { boundary: 0, ..bounded }, vec![write(7, 0x1f00, 6000, 0)]),
+        (Settings { boundary: 1 << 32, ..bounded }, vec![write(7, 0x1f00, 6000, 0)]),
+    ] {
+        assert_eq!(port.renew(&settings, &OWN, &login_request(), &mut lent()).unwrap()[0], 0xc0);
+        take_command(&mut port, &command(9, 0, Data::None, Data::Direct(memory(0x1f00, 7, 6000))));
+        port.plan(9, 0, 6000).unwrap();
+        assert_eq!(first(&mut port, 9, Direction::In, 6000), expected);
+        assert_eq!(port.step(9, Direction::In), done(expected.len() as u32));
+    }
 }
 
 #[test]

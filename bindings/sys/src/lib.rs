@@ -13,7 +13,7 @@ pub use numbers::*;
 pub type Words = [u64; PORT_WORDS];
 pub type Store = [u8; STORE_BYTES];
 
-/// What a login is given: N, M, X, indirect, solicited; and the target port identifier.
+/// What a login is given beside its boundary: N, M, X, indirect, solicited; and the target port identifier.
 pub type Settings = [u32; SETTINGS];
 pub type Own = [u8; 16];
 
@@ -25,6 +25,7 @@ extern "C" {
     pub fn srp_target_login(
         port: *mut Words,
         settings: *const Settings,
+        boundary: u64,
         own: *const Own,
         msg: *const u8,
         msg_len: usize,
@@ -66,6 +67,15 @@ extern "C" {
     pub fn srp_target_counters(port: *const Words, answer: *mut Answer) -> u32;
     pub fn srp_target_list(port: *const Words, records: *mut u64, words: usize, answer: *mut Answer) -> u32;
     pub fn srp_look(msg: *const u8, msg_len: usize, agreed: u32, formats: u32, buf: *mut u8, buf_len: usize) -> u32;
-    pub fn srp_cut(list: *const u8, list_len: usize, m: u32, r: u32, handed: u32, buf: *mut u8, buf_len: usize) -> u32;
+    pub fn srp_cut(
+        list: *const u8,
+        list_len: usize,
+        m: u32,
+        q: u64,
+        r: u32,
+        handed: u32,
+        buf: *mut u8,
+        buf_len: usize,
+    ) -> u32;
     pub fn srp_trace(msg: *const u8, msg_len: usize, direction: u32, buf: *mut u8, buf_len: usize) -> u32;
 }

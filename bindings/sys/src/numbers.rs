@@ -1,7 +1,7 @@
 //! The numbers of include/srp_target.h, in its order; tests/rust/tests/header.rs compares them.
 
 // The version of the interface.
-pub const TARGET_VERSION: u32 = 5;
+pub const TARGET_VERSION: u32 = 6;
 
 // Refusals: from the message or the caller.
 pub const REFUSED_SHORT_BUFFER: u32 = 1;
@@ -53,6 +53,10 @@ pub const MOST_BUFFERS: u32 = 16;
 pub const LONGEST_PIECE: u32 = 1_048_576;
 pub const SHORTEST_AGREED: u32 = 64;
 pub const LONGEST_AGREED: u32 = 1364;
+
+// The boundary of a login and of the cut, Q: 0 for none, or a power of two.
+pub const LEAST_BOUNDARY: u64 = 512;
+pub const GREATEST_BOUNDARY: u64 = 4_294_967_296;
 
 // Formats of data buffer descriptors, as bits of a login's required formats.
 pub const FORMAT_BIT_DIRECT: u32 = 0x0002;

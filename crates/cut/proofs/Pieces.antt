@@ -1,6 +1,7 @@
 -- The next piece: what is read of the segment that holds its offset, and none where there is no such segment.
 -- Assumes nothing.
 use mathlib.Core.Path.{_≡_, sym, ap, _∙_}
+use mathlib.Core.Bool.{false}
 use mathlib.Core.List.{List}
 use mathlib.Core.Option.{some}
 use Prim.Native.Nat.{ℕ, _+_, _-_, _*_, _/_, _%_, _^_, _≤_, _<_, min}
@@ -8,13 +9,14 @@ use native.Mathlib.Omega.{arith}
 use lib.ListN.{length, getElem?}
 use Rattle.srp.specs.Bytes.{bytes, get}
 use Rattle.srp.specs.Descriptors.{Segment, segmentsOf}
-use Rattle.srp.specs.Cutting.{upTo, piece, next}
+use Rattle.srp.specs.Cutting.{longestAt, upTo, piece, next, badBoundary}
 use Rattle.srp.specs.declared.Cut.{Cut}
 use Rattle.srp.specs.declared.Cut.the-variants.{CutPiece, CutDone}
 use Rattle.cut.specs.Walk.{nextWrapped}
 use Rattle.cut.specs.Locating.{earlierOf, lengthAt, location, located, HoldsOffset, pieceIn}
 use Rattle.cut.specs.declared.locate.Location.{Location}
 use Rattle.cut.specs.declared.locate.Located.the-variants.{At, Behind}
+use Rattle.srp.proofs.Boundaries.{longest-wraps}
 use Rattle.srp.proofs.Segments.{segments-count}
 use Rattle.cut.proofs.Segments.{segmentFrom, segment-in}
 use Rattle.cut.proofs.Locating.{length-at, holds-inside, each-found, none-past, next-stands}
@@ -54,20 +56,22 @@ module _ (list : List ℕ) (from : ℕ) {l : Location} (e : located from (segmen
 
 -- ── the next piece
 
-module _ (list : List ℕ) (most from to : ℕ) where
+module _ (list : List ℕ) (most q from to : ℕ) where
   abbrev is : Cut → Type 0
-  is o = o ≡ nextWrapped (next (upTo most) from to (segmentsOf list))
+  is o = o ≡ nextWrapped (next (upTo most q) from to (segmentsOf list))
 
   pub empty : to ≤ from → is CutDone
-  empty h = ap nextWrapped (sym (none-past (upTo most) 0 from to (segmentsOf list) (omega arith)))
+  empty h = ap nextWrapped (sym (none-past (upTo most q) 0 from to (segmentsOf list) (omega arith)))
 
   pub behind : located from (segmentsOf list) ≡ Behind → is CutDone
-  behind e = ap nextWrapped (sym (none-past (upTo most) 0 from to (segmentsOf list) (omega (arith, each-found from (segmentsOf list) .behind .0 e))))
+  behind e = ap nextWrapped (sym (none-past (upTo most q) 0 from to (segmentsOf list) (omega (arith, each-found from (segmentsOf list) .behind .0 e))))
 
   module _ {l : Location} (e : located from (segmentsOf list) ≡ At l) (lt : from < to) where
-    found : next (upTo most) from to (segmentsOf list) ≡ some (pieceIn (upTo most) (from - l .earlier) (to - from) from (this list from e))
-    found = next-stands (upTo most) from to (segmentsOf list) lt ∙ rw (e, read list from e)
+    found : next (upTo most q) from to (segmentsOf list) ≡ some (pieceIn (upTo most q) (from - l .earlier) (to - from) from (this list from e))
+    found = next-stands (upTo most q) from to (segmentsOf list) lt ∙ rw (e, read list from e)
 
-    pub here : {a h m k : ℕ} → a ≡ get (bytes (l .index * 16 + 0) 8) list → h ≡ get (bytes (l .index * 16 + 8) 4) list
-        → m ≡ min (l .len - (from - l .earlier)) (to - from) → k ≡ min most m → is (CutPiece (piece ((a + (from - l .earlier)) % 2 ^ 64) h k from))
-    here ea eh em ek = rw (ea, eh, ek, em, long list from e) (ap nextWrapped (sym found))
+    -- the address is reckoned in 64 bits, and a good Q asks for no more
+    pub here : {s a h m j k : ℕ} → badBoundary q ≡ false → s ≡ get (bytes (l .index * 16 + 0) 8) list → a ≡ (s + (from - l .earlier)) % 2 ^ 64
+        → h ≡ get (bytes (l .index * 16 + 8) 4) list → m ≡ min (l .len - (from - l .earlier)) (to - from) → j ≡ longestAt most q a → k ≡ min j m
+        → is (CutPiece (piece a h k from))
+    here {s} good es ea eh em ej ek = rw (ek, ej, ea, longest-wraps most q (s + (from - l .earlier)) good, es, eh, em, long list from e) (ap nextWrapped (sym found))

@@ -1,6 +1,6 @@
 -- What the cut comes to, under each of its checks in turn.
 -- Assumes nothing.
-use mathlib.Core.Path.{_≡_, refl, ap, _∙_}
+use mathlib.Core.Path.{_≡_, refl, ap, sym, _∙_}
 use mathlib.Core.Bool.{Bool, true, false, cond, not, _||_}
 use mathlib.Core.List.{List, [], _∷_}
 use mathlib.Core.Option.{Option, none, some}
@@ -12,7 +12,7 @@ use lib.ListN.{length}
 use Rattle.srp.specs.Limits.{largestPiece, longestTable}
 use Rattle.srp.specs.Descriptors.{Segment, segmentsOf, sumOf, reachable}
 use Rattle.srp.specs.Refusals.{firstOf}
-use Rattle.srp.specs.Cutting.{upTo, next, badMaximum, cutNext, cutDef}
+use Rattle.srp.specs.Cutting.{upTo, next, badMaximum, badBoundary, cutNext, cutDef}
 use Rattle.srp.specs.declared.Piece.{Piece}
 use Rattle.srp.specs.declared.Cut.{Cut}
 use Rattle.srp.specs.declared.Cut.the-variants.{CutRefused, CutPiece}
@@ -56,9 +56,12 @@ module _ (a b c d : Bool) (o : Option Piece) where
 
 -- ── the cut's, from the code's tests
 
-module _ (list : List ℕ) (M R handed : ℕ) where
+module _ (list : List ℕ) (M Q R handed : ℕ) where
   abbrev ss : List Segment
   ss = segmentsOf list
+
+  abbrev badSetting : Bool
+  badSetting = badMaximum M || badBoundary Q
 
   abbrev badList : Bool
   badList = not (eqb (length list % 16) 0) || ltb longestTable (length list)
@@ -70,70 +73,82 @@ module _ (list : List ℕ) (M R handed : ℕ) where
   beyond = ltb (min R (sumOf ss)) handed
 
   abbrev found : Option Piece
-  found = next (upTo M) handed (min R (sumOf ss)) ss
+  found = next (upTo M Q) handed (min R (sumOf ss)) ss
 
   abbrev is : Cut → Type 0
-  is o = o ≡ cutDef list M R handed
+  is o = o ≡ cutDef list M Q R handed
 
   pub zero-maximum : M ≡ 0 → is (CutRefused Setting)
-  zero-maximum e = hit-1 (badMaximum M) badList badSegments beyond found (first-hits (eqb M 0) (ltb largestPiece M) (eq-eqb M 0 e))
+  zero-maximum e = hit-1 badSetting badList badSegments beyond found (first-hits (badMaximum M) (badBoundary Q) (first-hits (eqb M 0) (ltb largestPiece M) (eq-eqb M 0 e)))
 
   module _ (m : M ≡ 0 → ⊥) where
     pub large-maximum : largestPiece < M → is (CutRefused Setting)
-    large-maximum h = hit-1 (badMaximum M) badList badSegments beyond found (second-hits (eqb M 0) (ltb largestPiece M) (ne-eqb M 0 m) (lt-ltb largestPiece M h))
+    large-maximum h =
+        hit-1 badSetting badList badSegments beyond found
+        (first-hits (badMaximum M) (badBoundary Q) (second-hits (eqb M 0) (ltb largestPiece M) (ne-eqb M 0 m) (lt-ltb largestPiece M h)))
 
-    module _ (m′ : M ≤ largestPiece) where
+    module _ (m′ : M ≤ largestPiece) {b : Bool} (told-bad : b ≡ badBoundary Q) where
       maximum-fine : badMaximum M ≡ false
       maximum-fine = neither (eqb M 0) (ltb largestPiece M) (ne-eqb M 0 m) (le-ltb largestPiece M m′)
 
-      pub broken-list : (length list % 16 ≡ 0 → ⊥) → is (CutRefused Argument)
-      broken-list e =
-          hit-2 (badMaximum M) badList badSegments beyond found maximum-fine
-          (first-hits (not (eqb (length list % 16) 0)) (ltb longestTable (length list)) (ap not (ne-eqb (length list % 16) 0 e)))
+      pub bad-boundary : b ≡ true → is (CutRefused Setting)
+      bad-boundary e = hit-1 badSetting badList badSegments beyond found (second-hits (badMaximum M) (badBoundary Q) maximum-fine (sym told-bad ∙ e))
 
-      module _ (l : length list % 16 ≡ 0) where
-        whole : not (eqb (length list % 16) 0) ≡ false
-        whole = ap not (eq-eqb (length list % 16) 0 l)
+      module _ (q : b ≡ false) where
+        pub boundary-fine : badBoundary Q ≡ false
+        boundary-fine = sym told-bad ∙ q
 
-        pub long-list : longestTable < length list → is (CutRefused Argument)
-        long-list h =
-            hit-2 (badMaximum M) badList badSegments beyond found maximum-fine
-            (second-hits (not (eqb (length list % 16) 0)) (ltb longestTable (length list)) whole (lt-ltb longestTable (length list) h))
+        setting-fine : badSetting ≡ false
+        setting-fine = neither (badMaximum M) (badBoundary Q) maximum-fine boundary-fine
 
-        module _ (l′ : length list ≤ longestTable) where
-          list-fine : badList ≡ false
-          list-fine = neither (not (eqb (length list % 16) 0)) (ltb longestTable (length list)) whole (le-ltb longestTable (length list) l′)
+        pub broken-list : (length list % 16 ≡ 0 → ⊥) → is (CutRefused Argument)
+        broken-list e =
+            hit-2 badSetting badList badSegments beyond found setting-fine
+            (first-hits (not (eqb (length list % 16) 0)) (ltb longestTable (length list)) (ap not (ne-eqb (length list % 16) 0 e)))
 
-          pub past-the-end : totalOf ss ≡ Wrong → is (CutRefused Fields)
-          past-the-end e =
-              hit-3 (badMaximum M) badList badSegments beyond found maximum-fine list-fine
-              (first-hits (not (reachable ss)) (leb (2 ^ 32) (sumOf ss)) (ap not (no-sum (reachable ss) (sumOf ss) e)))
+        module _ (l : length list % 16 ≡ 0) where
+          whole : not (eqb (length list % 16) 0) ≡ false
+          whole = ap not (eq-eqb (length list % 16) 0 l)
 
-          module _ {n : ℕ} (t : totalOf ss ≡ Sum n) where
-            told : (reachable ss ≡ true) × (n ≡ sumOf ss)
-            told = is-sum (reachable ss) (sumOf ss) n t
+          pub long-list : longestTable < length list → is (CutRefused Argument)
+          long-list h =
+              hit-2 badSetting badList badSegments beyond found setting-fine
+              (second-hits (not (eqb (length list % 16) 0)) (ltb longestTable (length list)) whole (lt-ltb longestTable (length list) h))
 
-            pub large-total : 2 ^ 32 ≤ n → is (CutRefused Fields)
-            large-total h =
-                hit-3 (badMaximum M) badList badSegments beyond found maximum-fine list-fine
-                (second-hits (not (reachable ss)) (leb (2 ^ 32) (sumOf ss)) (ap not (told .0)) (le-leb (2 ^ 32) (sumOf ss) (omega (arith, told .1))))
+          module _ (l′ : length list ≤ longestTable) where
+            list-fine : badList ≡ false
+            list-fine = neither (not (eqb (length list % 16) 0)) (ltb longestTable (length list)) whole (le-ltb longestTable (length list) l′)
 
-            module _ (t′ : n < 2 ^ 32) {to : ℕ} (e : to ≡ min R n) where
-              segments-fine : badSegments ≡ false
-              segments-fine = neither (not (reachable ss)) (leb (2 ^ 32) (sumOf ss)) (ap not (told .0)) (lt-leb (2 ^ 32) (sumOf ss) (omega (arith, told .1)))
+            pub past-the-end : totalOf ss ≡ Wrong → is (CutRefused Fields)
+            past-the-end e =
+                hit-3 badSetting badList badSegments beyond found setting-fine list-fine
+                (first-hits (not (reachable ss)) (leb (2 ^ 32) (sumOf ss)) (ap not (no-sum (reachable ss) (sumOf ss) e)))
 
-              to-is : to ≡ min R (sumOf ss)
-              to-is = e ∙ ap (min R) (told .1)
+            module _ {n : ℕ} (t : totalOf ss ≡ Sum n) where
+              told : (reachable ss ≡ true) × (n ≡ sumOf ss)
+              told = is-sum (reachable ss) (sumOf ss) n t
 
-              pub too-many : to < handed → is (CutRefused Argument)
-              too-many h = hit-4 (badMaximum M) badList badSegments beyond found maximum-fine list-fine segments-fine (rw to-is at (lt-ltb to handed h))
+              pub large-total : 2 ^ 32 ≤ n → is (CutRefused Fields)
+              large-total h =
+                  hit-3 badSetting badList badSegments beyond found setting-fine list-fine
+                  (second-hits (not (reachable ss)) (leb (2 ^ 32) (sumOf ss)) (ap not (told .0)) (le-leb (2 ^ 32) (sumOf ss) (omega (arith, told .1))))
 
-              pub next-is : handed ≤ to → is (nextWrapped (next (upTo M) handed to ss))
-              next-is h =
-                  ap (λ (k : ℕ). nextWrapped (next (upTo M) handed k ss)) to-is
-                  ∙ go found refl
-                  ∙ clear (badMaximum M) badList badSegments beyond found maximum-fine list-fine segments-fine (rw to-is at (le-ltb to handed h))
-                where
-                  go : (o : Option Piece) → found ≡ o → nextWrapped o ≡ cutNext o
-                  go none z = refl
-                  go (some x) z = ap CutPiece (wrapped-same (upTo M) handed (min R (sumOf ss)) ss x (told .0) (up-to M (omega arith)) z)
+              module _ (t′ : n < 2 ^ 32) {to : ℕ} (e : to ≡ min R n) where
+                segments-fine : badSegments ≡ false
+                segments-fine = neither (not (reachable ss)) (leb (2 ^ 32) (sumOf ss)) (ap not (told .0)) (lt-leb (2 ^ 32) (sumOf ss) (omega (arith, told .1)))
+
+                to-is : to ≡ min R (sumOf ss)
+                to-is = e ∙ ap (min R) (told .1)
+
+                pub too-many : to < handed → is (CutRefused Argument)
+                too-many h = hit-4 badSetting badList badSegments beyond found setting-fine list-fine segments-fine (rw to-is at (lt-ltb to handed h))
+
+                pub next-is : handed ≤ to → is (nextWrapped (next (upTo M Q) handed to ss))
+                next-is h =
+                    ap (λ (k : ℕ). nextWrapped (next (upTo M Q) handed k ss)) to-is
+                    ∙ go found refl
+                    ∙ clear badSetting badList badSegments beyond found setting-fine list-fine segments-fine (rw to-is at (le-ltb to handed h))
+                  where
+                    go : (o : Option Piece) → found ≡ o → nextWrapped o ≡ cutNext o
+                    go none z = refl
+                    go (some x) z = ap CutPiece (wrapped-same (upTo M Q) handed (min R (sumOf ss)) ss x (told .0) (up-to M Q (omega arith)) z)

@@ -12,13 +12,13 @@ use wire::layout::HANDLE;
 use wire::layout::SEGMENT;
 use wire::layout::SEGMENT_LENGTH;
 ghost use mathlib.Core.Path.{_≡_};
-ghost use mathlib.Core.Bool.{not};
+ghost use mathlib.Core.Bool.{false, not};
 ghost use Prim.Native.Nat.{_+_, _/_, _≤_, _^_};
 ghost use lib.Dec.{leb};
 ghost use lib.ListN.{length};
 ghost use Rattle.srp.specs.Limits.{longestTable};
 ghost use Rattle.srp.specs.Descriptors.{segmentsOf};
-ghost use Rattle.srp.specs.Cutting.{upTo, next, cutDef};
+ghost use Rattle.srp.specs.Cutting.{upTo, next, badBoundary, cutDef};
 ghost use Rattle.cut.specs.Walk.{totalOf, Bounded, nextWrapped};
 
 const LARGEST_TOTAL: u64 = 0xffff_ffff;
@@ -62,9 +62,10 @@ pub fn sum(list: &[u8]) -> Total
     Total::Sum(so_far)
 }
 
-// The piece at `from` of the bytes up to `to`, at most `most` long. An address counts modulo 2^64.
-pub fn next_piece(list: &[u8], most: u32, from: u32, to: u32) -> Cut
-    ensures { λ r. ⌜ r ≡ nextWrapped (next (upTo most) from to (segmentsOf (now (list .entry)))) ⌝ }
+// The piece at `from` of the bytes up to `to`, at most `most` long and crossing no multiple of Q. An address counts modulo 2^64.
+pub fn next_piece(list: &[u8], most: u32, q: u64, from: u32, to: u32) -> Cut
+    requires { ⌜ badBoundary q ≡ false ⌝ }
+    ensures { λ r. ⌜ r ≡ nextWrapped (next (upTo most q) from to (segmentsOf (now (list .entry)))) ⌝ }
 {
     if to <= from {
         return Cut::CutDone;
@@ -74,11 +75,12 @@ pub fn next_piece(list: &[u8], most: u32, from: u32, to: u32) -> Cut
     };
     let at = location.index * SEGMENT;
     let skip = (from as u64) - location.earlier;
-    let address = wire::read64(list, at + ADDRESS);
+    let address = std::num::wrapping_add_u64(wire::read64(list, at + ADDRESS), skip);
     let left = wire::least((location.len as u64) - skip, (to - from) as u64);
-    let len = wire::least(most as u64, left) as u32;
+    let longest = boundary::longest_at(most, q, address);
+    let len = wire::least(longest as u64, left) as u32;
     Cut::CutPiece(Piece {
-        address: std::num::wrapping_add_u64(address, skip),
+        address: address,
         handle: wire::read32(list, at + HANDLE),
         len: len,
         offset: from,
@@ -86,13 +88,16 @@ pub fn next_piece(list: &[u8], most: u32, from: u32, to: u32) -> Cut
 }
 
 // The next piece of the first min(R, B) bytes, `handed` of them handed out before.
-pub fn cut(list: &[u8], most: u32, required: u32, handed: u32) -> Cut
-    ensures { λ r. ⌜ r ≡ cutDef (now (list .entry)) most required handed ⌝ }
+pub fn cut(list: &[u8], most: u32, q: u64, required: u32, handed: u32) -> Cut
+    ensures { λ r. ⌜ r ≡ cutDef (now (list .entry)) most q required handed ⌝ }
 {
     if most == 0 {
         return Cut::CutRefused(Refusal::Setting);
     }
     if LARGEST_PIECE < most {
+        return Cut::CutRefused(Refusal::Setting);
+    }
+    if boundary::is_bad(q) {
         return Cut::CutRefused(Refusal::Setting);
     }
     if list.len() % SEGMENT != 0 {
@@ -111,5 +116,5 @@ pub fn cut(list: &[u8], most: u32, required: u32, handed: u32) -> Cut
     if to < handed {
         return Cut::CutRefused(Refusal::Argument);
     }
-    next_piece(list, most, handed, to)
+    next_piece(list, most, q, handed, to)
 }

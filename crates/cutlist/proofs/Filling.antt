@@ -14,6 +14,7 @@ use Rattle.srp.specs.declared.Kind.{Kind}
 use Rattle.srp.specs.declared.Piece.{Piece}
 use Rattle.srp.specs.declared.Cut.{Cut}
 use Rattle.srp.specs.declared.Cut.the-variants.{CutPiece}
+use Rattle.srp.proofs.Boundaries.{longest-most}
 use Rattle.srp.proofs.CutLaws.{Lawful, up-to, done-iff, pieces-all}
 use Rattle.srp.proofs.Pieces.{Fits, piece-fits, wrapped-same}
 use Rattle.srp.proofs.Moves.{cuts-bytes}
@@ -75,7 +76,7 @@ all-taken (suc f) q from to ss m h e = go (next q from to ss) refl (λ n. all-ta
 -- ── the lines of all the pieces
 
 lawful : Lawful rule
-lawful = up-to maximum (omega arith)
+lawful = up-to maximum 0 (omega arith)
 
 pub whole-lines : (k : Kind) (ss : List Segment) → operationLines k (wholeCuts ss) ≡ linesFrom k 0 (sumOf ss) ss
 whole-lines k ss =
@@ -129,7 +130,7 @@ module _ {k : Kind} {from to : ℕ} {ss : List Segment} {before text : List ℕ}
       fits = piece-fits rule 0 at to ss p lawful found
 
       pub short : p .len ≤ maximum
-      short = omega (arith, fits .ruled .1)
+      short = omega (arith, fits .ruled .1, longest-most maximum 0 (p .address))
 
       pub on : {text′ : List ℕ} {end′ : ℕ} → length text′ ≡ length text → Appends text end (operationLine k p) text′ end′
           → Filling k from to ss before text′ end′ (at + p .len)

@@ -18,7 +18,7 @@ abbrev pub maximum : ℕ
 maximum = 512
 
 abbrev pub rule : Rule
-rule = upTo maximum
+rule = upTo maximum 0
 
 -- the lines from byte `from` on, up to byte `to`
 abbrev pub linesFrom : Kind → ℕ → ℕ → List Segment → List ℕ

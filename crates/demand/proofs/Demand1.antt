@@ -11,7 +11,7 @@ use Rattle.demand.proofs.JudgesLogin.{judges-login}
 pub demand-1-in-c : Demand1InC
 demand-1-in-c =
     record {
-      login = λ p q c id m b d w v n post. judges-login (now b) (now q) (now d) (now c) (now id) (now m) n (now v) (post .1);
+      login = λ p q c Q id m b d w v n post. judges-login (now b) (now q) (now d) (now c) Q (now id) (now m) n (now v) (post .1);
       take = λ p q st st′ m out inn b d w v n post.
           judges-take (now p) (now st) (now b) (now q) (now st′) (now d) (now m) (tables (now out) (now inn)) n (now v) (post .1);
       plan = λ p q tag out inn n post. judges-plan (now p) (now q) n tag out inn (post .1);
@@ -25,6 +25,6 @@ demand-1-in-c =
       counters = λ p w v n post. judges-counters (now p) n (now v) (post .1);
       list = λ p before after w v n post. judges-list (now p) (now before) (now after) n (now v) (post .1);
       look = λ m b d agreed formats n post. judges-look (now b) (now d) n agreed formats (now m) (post .1);
-      cut = λ l b d M R handed n post. judges-cut (now b) (now d) n (now l) M R handed (post .1);
+      cut = λ l b d M Q R handed n post. judges-cut (now b) (now d) n (now l) M Q R handed (post .1);
       trace = λ m b d direction n post. judges-trace (now b) (now d) n (wayIn direction) (now m) (post .1);
     }

@@ -152,8 +152,8 @@ module _ (s : Memory) (r : Reply) (ss : List (List ℕ)) (s′ : Memory) (R : de
 
 -- every port of a run is one that a login made and calls changed
 led-reached : (s : Memory) → Led s → def.Reached (seen s)
-led-reached s (begins settings own msg room ss p store l) =
-    subst (λ (o : Outcome). def.Reached (o .port)) (logged-in l store) (def.logged-in (settingsIn settings) own room msg)
+led-reached s (begins settings Q own msg room ss p store l) =
+    subst (λ (o : Outcome). def.Reached (o .port)) (logged-in l store) (def.logged-in (settingsIn settings Q) own room msg)
 led-reached s (goes-on s₀ s₁ c r ss L y m) = follows s₀ r ss s₁ (led-reached s₀ L) c y m .reached′
 
 -- a message of a login request's length and type draws neither 3 nor 4
@@ -181,10 +181,10 @@ look-by-layouts agreed formats msg b b′ n J c k e good room =
     )
 
 -- of a login, accepted or not, and any store
-login-by-layouts : (settings own msg : List ℕ) (room : ℕ) (r : Reply) (ss : List (List ℕ)) (p store : List ℕ) → Bytes msg → LoggedIn settings own msg room r ss p
-    → LoginByLayouts settings own msg room (record { reply = r; port = view p store; wrote = ss })
-login-by-layouts settings own msg room r ss p store b l =
-    let C : Settings = settingsIn settings in
+login-by-layouts : (settings : List ℕ) (Q : ℕ) (own msg : List ℕ) (room : ℕ) (r : Reply) (ss : List (List ℕ)) (p store : List ℕ) → Bytes msg → LoggedIn settings Q own msg room r ss p
+    → LoginByLayouts settings Q own msg room (record { reply = r; port = view p store; wrote = ss })
+login-by-layouts settings Q own msg room r ss p store b l =
+    let C : Settings = settingsIn settings Q in
     let is = logged-in l store in
     record {
       writes = subst (λ (o : Outcome). All (InRoom room) (o .wrote)) is (in-room room (loginDef C own room msg .wrote) (login-writes C own room msg b) (λ e. rw e));
@@ -201,7 +201,7 @@ pub demand-2-in-c : Demand2InC
 demand-2-in-c =
     record {
       calls = λ s s′ c r ss L y m. follows s r ss s′ (led-reached s L) c y m;
-      login = λ settings own msg room r ss p store b l. login-by-layouts settings own msg room r ss p store b l;
+      login = λ settings Q own msg room r ss p store b l. login-by-layouts settings Q own msg room r ss p store b l;
       look = λ m b d agreed formats n post. look-by-layouts agreed formats (now m) (now b) (now d) n (judges-look (now b) (now d) n agreed formats (now m) (post .1));
       trace = λ m b d direction n post. trace-by-layouts (wayIn direction) (now m) (now b) (now d) n (judges-trace (now b) (now d) n (wayIn direction) (now m) (post .1));
     }

@@ -118,15 +118,15 @@ meets L s m (grants room) r ss s′ c = granted room c
 -- ── the theorem
 
 -- a login's reply, port and message are the definition's, whatever the store
-pub logged-in : {settings own msg : List ℕ} {room : ℕ} {r : Reply} {ss : List (List ℕ)} {p : List ℕ} → LoggedIn settings own msg room r ss p → (store : List ℕ)
-    → loginDef (settingsIn settings) own room msg ≡ record { reply = r; port = view p store; wrote = ss }
-logged-in l store =
+pub logged-in : {settings : List ℕ} {Q : ℕ} {own msg : List ℕ} {room : ℕ} {r : Reply} {ss : List (List ℕ)} {p : List ℕ} → LoggedIn settings Q own msg room r ss p → (store : List ℕ)
+    → loginDef (settingsIn settings Q) own room msg ≡ record { reply = r; port = view p store; wrote = ss }
+logged-in {settings} {Q} l store =
     rw (← l .settings-are, ← l .own-is, ← l .message, ← l .gave .room-is, ← l .gave .reply, ← l .gave .wrote, ← l .words)
-    (told.logs-in (l .post .1 store) (told.login-told (settingsIn (now (l .c))) (now (l .id)) (length (now (l .b))) (now (l .m))))
+    (told.logs-in (l .post .1 store) (told.login-told (settingsIn (now (l .c)) Q) (now (l .id)) (length (now (l .b))) (now (l .m))))
 
-holds : (settings own msg : List ℕ) (room : ℕ) (ss : List (List ℕ)) (p store : List ℕ) → Holds settings own msg room ss p store
-holds settings own msg room ss p store l es run f =
-    let c : Settings = settingsIn settings in
+holds : (settings : List ℕ) (Q : ℕ) (own msg : List ℕ) (room : ℕ) (ss : List (List ℕ)) (p store : List ℕ) → Holds settings Q own msg room ss p store
+holds settings Q own msg room ss p store l es run f =
+    let c : Settings = settingsIn settings Q in
     let e = logged-in l store in
     demand-3 c own room msg (ap (λ (o : Outcome). o .reply) e) seen Call (meets (loginOf c msg)) (record { words = p; store = store }) (sym (ap (λ (o : Outcome). o .port) e)) es run f
 

@@ -120,10 +120,10 @@ module _ (b b′ : List ℕ) (n : ℕ) where
       judge-bytes (λ x. lookAnswer (elim x [ none ↦ lookOutcome s | some r ↦ LookRefused r ])) (λ f. refl) refl
       (lookChecks agreed formats s) (length b) n b b′ A
 
-  pub judges-cut : (list : List ℕ) (M R handed : ℕ) → Answered n b b′ (cutInC list M R handed (length b)) → JudgesCut list M R handed b b′ n
-  judges-cut list M R handed A =
-      judge-bytes (λ x. cutAnswer (elim x [ none ↦ cutOutcome list M R handed | some r ↦ CutRefused r ])) (λ f. refl)
-      (unrefused (next (upTo M) handed (min R (sumOf (segmentsOf list))) (segmentsOf list))) (cutChecks list M R handed) (length b) n b b′ A
+  pub judges-cut : (list : List ℕ) (M Q R handed : ℕ) → Answered n b b′ (cutInC list M Q R handed (length b)) → JudgesCut list M Q R handed b b′ n
+  judges-cut list M Q R handed A =
+      judge-bytes (λ x. cutAnswer (elim x [ none ↦ cutOutcome list M Q R handed | some r ↦ CutRefused r ])) (λ f. refl)
+      (unrefused (next (upTo M Q) handed (min R (sumOf (segmentsOf list))) (segmentsOf list))) (cutChecks list M Q R handed) (length b) n b b′ A
     where
       unrefused : (x : Option Piece) → cutAnswer (cutNext x) .returns ≡ 0
       unrefused none = refl

@@ -73,7 +73,7 @@ module _ (c : Settings) (own s : List ℕ) where
           buffer = A .call .buffer ∙ ap (λ (o : Outcome). placed (o .wrote) b) is;
         }
 
-pub judges-login : (b l′ b′ settings own s : List ℕ) (n : ℕ) (w : List ℕ) → LoginInC b l′ b′ settings own s n w → JudgesLogin b l′ b′ settings own s n w
-judges-login b l′ b′ settings own s n w P st =
-    let c : Settings = settingsIn settings in
+pub judges-login : (b l′ b′ settings : List ℕ) (Q : ℕ) (own s : List ℕ) (n : ℕ) (w : List ℕ) → LoginInC b l′ b′ settings Q own s n w → JudgesLogin b l′ b′ settings Q own s n w
+judges-login b l′ b′ settings Q own s n w P st =
+    let c : Settings = settingsIn settings Q in
     judge (loginChecks c (length b) s) n _ _ (P st .numbers .number ∙ login-number c own s (firstOf (loginChecks c (length b) s))) (unrefused c own s (P st)) (refused c own s (P st))

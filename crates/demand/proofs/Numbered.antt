@@ -41,7 +41,7 @@ each-says =
 pub each-counts : EachCounts
 each-counts =
     record {
-      login = λ p q c id m b d w v n post. counts (post .1 [] .numbers);
+      login = λ p q c Q id m b d w v n post. counts (post .1 [] .numbers);
       take = λ p q st st′ m out inn b d w v n post. counts (post .1 .answers .numbers);
       plan = λ st p q tag out inn n post. post .1 st .number;
       move = λ st p q tag direction offset count n post. post .1 st .number;
@@ -54,6 +54,6 @@ each-counts =
       counters = λ st p w v n post. counts (post .1 st);
       list = λ st p before after w v n post. counts (post .1 st .numbers);
       look = λ m b d agreed formats n post. post .1;
-      cut = λ l b d M R handed n post. post .1;
+      cut = λ l b d M Q R handed n post. post .1;
       trace = λ m b d direction n post. post .1;
     }

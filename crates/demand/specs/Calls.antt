@@ -34,9 +34,9 @@ pub record Gave (said : List ℕ → Reply) (room : ℕ) (b d v : List ℕ) (n :
   pub reply : replyBy said n v ≡ r
   pub wrote : messageIn v d ≡ ss
 
--- ── login, with the five settings as numbers; p are the words that it left, r its reply, ss what it wrote
+-- ── login, with the five settings as numbers, and Q; p are the words that it left, r its reply, ss what it wrote
 
-pub record LoggedIn (settings own msg : List ℕ) (room : ℕ) (r : Reply) (ss : List (List ℕ)) (p : List ℕ) : Type 0 where
+pub record LoggedIn (settings : List ℕ) (Q : ℕ) (own msg : List ℕ) (room : ℕ) (r : Reply) (ss : List (List ℕ)) (p : List ℕ) : Type 0 where
   pub before : Slice
   pub after : Slice
   pub c : Slice
@@ -50,7 +50,7 @@ pub record LoggedIn (settings own msg : List ℕ) (room : ℕ) (r : Reply) (ss :
   pub settings-are : now c ≡ settings
   pub own-is : now id ≡ own
   pub message : now m ≡ msg
-  pub post : LoginPost before after c id m b d w v n
+  pub post : LoginPost before after c Q id m b d w v n
   pub gave : Gave loggedIn room (now b) (now d) (now v) n r ss
   pub words : now after ≡ p
 

@@ -7,7 +7,8 @@ use Rattle.demand.specs.Posts.{Slice, LoginPost, TakePost, PlanPost, Mov
 use Rattle.demand.specs.Judgement.{JudgesTake, JudgesLogin, JudgesPlan, JudgesMove, JudgesStep, JudgesFinish, JudgesAdd, JudgesWithdraw, JudgesGrant, JudgesClose, JudgesCounters, JudgesList, JudgesLook, JudgesCut, JudgesTrace}
 
 pub record Demand1InC : Type 0 where
-  pub login : (p q c id m b d w v : Slice) (n : ℕ) → LoginPost p q c id m b d w v n → JudgesLogin (now b) (now q) (now d) (now c) (now id) (now m) n (now v)
+  pub login : (p q c : Slice) (Q : ℕ) (id m b d w v : Slice) (n : ℕ) → LoginPost p q c Q id m b d w v n
+      → JudgesLogin (now b) (now q) (now d) (now c) Q (now id) (now m) n (now v)
   pub take : (p q st st′ m out inn b d w v : Slice) (n : ℕ) → TakePost p q st st′ m out inn b d w v n
       → JudgesTake (now p) (now st) (now b) (now q) (now st′) (now d) (now m) (tables (now out) (now inn)) n (now v)
   pub plan : (p q : Slice) (tag out inn n : ℕ) → PlanPost p q tag out inn n → JudgesPlan (now p) (now q) tag out inn n
@@ -22,5 +23,5 @@ pub record Demand1InC : Type 0 where
   pub counters : (p w v : Slice) (n : ℕ) → CountersPost p w v n → JudgesCounters (now p) n (now v)
   pub list : (p before after w v : Slice) (n : ℕ) → ListPost p before after w v n → JudgesList (now p) (now before) (now after) n (now v)
   pub look : (m b d : Slice) (agreed formats n : ℕ) → LookPost m b d agreed formats n → JudgesLook agreed formats (now m) (now b) (now d) n
-  pub cut : (l b d : Slice) (M R handed n : ℕ) → CutPost l b d M R handed n → JudgesCut (now l) M R handed (now b) (now d) n
+  pub cut : (l b d : Slice) (M Q R handed n : ℕ) → CutPost l b d M Q R handed n → JudgesCut (now l) M Q R handed (now b) (now d) n
   pub trace : (m b d : Slice) (direction n : ℕ) → TracePost m b d direction n → JudgesTrace (wayIn direction) (now m) (now b) (now d) n

@@ -113,7 +113,7 @@ callingOf (close-call room reason) = writing room (λ s. Ended s room reason) (r
 
 -- what an accepted login left, with any store, and what calls made of it one after the other
 pub data Led : Memory → Type 0 where
-  begins : (settings own msg : List ℕ) (room : ℕ) (ss : List (List ℕ)) (p store : List ℕ) → LoggedIn settings own msg room Accepted ss p
+  begins : (settings : List ℕ) (Q : ℕ) (own msg : List ℕ) (room : ℕ) (ss : List (List ℕ)) (p store : List ℕ) → LoggedIn settings Q own msg room Accepted ss p
       → Led (record { words = p; store = store })
   goes-on : (s s′ : Memory) (c : PortCall) (r : Reply) (ss : List (List ℕ)) → Led s → callingOf c .typed → callingOf c .made s r ss s′ → Led s′
 
@@ -135,14 +135,14 @@ pub record ByLayouts (s : Memory) (c : PortCall) (r : Reply) (ss : List (List �
 -- ── and of a login, accepted or not
 
 -- o is the outcome: the reply, the port, the message
-pub record LoginByLayouts (settings own msg : List ℕ) (room : ℕ) (o : Outcome) : Type 0 where
+pub record LoginByLayouts (settings : List ℕ) (Q : ℕ) (own msg : List ℕ) (room : ℕ) (o : Outcome) : Type 0 where
   pub writes : All (InRoom room) (o .wrote)
   -- a message of its length and type is read as the fields of its layout: the outcome is made of them
   pub reads : length msg ≡ loginReq .size → typeOf msg ≡ loginReq .code
-      → o ≡ loginByValues (settingsIn settings) own room (get tag msg) (get requestedLength msg) (get formatBits msg) (get loginCrsolnt msg) (get loginLosolnt msg) (get channelAction msg) (part targetIdentifier msg)
+      → o ≡ loginByValues (settingsIn settings Q) own room (get tag msg) (get requestedLength msg) (get formatBits msg) (get loginCrsolnt msg) (get loginLosolnt msg) (get channelAction msg) (part targetIdentifier msg)
   -- and one that was written by the layout, as the values that were written
   pub request : (t n f c l a i g : ℕ) → InRange (loginReq .fields) (t ∷ n ∷ f ∷ c ∷ l ∷ a ∷ i ∷ g ∷ []) → msg ≡ write loginReq (t ∷ n ∷ f ∷ c ∷ l ∷ a ∷ i ∷ g ∷ [])
-      → o ≡ loginByValues (settingsIn settings) own room t n f c l a (bytesOf 16 g)
+      → o ≡ loginByValues (settingsIn settings Q) own room t n f c l a (bytesOf 16 g)
 
 -- ── and of look
 
@@ -166,8 +166,8 @@ pub record TraceByLayouts (w : Way) (msg b b′ : List ℕ) (n : ℕ) : Type 0 w
 
 pub record Demand2InC : Type 0 where
   pub calls : (s s′ : Memory) (c : PortCall) (r : Reply) (ss : List (List ℕ)) → Led s → callingOf c .typed → callingOf c .made s r ss s′ → ByLayouts s c r ss s′
-  pub login : (settings own msg : List ℕ) (room : ℕ) (r : Reply) (ss : List (List ℕ)) (p store : List ℕ) → Bytes msg → LoggedIn settings own msg room r ss p
-      → LoginByLayouts settings own msg room (record { reply = r; port = view p store; wrote = ss })
+  pub login : (settings : List ℕ) (Q : ℕ) (own msg : List ℕ) (room : ℕ) (r : Reply) (ss : List (List ℕ)) (p store : List ℕ) → Bytes msg → LoggedIn settings Q own msg room r ss p
+      → LoginByLayouts settings Q own msg room (record { reply = r; port = view p store; wrote = ss })
   pub look : (m b d : Slice) (agreed formats n : ℕ) → LookPost m b d agreed formats n → LookByLayouts agreed formats (now m) (now b) (now d) n
   pub trace : (m b d : Slice) (direction n : ℕ) → TracePost m b d direction n → lineLength ≤ length (now b)
       → TraceByLayouts (wayIn direction) (now m) (now b) (now d) n

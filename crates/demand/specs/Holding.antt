@@ -17,12 +17,12 @@ use Rattle.exports.specs.Arguments.{recordSize, allWords, settingsIn}
 use Rattle.demand.specs.Posts.{Slice, CountersPost, ListPost}
 use Rattle.demand.specs.Calls.{Memory, seen, LoggedIn, Call}
 
--- the login with these settings and this message was accepted and left the words p, and each call is made on the words and the store that the last
+-- the login with these settings, Q and this message was accepted and left the words p, and each call is made on the words and the store that the last
 -- one left; `store` is whatever the owner lent
-abbrev pub Holds : (settings own msg : List ℕ) (room : ℕ) (ss : List (List ℕ)) (p store : List ℕ) → Type 0
-Holds settings own msg room ss p store =
-    LoggedIn settings own msg room Accepted ss p
-    → let c : Settings = settingsIn settings in
+abbrev pub Holds : (settings : List ℕ) (Q : ℕ) (own msg : List ℕ) (room : ℕ) (ss : List (List ℕ)) (p store : List ℕ) → Type 0
+Holds settings Q own msg room ss p store =
+    LoggedIn settings Q own msg room Accepted ss p
+    → let c : Settings = settingsIn settings Q in
     let L : Login = loginOf c msg in
     let s : Memory = record { words = p; store = store } in
     (es : List Event) (run : Run L seen Call s (start (c .buffers)) es) → Fair L seen Call s (start (c .buffers)) es run → Demand L seen Call s (start (c .buffers)) es run
@@ -41,7 +41,7 @@ Lists m before after n w =
 -- ── demand 3, whole; of the listing and the counters, wherever `Now` holds of the machine and the words p
 
 pub record Demand3InC : Type 0 where
-  pub holds : (settings own msg : List ℕ) (room : ℕ) (ss : List (List ℕ)) (p store : List ℕ) → Holds settings own msg room ss p store
+  pub holds : (settings : List ℕ) (Q : ℕ) (own msg : List ℕ) (room : ℕ) (ss : List (List ℕ)) (p store : List ℕ) → Holds settings Q own msg room ss p store
   pub reports : (L : Login) (m : Machine) (s : Memory) → Now L m (seen s) → (p w v : Slice) (n : ℕ) → now p ≡ s .words → CountersPost p w v n → Reports L m s n (now v)
   pub lists : (L : Login) (m : Machine) (s : Memory) → Now L m (seen s) → (p before after w v : Slice) (n : ℕ) → now p ≡ s .words → ListPost p before after w v n
       → Lists m (now before) (now after) n (now v)

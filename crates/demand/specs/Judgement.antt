@@ -111,10 +111,10 @@ pub record LoginRefused (b l′ b′ w : List ℕ) : Type 0 where
   pub port : l′ ≡ closedWords
   pub buffer : b′ ≡ b
 
-abbrev pub JudgesLogin : (b l′ b′ settings own s : List ℕ) (n : ℕ) (w : List ℕ) → Type 0
-JudgesLogin b l′ b′ settings own s n w =
+abbrev pub JudgesLogin : (b l′ b′ settings : List ℕ) (Q : ℕ) (own s : List ℕ) (n : ℕ) (w : List ℕ) → Type 0
+JudgesLogin b l′ b′ settings Q own s n w =
     (st : List ℕ)
-    → let c : Settings = settingsIn settings in
+    → let c : Settings = settingsIn settings Q in
     Judgement (loginChecks c (length b) s) n (LoginJudged c own s l′ st b b′ n w) (λ f. LoginRefused b l′ b′ w)
 
 -- ── the other calls on a port; those that are not lent the store, for every store
@@ -184,10 +184,10 @@ JudgesLook agreed formats s b b′ n =
     (b′ ≡ placed (lookAnswer (lookOutcome s) .wrote) b)
     (λ f. b′ ≡ b)
 
-abbrev pub JudgesCut : (list : List ℕ) (M R handed : ℕ) (b b′ : List ℕ) (n : ℕ) → Type 0
-JudgesCut list M R handed b b′ n =
-    Judgement (shortAnswer (length b) ∷ cutChecks list M R handed) n
-    (b′ ≡ placed (cutAnswer (cutOutcome list M R handed) .wrote) b)
+abbrev pub JudgesCut : (list : List ℕ) (M Q R handed : ℕ) (b b′ : List ℕ) (n : ℕ) → Type 0
+JudgesCut list M Q R handed b b′ n =
+    Judgement (shortAnswer (length b) ∷ cutChecks list M Q R handed) n
+    (b′ ≡ placed (cutAnswer (cutOutcome list M Q R handed) .wrote) b)
     (λ f. b′ ≡ b)
 
 -- ── trace

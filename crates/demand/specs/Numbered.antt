@@ -98,7 +98,8 @@ pub record EachSays : Type 0 where
 -- ── each C function: plan, move, add and withdraw have a number and no values; look's and the cut's values are their 32 bytes, trace's its line
 
 pub record EachCounts : Type 0 where
-  pub login : (p q c id m b d w v : Slice) (n : ℕ) → LoginPost p q c id m b d w v n → CountsAs n (now v) (loginDef (settingsIn (now c)) (now id) (length (now b)) (now m))
+  pub login : (p q c : Slice) (Q : ℕ) (id m b d w v : Slice) (n : ℕ) → LoginPost p q c Q id m b d w v n
+      → CountsAs n (now v) (loginDef (settingsIn (now c) Q) (now id) (length (now b)) (now m))
   pub take : (p q st st′ m out inn b d w v : Slice) (n : ℕ) → TakePost p q st st′ m out inn b d w v n
       → CountsAs n (now v) (takeDef (view (now p) (now st)) (length (now b)) (now m) (tables (now out) (now inn)))
   pub plan : (st : List ℕ) (p q : Slice) (tag out inn n : ℕ) → PlanPost p q tag out inn n → n ≡ returned (planDef (view (now p) st) tag out inn .reply)
@@ -116,5 +117,6 @@ pub record EachCounts : Type 0 where
   pub list : (st : List ℕ) (p before after w v : Slice) (n : ℕ) → ListPost p before after w v n
       → CountsAs n (now v) (listDef (view (now p) st) (length (now before) / recordSize))
   pub look : (m b d : Slice) (agreed formats n : ℕ) → LookPost m b d agreed formats n → Answered n (now b) (now d) (inBuffer (length (now b)) (lookAnswer (lookDef agreed formats (now m))))
-  pub cut : (l b d : Slice) (M R handed n : ℕ) → CutPost l b d M R handed n → Answered n (now b) (now d) (inBuffer (length (now b)) (cutAnswer (cutDef (now l) M R handed)))
+  pub cut : (l b d : Slice) (M Q R handed n : ℕ) → CutPost l b d M Q R handed n
+      → Answered n (now b) (now d) (inBuffer (length (now b)) (cutAnswer (cutDef (now l) M Q R handed)))
   pub trace : (m b d : Slice) (direction n : ℕ) → TracePost m b d direction n → Answered n (now b) (now d) (traceInC (wayIn direction) (now m) (length (now b)))

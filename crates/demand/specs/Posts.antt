@@ -26,8 +26,8 @@ abbrev pub Slice : Type 0
 Slice = RefT (List ℕ)
 
 -- c are the settings, id the own identifier
-abbrev pub LoginPost : (p q c id m b d w v : Slice) (n : ℕ) → Type 0
-LoginPost p q c id m b d w v n = (κs : Lfts 6) × login-in-c.Post κs (p, (c, (id, (m, (b, (w, tt)))))) n (q, (c, (id, (m, (d, (v, tt))))))
+abbrev pub LoginPost : (p q c : Slice) (Q : ℕ) (id m b d w v : Slice) (n : ℕ) → Type 0
+LoginPost p q c Q id m b d w v n = (κs : Lfts 6) × login-in-c.Post κs (p, (c, (Q, (id, (m, (b, (w, tt))))))) n (q, (c, (Q, (id, (m, (d, (v, tt)))))))
 
 abbrev pub TakePost : (p q st st′ m out inn b d w v : Slice) (n : ℕ) → Type 0
 TakePost p q st st′ m out inn b d w v n =
@@ -70,8 +70,8 @@ abbrev pub LookPost : (m b d : Slice) (agreed formats n : ℕ) → Type 0
 LookPost m b d agreed formats n = (κs : Lfts 2) × look-in-c.Post κs (m, (agreed, (formats, (b, tt)))) n (m, (agreed, (formats, (d, tt))))
 
 -- l is the list of memory descriptors
-abbrev pub CutPost : (l b d : Slice) (M R handed n : ℕ) → Type 0
-CutPost l b d M R handed n = (κs : Lfts 2) × cut-in-c.Post κs (l, (M, (R, (handed, (b, tt))))) n (l, (M, (R, (handed, (d, tt)))))
+abbrev pub CutPost : (l b d : Slice) (M Q R handed n : ℕ) → Type 0
+CutPost l b d M Q R handed n = (κs : Lfts 2) × cut-in-c.Post κs (l, (M, (Q, (R, (handed, (b, tt)))))) n (l, (M, (Q, (R, (handed, (d, tt))))))
 
 abbrev pub TracePost : (m b d : Slice) (direction n : ℕ) → Type 0
 TracePost m b d direction n = (κs : Lfts 2) × trace-in-c.Post κs (m, (direction, (b, tt))) n (m, (direction, (d, tt)))

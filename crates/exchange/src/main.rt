@@ -1,6 +1,7 @@
 // exchange: an initiator and the port, through two queues. A login; commands with data both ways, direct and indirect; a disk's middle sent before its
 // start, a last byte before the others; the listing; an abort; the listing oldest first, with a tag used again; buffers added, granted and withdrawn; a
-// logout; a second login that the owner ends. Each message, each call and each RDMA operation is a line.
+// logout; a second login with address boundaries, which the owner ends. Each message, each call and each RDMA operation is a line.
+mod boundary;
 mod moves;
 mod order;
 
@@ -37,7 +38,7 @@ fn main() {
     let mut to_port = [0u8; QUEUE];
     let mut to_initiator = [0u8; QUEUE];
     show::text(b"login: 4 buffers, pieces of up to 512 bytes, both formats\n");
-    let a = log_in(&mut port, &mut to_port, &mut to_initiator);
+    let a = log_in(&mut port, 0, &mut to_port, &mut to_initiator);
     let b = data_in(&mut port, &mut store, &mut to_port, &mut to_initiator, a);
     let c = data_out(&mut port, &mut store, &mut to_port, &mut to_initiator, b);
     let d = both_ways(&mut port, &mut store, &mut to_port, &mut to_initiator, c);
@@ -48,17 +49,19 @@ fn main() {
     let i = order::oldest_first(&mut port, &mut store, &mut to_port, &mut to_initiator, h);
     let j = change_buffers(&mut port, &mut store, &mut to_port, &mut to_initiator, i);
     log_out(&mut port, &mut store, &mut to_port, &mut to_initiator, j);
-    close(&mut port, &mut to_port, &mut to_initiator);
+    let k = boundary::data_in(&mut port, &mut store, &mut to_port, &mut to_initiator);
+    close(&mut port, &mut to_initiator, k);
 }
 
 // The login makes the port, and gives the initiator its limit.
 fn log_in(
     port: &mut [u64; PORT],
+    boundary: u64,
     to_port: &mut [u8; QUEUE],
     to_initiator: &mut [u8; QUEUE],
 ) -> u64 {
     owner::submit_login(&mut *to_port);
-    owner::take_login(&mut *port, BUFFERS, to_port, &mut *to_initiator);
+    owner::take_login(&mut *port, BUFFERS, boundary, to_port, &mut *to_initiator);
     owner::deliver(port, to_initiator, 0)
 }
 
@@ -256,10 +259,9 @@ fn log_out(
     owner::show_counts(port, now);
 }
 
-// The initiator logs in anew; the owner closes with reason 1, an inactive channel.
-fn close(port: &mut [u64; PORT], to_port: &mut [u8; QUEUE], to_initiator: &mut [u8; QUEUE]) {
-    show::text(b"a second login, which the owner ends: reason 1, the channel is inactive\n");
-    let limit = log_in(&mut *port, to_port, &mut *to_initiator);
+// The owner closes with reason 1, an inactive channel.
+fn close(port: &mut [u64; PORT], to_initiator: &mut [u8; QUEUE], limit: u64) {
+    show::text(b"the owner ends the channel: reason 1, it is inactive\n");
     owner::close(&mut *port, INACTIVE, &mut *to_initiator);
     owner::deliver(port, to_initiator, limit);
 }

@@ -11,12 +11,13 @@ use Rattle.srp.specs.declared.Settings.{Settings}
 use Rattle.page.specs.declared.Way.{Way}
 use Rattle.page.specs.declared.Way.the-variants.{Towards, From}
 
--- N, M, X, indirect (0 no, else yes), solicited (0 no, else yes)
-abbrev pub settingsIn : List ℕ → Settings
-settingsIn n =
+-- N, M, X, indirect (0 no, else yes), solicited (0 no, else yes); Q is an argument by itself, in 64 bits
+abbrev pub settingsIn : (n : List ℕ) (Q : ℕ) → Settings
+settingsIn n Q =
     record {
       buffers = getD n 0 0;
       maximum = getD n 1 0;
+      boundary = Q;
       longest = getD n 2 0;
       indirect = not (eqb (getD n 3 0) 0);
       solicited = not (eqb (getD n 4 0) 0);

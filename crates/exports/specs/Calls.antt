@@ -71,8 +71,8 @@ pub record ListsInC (p : Port) (before after : List ℕ) (n : ℕ) (w : List ℕ
 
 -- ── the calls, by name; those that are not lent the store, for every store
 
-abbrev pub LoginInC : (b l′ b′ settings own s : List ℕ) (n : ℕ) (w : List ℕ) → Type 0
-LoginInC b l′ b′ settings own s n w = (st : List ℕ) → LogsInC st l′ b b′ n w (loginDef (settingsIn settings) own (length b) s)
+abbrev pub LoginInC : (b l′ b′ settings : List ℕ) (Q : ℕ) (own s : List ℕ) (n : ℕ) (w : List ℕ) → Type 0
+LoginInC b l′ b′ settings Q own s n w = (st : List ℕ) → LogsInC st l′ b b′ n w (loginDef (settingsIn settings Q) own (length b) s)
 
 pub record TakeInC (l st b l′ st′ b′ s : List ℕ) (t : Tables) (n : ℕ) (w : List ℕ) : Type 0 where
   pub answers : AnswersInC l st b l′ st′ b′ n w (takeDef (view l st) (length b) s t)

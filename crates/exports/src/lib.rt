@@ -85,13 +85,13 @@ pub extern "C" fn srp_look(msg: &[u8], agreed: u32, formats: u32, buf: &mut [u8]
 }
 
 #[no_mangle]
-pub extern "C" fn srp_cut(list: &[u8], m: u32, r: u32, handed: u32, buf: &mut [u8]) -> u32
-    ensures { λ n. ⌜ Answered n (now (buf .entry)) (now (buf .exit)) (cutInC (now (list .entry)) m r handed (length (now (buf .entry)))) ⌝ }
+pub extern "C" fn srp_cut(list: &[u8], m: u32, q: u64, r: u32, handed: u32, buf: &mut [u8]) -> u32
+    ensures { λ n. ⌜ Answered n (now (buf .entry)) (now (buf .exit)) (cutInC (now (list .entry)) m q r handed (length (now (buf .entry)))) ⌝ }
 {
     if buf.len() < ANSWER {
         return answer::number_of(Refusal::ShortBuffer);
     }
-    match cut::cut(list, m, r, handed) {
+    match cut::cut(list, m, q, r, handed) {
         Cut::CutRefused(refusal) => answer::number_of(refusal),
         Cut::CutPiece(p) => {
             put_piece(buf, p);

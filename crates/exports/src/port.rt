@@ -62,12 +62,13 @@ fn give_end(answer: &mut [u64; 8], r: Reply) -> u32
     0
 }
 
-fn settings_of(n: &[u32; 5]) -> Settings
-    ensures { λ c. ⌜ c ≡ settingsIn (now (n .entry)) ⌝ }
+fn settings_of(n: &[u32; 5], boundary: u64) -> Settings
+    ensures { λ c. ⌜ c ≡ settingsIn (now (n .entry)) boundary ⌝ }
 {
     Settings {
         buffers: n[0],
         maximum: n[1],
+        boundary: boundary,
         longest: n[2],
         indirect: n[3] != 0,
         solicited: n[4] != 0,
@@ -96,15 +97,16 @@ pub extern "C" fn srp_target_words() -> u64
 pub extern "C" fn srp_target_login(
     port: &mut [u64; PORT],
     settings: &[u32; 5],
+    boundary: u64,
     own: &[u8; 16],
     msg: &[u8],
     buf: &mut [u8],
     answer: &mut [u64; 8],
 ) -> u32
     ensures { λ n. ⌜ LoginInC (now (buf .entry)) (now (port .exit)) (now (buf .exit))
-        (now (settings .entry)) (now (own .entry)) (now (msg .entry)) n (now (answer .exit)) ⌝ }
+        (now (settings .entry)) boundary (now (own .entry)) (now (msg .entry)) n (now (answer .exit)) ⌝ }
 {
-    let c = settings_of(settings);
+    let c = settings_of(settings, boundary);
     let a = login::login(port, c, own, msg, buf);
     give(answer, a)
 }

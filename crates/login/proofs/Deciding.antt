@@ -15,6 +15,7 @@ use Rattle.srp.specs.Messages.{requestedLength, formatBits, channelAction, targ
 use Rattle.srp.specs.Refusals.{firstOf}
 use Rattle.srp.specs.Descriptors.{sameBytes}
 use Rattle.srp.specs.Requests.{otherFormats}
+use Rattle.srp.specs.Cutting.{badBoundary}
 use Rattle.srp.specs.Login.{badSettings, loginChecks, supported, rejections, termsOf}
 use Rattle.srp.specs.declared.Refusal.{Refusal}
 use Rattle.srp.specs.declared.Refusal.the-variants.{ShortBuffer, Setting, Length, OtherType}
@@ -47,14 +48,19 @@ module _ (c : Settings) where
         pub large-piece : 1048576 < c .maximum → true ≡ bad
         large-piece h = rw (ne-eqb (c .buffers) 0 h₁, le-ltb 16 (c .buffers) h₂, ne-eqb (c .maximum) 0 h₃, lt-ltb 1048576 (c .maximum) h)
 
-        module _ (h₄ : c .maximum ≤ 1048576) where
-          pub low-length : c .longest < 64 → true ≡ bad
-          low-length h =
-              rw (ne-eqb (c .buffers) 0 h₁, le-ltb 16 (c .buffers) h₂, ne-eqb (c .maximum) 0 h₃, le-ltb 1048576 (c .maximum) h₄, lt-ltb (c .longest) 64 h)
+        module _ (h₄ : c .maximum ≤ 1048576) {b : Bool} (eb : b ≡ badBoundary (c .boundary)) where
+          pub bad-boundary : b ≡ true → true ≡ bad
+          bad-boundary e =
+              rw (ne-eqb (c .buffers) 0 h₁, le-ltb 16 (c .buffers) h₂, ne-eqb (c .maximum) 0 h₃, le-ltb 1048576 (c .maximum) h₄, sym eb ∙ e)
 
-          pub high-length : 64 ≤ c .longest → ltb 1364 (c .longest) ≡ bad
-          high-length h =
-              rw (ne-eqb (c .buffers) 0 h₁, le-ltb 16 (c .buffers) h₂, ne-eqb (c .maximum) 0 h₃, le-ltb 1048576 (c .maximum) h₄, le-ltb (c .longest) 64 h)
+          module _ (h₅ : b ≡ false) where
+            pub low-length : c .longest < 64 → true ≡ bad
+            low-length h =
+                rw (ne-eqb (c .buffers) 0 h₁, le-ltb 16 (c .buffers) h₂, ne-eqb (c .maximum) 0 h₃, le-ltb 1048576 (c .maximum) h₄, sym eb ∙ h₅, lt-ltb (c .longest) 64 h)
+
+            pub high-length : 64 ≤ c .longest → ltb 1364 (c .longest) ≡ bad
+            high-length h =
+                rw (ne-eqb (c .buffers) 0 h₁, le-ltb 16 (c .buffers) h₂, ne-eqb (c .maximum) 0 h₃, le-ltb 1048576 (c .maximum) h₄, sym eb ∙ h₅, le-ltb (c .longest) 64 h)
 
   -- settings that draw no 2
   pub good : bad ≡ false → GoodSettings c
@@ -63,11 +69,13 @@ module _ (c : Settings) where
       let q = both-false (ltb 16 (c .buffers)) _ (p .1) in
       let r = both-false _ _ (q .1) in
       let m = both-false (eqb (c .maximum) 0) (ltb 1048576 (c .maximum)) (r .0) in
-      let x = both-false (ltb (c .longest) 64) (ltb 1364 (c .longest)) (r .1) in
+      let t = both-false (badBoundary (c .boundary)) _ (r .1) in
+      let x = both-false (ltb (c .longest) 64) (ltb 1364 (c .longest)) (t .1) in
       record {
         counts = counts (eqb-false (c .buffers) 0 (p .0)) (ltb-false 16 (c .buffers) (q .0));
         smallest = omega (arith, eqb-false (c .maximum) 0 (m .0));
         largest = ltb-false 1048576 (c .maximum) (m .1);
+        boundary = t .0;
         longest = ltb-false 1364 (c .longest) (x .1);
       }
     where
@@ -156,6 +164,7 @@ module _ (c : Settings) (own s : List ℕ) where
       record {
         smallest = G .smallest;
         largest = G .largest;
+        boundary = G .boundary;
         shortest = ltb-false (get requestedLength s) 64 (a .0);
         longest = longest (ltb-false (c .longest) (get requestedLength s) (a .1 .0)) (G .longest);
         even = f .0;

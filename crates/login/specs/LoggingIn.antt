@@ -1,12 +1,14 @@
 -- Login, cut where the code is cut, and what it promises. b is the buffer before the call, l′ and b′ the port's words and the buffer after it; the words
 -- before it, and the store, are of no account.
 use mathlib.Core.Path.{_≡_}
+use mathlib.Core.Bool.{false}
 use mathlib.Core.List.{List}
 use mathlib.Core.Option.{Option, none, some}
 use Prim.Native.Nat.{ℕ, _≤_}
 use lib.ListN.{length}
 use Rattle.srp.specs.Limits.{largestPiece, longestAgreed}
 use Rattle.srp.specs.Refusals.{firstOf}
+use Rattle.srp.specs.Cutting.{badBoundary}
 use Rattle.srp.specs.Writing.{placed}
 use Rattle.srp.specs.Take.{Outcome}
 use Rattle.srp.specs.Answers.{answerOf}
@@ -28,6 +30,7 @@ pub record GoodSettings (c : Settings) : Type 0 where
   pub counts : CountsFit 0 (c .buffers) (c .buffers)
   pub smallest : 1 ≤ c .maximum
   pub largest : c .maximum ≤ largestPiece
+  pub boundary : badBoundary (c .boundary) ≡ false
   pub longest : c .longest ≤ longestAgreed
 
 -- where the port is closed, its words are the closed port's

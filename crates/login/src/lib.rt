@@ -74,6 +74,9 @@ fn bad_settings(c: Settings) -> bool
     if LARGEST_PIECE < c.maximum {
         return true;
     }
+    if boundary::is_bad(c.boundary) {
+        return true;
+    }
     if c.longest < SHORTEST_AGREED {
         return true;
     }
@@ -148,6 +151,7 @@ fn terms_of(c: Settings, msg: &[u8]) -> Terms
     let lo = wire::read_bits(msg, LOGIN_BITS, LOGIN_LOSOLNT, 1);
     Terms {
         maximum: c.maximum,
+        boundary: c.boundary,
         agreed: wire::read32(msg, REQUESTED_LENGTH),
         formats: wire::read16(msg, FORMAT_BITS) as u32,
         crsolnt: cr == 1,

@@ -9,6 +9,7 @@ use lib.Dec.{lit≤, ltb}
 use borrow.Author.Tests.{ltb-false}
 use lib.IntN.{ℤ, pos, negsuc, _+ℤ_}
 use Rattle.srp.specs.Requests.{readMessage}
+use Rattle.srp.specs.Cutting.{badBoundary}
 use Rattle.srp.specs.Credit.{Port, owed}
 use Rattle.srp.specs.Take.{Outcome}
 use Rattle.srp.specs.Login.{loginDef}
@@ -49,7 +50,7 @@ module _ (c : Settings) (own : List ℕ) (room : ℕ) (l : List ℕ) (agreed : l
 -- ── P8, drawn from the theorem
 
 abbrev pub c4 : Settings
-c4 = settings 4 512 1364 true true
+c4 = settings 4 512 0 1364 true true
 
 abbrev pub l4 : List ℕ
 l4 = login-req 1364 6 0 own
@@ -57,8 +58,13 @@ l4 = login-req 1364 6 0 own
 abbrev pub p8 : List Event
 p8 = sends (no-data 1) ∷ takes 132 noTables ∷ sends (no-data 2) ∷ takes 132 noTables ∷ withdraws 3 ∷ []
 
-fair : Fair (loginOf c4 l4) (λ p. p) (Call (loginOf c4 l4)) (loginDef c4 own 132 l4 .port) (start 4) p8 (itself c4 own 132 l4 refl p8)
-unfolding readMessage
+-- the login is accepted
+agreed4 : loginDef c4 own 132 l4 .reply ≡ Accepted
+unfolding badBoundary
+agreed4 = refl
+
+fair : Fair (loginOf c4 l4) (λ p. p) (Call (loginOf c4 l4)) (loginDef c4 own 132 l4 .port) (start 4) p8 (itself c4 own 132 l4 agreed4 p8)
+unfolding readMessage badBoundary
 fair = ((λ _. lit≤ tt), (tt, ((λ _. lit≤ tt), (tt, (tt, tt)))))
 
 -- the port and the machine after a list of events
@@ -73,8 +79,8 @@ end8 = ends (loginOf c4 l4) p8 (loginDef c4 own 132 l4 .port) (start 4)
 
 -- what the theorem says of the end of P8
 last : Now (loginOf c4 l4) (end8 .1) (end8 .0)
-unfolding readMessage
-last = demand c4 own 132 l4 refl p8 fair .2 .2 .2 .2 .2
+unfolding readMessage badBoundary
+last = demand c4 own 132 l4 agreed4 p8 fair .2 .2 .2 .2 .2
 
 abbrev size : ℤ → ℕ
 size (pos k) = k
@@ -91,5 +97,5 @@ only (negsuc n) e = go (ltb 4 (suc n)) refl e
 
 -- P8's claim, drawn from demand 3
 pub p8-owes : owed (end8 .0) ≡ negsuc 2
-unfolding readMessage
+unfolding readMessage badBoundary
 p8-owes = only (owed (end8 .0)) (last .sum)

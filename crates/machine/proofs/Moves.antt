@@ -22,7 +22,7 @@ use Rattle.machine.specs.Machine.{Move, Progress, lastOf, soFar, movable
 use Rattle.machine.specs.Operations.{cutsOfAll, wholeOf, piecesLeft}
 use Rattle.machine.specs.Demand.{Prefix, EachCut}
 use Rattle.srp.specs.declared.Piece.{Piece}
-use Rattle.srp.proofs.CutLaws.{Lawful, unrolls, stops, next-at, take-more, drop-more, first-left, some-below, none-above, done-iff}
+use Rattle.srp.proofs.CutLaws.{Lawful, some-maximum, unrolls, stops, next-at, take-more, drop-more, first-left, some-below, none-above, done-iff}
 use Rattle.srp.proofs.Pieces.{piece-fits, Fits}
 use Rattle.srp.proofs.Moves.{move-bytes, moves-cut}
 use Rattle.srp.proofs.ListLaws.{all-snoc, all-weaken}
@@ -85,7 +85,7 @@ highest-snoc (x ∷ ps) p = omega (arith, highest-snoc ps p)
 
 -- the cuts of each move
 pub each-cut : (T : Terms) → Lawful (ruleOf T) → (g : Progress) → Steady T g → EachCut T g
-each-cut T cut g s = all-weaken _ _ (λ m e. moves-cut (T .maximum) (m .from) (m .to) (g .segs) (omega (arith, cut 0 1 (omega arith))) e) (g .moves) (s .bounded)
+each-cut T cut g s = all-weaken _ _ (λ m e. moves-cut (T .maximum) (T .boundary) (m .from) (m .to) (g .segs) (some-maximum (T .maximum) (T .boundary) cut) e) (g .moves) (s .bounded)
 
 -- one move, "offset 0, count R", has the cuts of document 01
 pub one-move : (T : Terms) (R : ℕ) (ss : List Segment) → wholeOf T (withMove 0 R (needing R (fresh ss))) ≡ cuts (ruleOf T) R ss

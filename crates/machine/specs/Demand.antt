@@ -50,9 +50,9 @@ Prefix T g = g .operations ≡ take (length (g .operations)) (wholeOf T g)
 abbrev pub InOrder : Terms → Track → Type 0
 InOrder T t = Each (Prefix T) (t .sides)
 
--- the cuts of each move that was named: 1 to M long, as long as possible, inside one segment, consecutive, the move's bytes, once
+-- the cuts of each move that was named: 1 to M long, crossing no multiple of Q, as long as possible, inside one segment, consecutive, the move's bytes, once
 abbrev pub EachCut : Terms → Progress → Type 0
-EachCut T g = All (λ m. CutAsMove (T .maximum) (m .from) (m .to) (g .segs) (cutsOf (ruleOf T) (m .from) (m .to) (g .segs))) (g .moves)
+EachCut T g = All (λ m. CutAsMove (T .maximum) (T .boundary) (m .from) (m .to) (g .segs) (cutsOf (ruleOf T) (m .from) (m .to) (g .segs))) (g .moves)
 
 abbrev pub CutAsNamed : Terms → Track → Type 0
 CutAsNamed T t = Each (EachCut T) (t .sides)

@@ -1,4 +1,4 @@
--- Document 01, "Cutting", and document 02, jobs 1 and 4: the operations of an open command as demand 3 has them, by the machine's own moves and segments, and
+-- Document 01, "Cutting", and document 02, jobs 1, 4 and 6: the operations of an open command as demand 3 has them, by the machine's own moves and segments, and
 -- what a step must say.
 use mathlib.Core.Path.{_≡_}
 use mathlib.Core.Logic.{_↔_}
@@ -56,7 +56,7 @@ saidOf d n (some o) = Operation (kindOf d) o (n + 1)
 -- "For a finished move this is the length of its cut list, and every other list .. has at least as many". So many adapter slots are enough for the move
 pub record Finished (T : Terms) (ss : List Segment) (m : Move) (n : ℕ) : Type 0 where
   pub fewest : Fewest T (m .from) (m .to) ss n
-  pub slots : n ≤ mostOperations (T .maximum) (m .to - m .from)
+  pub slots : n ≤ mostOperations (T .maximum) (T .boundary) (m .to - m .from)
 
 -- the current move, of which n operations were handed out, is finished
 abbrev pub CurrentFinished : Terms → Progress → ℕ → Type 0

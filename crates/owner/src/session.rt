@@ -22,10 +22,11 @@ const PIECE: u32 = 512;
 // The port's identifier.
 const OWN: [u8; IDENTIFIER] = *b"a proved target.";
 
-fn settings(buffers: u32) -> Settings {
+fn settings(buffers: u32, boundary: u64) -> Settings {
     Settings {
         buffers: buffers,
         maximum: PIECE,
+        boundary: boundary,
         longest: AGREED,
         indirect: true,
         solicited: false,
@@ -38,17 +39,23 @@ fn put_login(msg: &mut [u8; MESSAGE]) {
     host::put_login(msg, 1, AGREED, FORMATS as u16, &own);
 }
 
-fn log_in_with(port: &mut [u64; PORT], buffers: u32, msg: &[u8], buf: &mut [u8]) -> Answer {
+fn log_in_with(
+    port: &mut [u64; PORT],
+    buffers: u32,
+    boundary: u64,
+    msg: &[u8],
+    buf: &mut [u8],
+) -> Answer {
     let own = OWN;
-    login::login(port, settings(buffers), &own, msg, buf)
+    login::login(port, settings(buffers, boundary), &own, msg, buf)
 }
 
-// A login of which nothing is shown but a refusal.
+// A login without boundaries, of which nothing is shown but a refusal.
 pub fn log_in(port: &mut [u64; PORT], buffers: u32) {
     let mut msg = [0u8; MESSAGE];
     let mut buf = [0u8; WRITTEN];
     put_login(&mut msg);
-    let a = log_in_with(port, buffers, message(&msg, LOGIN_REQ_SIZE), &mut buf);
+    let a = log_in_with(port, buffers, 0, message(&msg, LOGIN_REQ_SIZE), &mut buf);
     let reply = a.reply;
     show::refusal(b"   login: ", reply);
 }
@@ -60,15 +67,16 @@ pub fn submit_login(to_port: &mut [u8; QUEUE]) {
     channel::submit(to_port, message(&msg, LOGIN_REQ_SIZE), 0);
 }
 
-// The oldest message makes the port, and leaves.
+// The oldest message makes the port, whose pieces cross no multiple of the boundary (0 for none), and leaves.
 pub fn take_login(
     port: &mut [u64; PORT],
     buffers: u32,
+    boundary: u64,
     to_port: &mut [u8; QUEUE],
     to_initiator: &mut [u8; QUEUE],
 ) {
     let mut buf = [0u8; WRITTEN];
-    let a = log_in_with(port, buffers, queue::front(to_port), &mut buf);
+    let a = log_in_with(port, buffers, boundary, queue::front(to_port), &mut buf);
     let reply = a.reply;
     show::taken(reply);
     send(to_initiator, &buf, a.wrote);

@@ -1,5 +1,5 @@
 // A packed row: its kind, how many bytes are lent and what fills them, the refusal (0 for none), three numbers of 4 bytes, the lengths
-// of five strings of bytes, 2 bytes each, and the strings.
+// of five strings of bytes, 2 bytes each, Q in 8 bytes, and the strings.
 
 use cut::Total;
 use srp::Descriptor;
@@ -19,7 +19,7 @@ pub const CUT: u8 = b'c';
 
 pub const CDB: u8 = b'd';
 
-pub const HEADER: usize = 26;
+pub const HEADER: usize = 34;
 
 const LENT: usize = 1;
 
@@ -30,6 +30,8 @@ const REFUSAL: usize = 3;
 const NUMBERS: usize = 4;
 
 const LENGTHS: usize = 16;
+
+const BOUNDARY: usize = 26;
 // more than any row lends
 const ROOM: usize = 64;
 
@@ -45,7 +47,7 @@ pub struct Ends {
 }
 
 pub fn ends_of(s: &[u8]) -> Ends
-    requires { ⌜ 26 ≤ length (now s) ⌝ }
+    requires { ⌜ 34 ≤ length (now s) ⌝ }
     ensures { λ r. ⌜ Ascending r ⌝ }
 {
     let first = HEADER + (wire::read16(s, LENGTHS) as usize);
@@ -75,14 +77,14 @@ pub fn right(s: &[u8], e: Ends) -> bool
 }
 
 fn number(s: &[u8], i: usize) -> u32
-    requires { ⌜ (26 ≤ length (now s)) × (i ≤ 2) ⌝ }
+    requires { ⌜ (34 ≤ length (now s)) × (i ≤ 2) ⌝ }
 {
     wire::read32(s, NUMBERS + 4 * i)
 }
 
-// look: the agreed length and formats; the message. cut: M, R, the bytes handed out; the list.
+// look: the agreed length and formats; the message. cut: M, R, the bytes handed out, Q; the list.
 fn ask(s: &[u8], first: usize, buf: &mut [u8]) -> u32
-    requires { ⌜ (26 ≤ first) × (first ≤ length (now s)) ⌝ }
+    requires { ⌜ (34 ≤ first) × (first ≤ length (now s)) ⌝ }
 {
     if wire::read8(s, 0) == LOOK {
         return exports::srp_look(&s[HEADER..first], number(s, 0), number(s, 1), buf);
@@ -90,6 +92,7 @@ fn ask(s: &[u8], first: usize, buf: &mut [u8]) -> u32
     exports::srp_cut(
         &s[HEADER..first],
         number(s, 0),
+        wire::read64(s, BOUNDARY),
         number(s, 1),
         number(s, 2),
         buf,

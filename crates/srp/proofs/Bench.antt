@@ -7,7 +7,7 @@ use lib.ListN.{length, replicate}
 use Rattle.srp.specs.Bytes.{number, bytesOf, Layout}
 use Rattle.srp.specs.Messages.{layouts}
 use Rattle.srp.specs.Requests.{readMessage}
-use Rattle.srp.specs.Cutting.{piece}
+use Rattle.srp.specs.Cutting.{piece, longestAt, badBoundary}
 use Rattle.srp.specs.Writing.{placed}
 use lib.IntN.{pos}
 use Rattle.srp.specs.Credit.{closedPort}
@@ -22,7 +22,7 @@ use Rattle.srp.specs.FurtherRows.{rows}
 use Rattle.srp.specs.Written.{writtenByLayout, writtenByHand, answers, answerValues}
 
 pub rows-hold : map found rows ≡ map expected rows
-unfolding readMessage
+unfolding readMessage longestAt badBoundary
 rows-hold = refl
 
 -- the lengths that P5 to P7 name

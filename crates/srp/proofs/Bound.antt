@@ -1,151 +1,188 @@
--- Document 02, job 4: the cuts of a move are at most the segments with a byte in it and its bytes divided by M.
+-- Document 02, jobs 4 and 6: the cuts of a move are at most the segments with a byte in it, its bytes divided by M, and the multiples of Q inside.
 -- Assumes nothing.
-use mathlib.Core.Path.{_≡_, refl, ap, sym, _∙_}
+use mathlib.Core.Path.{_≡_, refl, ap, _∙_}
+use mathlib.Core.Logic.{⊎-elim}
 use mathlib.Core.Bool.{Bool, true, false, cond}
 use mathlib.Core.List.{List, [], _∷_, _++_}
-use Prim.Native.Nat.{ℕ, zero, suc, _+_, _-_, _*_, _/_, _≤_, _<_, min, max}
-use native.Mathlib.Nat.{zero-add, add-mul, suc-mul, zero-mul, one-mul, not-suc-le-zero, le-div-iff-mul-le}
+use Prim.Native.Nat.{ℕ, zero, suc, _+_, _-_, _*_, _/_, _%_, _≤_, _<_, min}
+use native.Mathlib.Nat.{add-mul, suc-mul, one-mul, mul-le-mul-right, not-suc-le-zero, le-div-iff-mul-le, div-add-mod', div-zero, mod-lt, mul-div-cancel}
 use native.Mathlib.Omega.{arith}
-use lib.Dec.{ltb, leb}
+use lib.Arith.{digits-div, digits-mod}
+use lib.Dec.{ltb, eqb}
 use lib.ListN.{length, length-append}
-use borrow.Author.Tests.{lt-ltb, le-ltb, ltb-true, ltb-false, leb-true, leb-false}
+use borrow.Author.Tests.{lt-ltb, ltb-true, ltb-false, eqb-true, eqb-false, ne-eqb}
 use Rattle.srp.specs.Descriptors.{Segment}
-use Rattle.srp.specs.Cutting.{upTo, cutSegment, cutsFrom, cutsOf}
-use Rattle.srp.specs.Fewest.{touches, touched, FewTouched}
+use Rattle.srp.specs.Cutting.{Rule, upTo, nextMultiple, longestAt, cutSegment, cutsFrom, cutsOf}
+use Rattle.srp.specs.Fewest.{partAt, partLength, overParts, touches, touched, multiples, multiplesInside, crossed, CountsMultiples, FewTouched, FewCrossed}
 use Rattle.srp.specs.declared.Piece.{Piece}
+use Rattle.srp.proofs.Boundaries.{longest-some, longest-ends}
+use Rattle.srp.proofs.Parts.{inParts, Counts, whole-parts, Within, parts-most}
 
-no-bytes : (f M a h o : ℕ) → cutSegment f (upTo M) a h o 0 ≡ []
-no-bytes zero M a h o = refl
-no-bytes (suc f) M a h o = refl
+-- ── the multiples of Q
 
--- n bytes of a segment: one piece, and at most one more for each M bytes
-segment-many : (f M a h o n : ℕ) → 1 ≤ M → n ≤ f → 1 ≤ n → length (cutSegment f (upTo M) a h o n) * M ≤ M + n
-segment-many zero M a h o n m le pos = absurd (omega arith)
-segment-many (suc f) M a h o zero m le pos = absurd (not-suc-le-zero pos)
-segment-many (suc f) M a h o (suc n) m le pos = go (ltb M (suc n)) refl (λ x y. segment-many f M (a + k) h (o + k) (suc n - k) m x y)
+-- up to a later address there are no fewer
+pub later : (Q a n : ℕ) → a / Q ≤ (a + n) / Q
+later zero a n = rw (div-zero a) (omega arith)
+later (suc Q) a n = le-div-iff-mul-le {k = suc Q} {x = a / suc Q} {y = a + n} (omega arith) .1 (omega (arith, div-add-mod' a (suc Q)))
+
+-- none is inside a part of no bytes
+none-inside : (Q a : ℕ) → multiplesInside Q a 0 ≡ 0
+none-inside Q a = let e : a + (0 - 1) ≡ a = omega arith in rw e (omega arith)
+
+-- among n addresses there is at most one for each Q of them, and one more
+multiples-few : (Q a n : ℕ) → 1 ≤ Q → multiples Q a n * Q ≤ Q + n
+multiples-few Q a n q =
+    let d = multiples Q a n in
+    let e : (a + n) / Q ≡ d + a / Q = omega (arith, later Q a n) in
+    omega (arith, ap (λ (k : ℕ). k * Q) e, add-mul d (a / Q) Q, div-add-mod' a Q, div-add-mod' (a + n) Q, mod-lt a {m = Q} q)
+
+pub counts-multiples : CountsMultiples
+counts-multiples Q a n q = go (ltb (suc r) Q) refl
   where
+    x : ℕ
+    x = a + n
+
+    d : ℕ
+    d = x / Q
+
+    r : ℕ
+    r = x % Q
+
+    -- the next address, by a quotient and a remainder
+    next : (k j : ℕ) → a + suc n ≡ k * Q + j → j < Q → ((a + suc n) / Q ≡ k) × ((a + suc n) % Q ≡ j)
+    next k j e l = (ap (λ (y : ℕ). y / Q) e ∙ digits-div k l, ap (λ (y : ℕ). y % Q) e ∙ digits-mod k l)
+
+    go : (b : Bool) → ltb (suc r) Q ≡ b → multiples Q a (suc n) ≡ multiples Q a n + cond (eqb ((a + suc n) % Q) 0) 1 0
+    go true e =
+        let m = next d (suc r) (omega (arith, div-add-mod' x Q)) (ltb-true (suc r) Q e) in
+        rw (m .0, ne-eqb ((a + suc n) % Q) 0 (λ z. omega (arith, m .1))) (omega arith)
+    go false e =
+        let l = mod-lt x {m = Q} q in
+        let m = next (suc d) 0 (omega (arith, div-add-mod' x Q, suc-mul d Q, ltb-false (suc r) Q e)) q in
+        rw (m .0, m .1) (omega (arith, later Q a n))
+
+-- ── the cuts of one segment's part
+
+no-bytes : (f : ℕ) (rule : Rule) (a h o : ℕ) → cutSegment f rule a h o 0 ≡ []
+no-bytes zero rule a h o = refl
+no-bytes (suc f) rule a h o = refl
+
+-- how many they are, by address and length alone
+abbrev piecesOf : Rule → (address n : ℕ) → ℕ
+piecesOf rule a n = length (cutSegment n rule a 0 0 n)
+
+same-length : (f : ℕ) (rule : Rule) (a h h′ o o′ n : ℕ) → length (cutSegment f rule a h o n) ≡ length (cutSegment f rule a h′ o′ n)
+same-length zero rule a h h′ o o′ n = refl
+same-length (suc f) rule a h h′ o o′ zero = refl
+same-length (suc f) rule a h h′ o o′ (suc n) =
+    let k = rule a (suc n) in
+    ap suc (same-length f rule (a + k) h h′ (o + k) (o′ + k) (suc n - k))
+
+pieces-in : (rule : Rule) (o from to : ℕ) (ss : List Segment) → length (cutsFrom rule o from to ss) ≡ inParts (piecesOf rule) from to ss
+pieces-in rule o from to [] = refl
+pieces-in rule o from to (s ∷ ss) =
+    let n = min (s .len) to in
+    let k = n - from in
+    length-append (cutSegment k rule (s .address + from) (s .handle) (o + from) k) (cutsFrom rule (o + n) (from - n) (to - n) ss)
+    ∙ (λ i. same-length k rule (s .address + from) (s .handle) 0 (o + from) 0 k i + pieces-in rule (o + n) (from - n) (to - n) ss i)
+
+-- one piece, and one more for each multiple of Q inside
+abbrev segmentMost : (Q address n : ℕ) → ℕ
+segmentMost Q a n = touches a n + multiplesInside Q a n
+
+-- n bytes of a segment: that many, and at most one more for each M bytes
+segment-many : (f M Q a h o n : ℕ) → 1 ≤ M → n ≤ f → 1 ≤ n → length (cutSegment f (upTo M Q) a h o n) * M ≤ (1 + multiples Q a (n - 1)) * M + n
+segment-many zero M Q a h o n m le pos = absurd (omega arith)
+segment-many (suc f) M Q a h o zero m le pos = absurd (not-suc-le-zero pos)
+segment-many (suc f) M Q a h o (suc n) m le pos = go (ltb l (suc n)) refl (λ x y. segment-many f M Q (a + k) h (o + k) (suc n - k) m x y)
+  where
+    l : ℕ
+    l = longestAt M Q a
+
     k : ℕ
-    k = min M (suc n)
+    k = upTo M Q a (suc n)
 
     rest : List Piece
-    rest = cutSegment f (upTo M) (a + k) h (o + k) (suc n - k)
+    rest = cutSegment f (upTo M Q) (a + k) h (o + k) (suc n - k)
 
-    go : (b : Bool) → ltb M (suc n) ≡ b → (suc n - k ≤ f → 1 ≤ suc n - k → length rest * M ≤ M + (suc n - k)) → suc (length rest) * M ≤ M + suc n
+    -- the multiples inside, and those inside behind the first piece
+    x : ℕ
+    x = multiples Q a (suc n - 1)
+
+    y : ℕ
+    y = multiples Q (a + k) (suc n - k - 1)
+
+    -- behind the first piece there are no more multiples, and one fewer where the piece ends at one
+    fewer : k ≤ n → y ≤ x
+    fewer h =
+        let last : a + k + (suc n - k - 1) ≡ a + (suc n - 1) = omega arith in
+        omega (arith, ap (λ (j : ℕ). j / Q) last, later Q a k)
+
+    one-fewer : k ≤ n → 1 ≤ Q → a + k ≡ nextMultiple Q a → 1 + y ≤ x
+    one-fewer h q e =
+        let last : a + k + (suc n - k - 1) ≡ a + (suc n - 1) = omega arith in
+        let at : (a + k) / Q ≡ a / Q + 1 = ap (λ (j : ℕ). j / Q) e ∙ mul-div-cancel (a / Q + 1) q in
+        omega (arith, ap (λ (j : ℕ). j / Q) last, at, later Q (a + k) (suc n - k - 1))
+
+    go : (b : Bool) → ltb l (suc n) ≡ b → (suc n - k ≤ f → 1 ≤ suc n - k → length rest * M ≤ (1 + y) * M + (suc n - k)) → suc (length rest) * M ≤ (1 + x) * M + suc n
     go true b ih =
-        let lt = ltb-true M (suc n) b in
-        omega (arith, suc-mul (length rest) M, ih (omega arith) (omega arith))
+        let lt = ltb-true l (suc n) b in
+        let one = longest-some M Q a m in
+        let is : k ≡ l = omega arith in
+        let r = ih (omega arith) (omega arith) in
+        ⊎-elim
+        (λ (e : l ≡ M). omega (arith, suc-mul (length rest) M, r, mul-le-mul-right {m = 1 + y} {n = 1 + x} M (omega (arith, fewer (omega arith)))))
+        (λ (e : (1 ≤ Q) × (a + l ≡ nextMultiple Q a)).
+        omega (arith, suc-mul (length rest) M, r, add-mul 1 x M, one-mul M, mul-le-mul-right M (one-fewer (omega arith) (e .0) (ap (λ (j : ℕ). a + j) is ∙ e .1))))
+        (longest-ends M Q a)
     go false b ih =
-        let all : suc n - k ≡ 0 = omega (arith, ltb-false M (suc n) b) in
-        rw (all, no-bytes f M (a + k) h (o + k), one-mul M) (omega arith)
+        let all : suc n - k ≡ 0 = omega (arith, ltb-false l (suc n) b) in
+        rw (all, no-bytes f (upTo M Q) (a + k) h (o + k)) (omega (arith, add-mul 1 x M, one-mul M))
 
--- the segments with a byte of those from `from` up to `to`, counted from the first of them as the cuts are made
-abbrev touchedIn : (from to : ℕ) → List Segment → ℕ
-touchedIn from to [] = 0
-touchedIn from to (s ∷ ss) =
-    let n : ℕ = min (s .len) to in
-    cond (ltb from n) 1 0 + touchedIn (from - n) (to - n) ss
+pieces-many : (M Q : ℕ) → 1 ≤ M → Within M (piecesOf (upTo M Q)) (segmentMost Q)
+pieces-many M Q m a n h =
+    let one : touches a n ≡ 1 = rw (lt-ltb 0 n h) in
+    rw one (segment-many n M Q a 0 0 n m (omega arith) h)
 
-module _ (M : ℕ) where
-  -- the pieces of one segment and of those behind it
-  both-many : (p q : List Piece) (t e f : ℕ) → length p * M ≤ M + e → length q * M ≤ t * M + f → length (p ++ q) * M ≤ (1 + t) * M + (e + f)
-  both-many p q t e f x y = rw (length-append p q, add-mul (length p) (length q) M, add-mul 1 t M, one-mul M) (omega arith)
+-- ── the cuts of a move
 
-  many : (o from to : ℕ) (ss : List Segment) → 1 ≤ M → length (cutsFrom (upTo M) o from to ss) * M ≤ touchedIn from to ss * M + (to - from)
-  many o from to [] m = omega (arith, zero-mul M)
-  many o from to (s ∷ ss) m = go (ltb from n) refl (many (o + n) (from - n) (to - n) ss m)
-    where
-      n : ℕ
-      n = min (s .len) to
+-- two sums as one
+both-sums : (f g : ℕ → ℕ → ℕ) (o from to : ℕ) (ss : List Segment) → overParts (λ a n. f a n + g a n) o from to ss ≡ overParts f o from to ss + overParts g o from to ss
+both-sums f g o from to [] = refl
+both-sums f g o from to (s ∷ ss) = omega (arith, both-sums f g (o + s .len) from to ss)
 
-      first : ℕ → List Piece
-      first k = cutSegment k (upTo M) (s .address + from) (s .handle) (o + from) k
+pub cuts-bound : (M Q from to : ℕ) (ss : List Segment) → 1 ≤ M → length (cutsOf (upTo M Q) from to ss) ≤ touched 0 from to ss + (to - from) / M + crossed Q 0 from to ss
+cuts-bound M Q from to ss m =
+    let f = piecesOf (upTo M Q) in
+    let all : length (cutsOf (upTo M Q) from to ss) ≡ overParts f 0 from to ss = pieces-in (upTo M Q) 0 from to ss ∙ whole-parts f (λ a. refl) from to ss in
+    omega (arith, all, parts-most M f (segmentMost Q) (λ a. refl) (pieces-many M Q m) from to ss m (λ a. omega (arith, none-inside Q a)), both-sums touches (multiplesInside Q) 0 from to ss)
 
-      rest : List Piece
-      rest = cutsFrom (upTo M) (o + n) (from - n) (to - n) ss
-
-      t : ℕ
-      t = touchedIn (from - n) (to - n) ss
-
-      go : (b : Bool) → ltb from n ≡ b → length rest * M ≤ t * M + (to - n - (from - n)) → length (first (n - from) ++ rest) * M ≤ (cond b 1 0 + t) * M + (to - from)
-      go true b ih =
-          let lt = ltb-true from n b in
-          let bytes : to - from ≡ n - from + (to - n - (from - n)) = omega arith in
-          rw bytes
-          (both-many (first (n - from)) rest t (n - from) (to - n - (from - n))
-          (segment-many (n - from) M (s .address + from) (s .handle) (o + from) (n - from) m (omega arith) (omega arith)) ih)
-      go false b ih =
-          let le = ltb-false from n b in
-          let none : n - from ≡ 0 = omega arith in
-          let bytes : to - from ≡ to - n - (from - n) = omega arith in
-          rw (none, bytes, zero-add t) ih
-
-none-touched : (from : ℕ) (ss : List Segment) → touchedIn from 0 ss ≡ 0
-none-touched from [] = refl
-none-touched from (s ∷ ss) =
-    let n : min (s .len) 0 ≡ 0 = omega arith in
-    rw (n, le-ltb from 0 (omega arith), none-touched (from - 0) ss)
-
--- a place counted from the segment's first byte and from the buffer's
-begins-before : (o from to n : ℕ) → from - o < min n (to - o) → max o from < min (o + n) to
-begins-before o from to n h = omega arith
-
-ends-before : (o from to n : ℕ) → min n (to - o) ≤ from - o → min (o + n) to ≤ max o from
-ends-before o from to n h = omega arith
-
-passed-over : (o k n to : ℕ) → n ≤ to - o → k - o - min n (to - o) ≡ k - (o + n)
-passed-over o k n to h = let e : min n (to - o) ≡ n = omega arith in rw e (omega arith)
-
--- they are the segments with a byte in the move, each by its own place
-same-touched : (o from to : ℕ) (ss : List Segment) → touchedIn (from - o) (to - o) ss ≡ touched o from to ss
-same-touched o from to [] = refl
-same-touched o from to (s ∷ ss) = λ i. cond (first i) 1 0 + behind (leb (s .len) (to - o)) refl (same-touched (o + s .len) from to ss) i
-  where
-    n : ℕ
-    n = min (s .len) (to - o)
-
-    first : ltb (from - o) n ≡ touches o from to s
-    first = go (ltb (from - o) n) refl
-      where
-        go : (b : Bool) → ltb (from - o) n ≡ b → b ≡ ltb (max o from) (min (o + s .len) to)
-        go true e = sym (lt-ltb (max o from) (min (o + s .len) to) (begins-before o from to (s .len) (ltb-true (from - o) n e)))
-        go false e = sym (le-ltb (max o from) (min (o + s .len) to) (ends-before o from to (s .len) (ltb-false (from - o) n e)))
-
-    behind : (b : Bool) → leb (s .len) (to - o) ≡ b → touchedIn (from - (o + s .len)) (to - (o + s .len)) ss ≡ touched (o + s .len) from to ss
-        → touchedIn (from - o - n) (to - o - n) ss ≡ touched (o + s .len) from to ss
-    behind true e ih =
-        let le = leb-true (s .len) (to - o) e in
-        rw (passed-over o from (s .len) to le, passed-over o to (s .len) to le) ih
-    behind false e ih =
-        let lt = leb-false (s .len) (to - o) e in
-        let t : to - o - n ≡ 0 = omega arith in
-        let t′ : to - (o + s .len) ≡ 0 = omega arith in
-        rw t (none-touched (from - o - n) ss) ∙ sym (none-touched (from - (o + s .len)) ss) ∙ (rw t′ at ih)
-
--- the cuts of a move are at most the segments with a byte in it plus its bytes divided by M
-pub cuts-bound : (M from to : ℕ) (ss : List Segment) → 1 ≤ M → length (cutsOf (upTo M) from to ss) ≤ touched 0 from to ss + (to - from) / M
-cuts-bound M from to ss m = by (length (cutsOf (upTo M) from to ss)) (touched 0 from to ss) (to - from) (omega (arith, many M 0 from to ss m, ap (λ (t : ℕ). t * M) same))
-  where
-    same : touchedIn from to ss ≡ touched 0 from to ss
-    same =
-        let f : from - 0 ≡ from = omega arith in
-        let t : to - 0 ≡ to = omega arith in
-        rw (f, t) at (same-touched 0 from to ss)
-
-    by : (n t b : ℕ) → n * M ≤ t * M + b → n ≤ t + b / M
-    by n t b h = go (ltb t n) refl
-      where
-        go : (c : Bool) → ltb t n ≡ c → n ≤ t + b / M
-        go true c =
-            let d = n - t in
-            let e : n ≡ d + t = omega (arith, ltb-true t n c) in
-            let f : d * M ≤ b = omega (arith, ap (λ (k : ℕ). k * M) e, add-mul d t M) in
-            omega (arith, le-div-iff-mul-le {k = M} {x = d} {y = b} m .1 f)
-        go false c = omega (arith, ltb-false t n c)
+-- ── how many multiples there are at most
 
 pub few-touched : FewTouched
 few-touched o from to [] = omega arith
-few-touched o from to (s ∷ ss) = go (touches o from to s) (few-touched (o + s .len) from to ss)
+few-touched o from to (s ∷ ss) = go (ltb 0 (partLength o from to s)) (few-touched (o + s .len) from to ss)
   where
     go : (b : Bool) → touched (o + s .len) from to ss ≤ length ss → cond b 1 0 + touched (o + s .len) from to ss ≤ suc (length ss)
     go true e = omega arith
     go false e = omega arith
+
+none-crossed : (o from to : ℕ) (ss : List Segment) → crossed 0 o from to ss ≡ 0
+none-crossed o from to [] = refl
+none-crossed o from to (s ∷ ss) =
+    let a = partAt o from s in
+    rw (div-zero (a + (partLength o from to s - 1)), div-zero a, none-crossed (o + s .len) from to ss)
+
+pub few-crossed : FewCrossed
+few-crossed Q from to ss = go (eqb Q 0) refl
+  where
+    go : (b : Bool) → eqb Q 0 ≡ b → crossed Q 0 from to ss ≤ cond b 0 (touched 0 from to ss + (to - from) / Q)
+    go true e = rw (eqb-true Q 0 e) (omega (arith, none-crossed 0 from to ss))
+    go false e =
+        let q : 1 ≤ Q = omega (arith, eqb-false Q 0 e) in
+        parts-most Q (multiplesInside Q) touches (none-inside Q) within from to ss q (λ a. refl)
+      where
+        within : Within Q (multiplesInside Q) touches
+        within a n h =
+            let one : touches a n ≡ 1 = rw (lt-ltb 0 n h) in
+            rw one (omega (arith, one-mul Q, multiples-few Q a (n - 1) (omega (arith, eqb-false Q 0 e))))

@@ -14,6 +14,7 @@ use borrow.Author.Tests.{ltb-true, ltb-false}
 use Rattle.srp.specs.Descriptors.{Segment, sumOf}
 use Rattle.srp.specs.Cutting.{Rule, upTo, pieces, piece, bytesIn, cutSegment, cutsFrom, cutsOf, cuts, nextFrom, next}
 use Rattle.srp.specs.declared.Piece.{Piece}
+use Rattle.srp.proofs.Boundaries.{longest-some, longest-most}
 
 -- the bytes of two lists
 pub bytesIn-append : (p q : List Piece) → bytesIn (p ++ q) ≡ bytesIn p + bytesIn q
@@ -26,8 +27,12 @@ bytesIn-append (x ∷ p) q = rw (bytesIn-append p q) (sym (add-assoc (x .len) (b
 abbrev pub Lawful : Rule → Type 0
 Lawful rule = (a n : ℕ) → 1 ≤ n → (1 ≤ rule a n) × (rule a n ≤ n)
 
-pub up-to : (M : ℕ) → 1 ≤ M → Lawful (upTo M)
-up-to M m a n h = omega arith
+pub up-to : (M Q : ℕ) → 1 ≤ M → Lawful (upTo M Q)
+up-to M Q m a n h = omega (arith, longest-some M Q a m)
+
+-- and for no other M
+pub some-maximum : (M Q : ℕ) → Lawful (upTo M Q) → 1 ≤ M
+some-maximum M Q cut = omega (arith, cut 0 1 (omega arith) .0, longest-most M Q 0)
 
 -- ── one segment
 

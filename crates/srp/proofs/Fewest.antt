@@ -1,4 +1,5 @@
--- Document 02, job 4: no list of operations that covers a move's bytes in order, each inside one segment and at most M long, has fewer than the move's cuts.
+-- Document 02, jobs 4 and 6: no list of operations that covers a move's bytes in order, each inside one segment, at most M long and crossing no multiple of Q,
+-- has fewer than the move's cuts.
 -- Assumes nothing.
 use mathlib.Core.Path.{_≡_, refl, sym, subst}
 use mathlib.Core.Logic.{inl, inr, ⊎-elim}
@@ -18,6 +19,7 @@ use Rattle.srp.specs.Fewest.{Allowed, Rival, MovesFewest}
 use Rattle.srp.specs.declared.Terms.{Terms}
 use Rattle.srp.specs.declared.Piece.{Piece}
 use Rattle.srp.proofs.ListLaws.{all-weaken}
+use Rattle.srp.proofs.Boundaries.{longest-most, longest-crosses-none, crosses-none-longest}
 use Rattle.srp.proofs.CutLaws.{Lawful, up-to, unrolls, stops, done-iff}
 use Rattle.srp.proofs.Pieces.{piece-fits}
 use Rattle.srp.proofs.Moves.{move-fits, move-consecutive, move-bytes}
@@ -28,18 +30,19 @@ use Rattle.srp.proofs.Bound.{cuts-bound}
 
 -- no piece that is allowed is longer, where it ends by what is left
 bounded : (T : Terms) (p : Piece) (n : ℕ) → Allowed T p → p .len ≤ n → p .len ≤ ruleOf T (p .address) n
-bounded T p n a h = omega arith
+bounded T p n a h = omega (arith, crosses-none-longest (T .maximum) (T .boundary) p (a .0) (a .1))
 
 -- a piece by the rule is allowed
 ruled-allowed : (T : Terms) (p : Piece) (n : ℕ) → p .len ≡ ruleOf T (p .address) n → Allowed T p
-ruled-allowed T p n e = omega arith
+ruled-allowed T p n e =
+    (omega (arith, e, longest-most (T .maximum) (T .boundary) (p .address)), longest-crosses-none (T .maximum) (T .boundary) p (omega (arith, e)))
 
 -- what is left of a piece behind its first k bytes
 abbrev tailOf : ℕ → Piece → Piece
 tailOf k p = piece (p .address + k) (p .handle) (p .len - k) (p .offset + k)
 
-tail-allowed : (T : Terms) (k : ℕ) (p : Piece) → Allowed T p → Allowed T (tailOf k p)
-tail-allowed T k p a = omega arith
+tail-allowed : (T : Terms) (k : ℕ) (p : Piece) → k ≤ p .len → Allowed T p → Allowed T (tailOf k p)
+tail-allowed T k p h a = (omega (arith, a .0), λ j f. omega (arith, a .1 j (omega arith)))
 
 tail-inside : (o k : ℕ) (p : Piece) (ss : List Segment) → k ≤ p .len → InSegments o p ss → InSegments o (tailOf k p) ss
 tail-inside o k p [] h w = w
@@ -118,7 +121,7 @@ module _ (T : Terms) (to : ℕ) (ss : List Segment) (cut : Lawful (ruleOf T)) (s
       go false b v e ih = omega (arith, ih y (ltb-false y (x + p .len) b) k)
       go true b none e ih = absurd (omega (arith, ltb-true y (x + p .len) b, done-iff (ruleOf T) y to ss short .0 e, r .covers))
       go true b (some q) e ih =
-          let l = longest T 0 y to ss (tailOf (y - x) p) q (tail-allowed T (y - x) p (r .allowed .0)) (tail-stands (ltb-true y (x + p .len) b)) e in
+          let l = longest T 0 y to ss (tailOf (y - x) p) q (tail-allowed T (y - x) p (omega (arith, ltb-true y (x + p .len) b)) (r .allowed .0)) (tail-stands (ltb-true y (x + p .len) b)) e in
           let f = piece-fits (ruleOf T) 0 y to ss q cut e in
           rw (unrolls (ruleOf T) 0 y to ss q cut e) (omega (arith, ih (y + q .len) (omega arith) (f .upto)))
 
@@ -137,10 +140,10 @@ cuts-rival T from to ss m h k =
 
 pub fewest : MovesFewest
 fewest T from to ss m h k =
-    let cut = up-to (T .maximum) m in
+    let cut = up-to (T .maximum) (T .boundary) m in
     record {
       counted = refl;
       attained = cuts-rival T from to ss cut h k;
       least = λ ps r. ahead T to ss cut k ps from from (omega arith) h r;
-      bound = cuts-bound (T .maximum) from to ss m;
+      bound = cuts-bound (T .maximum) (T .boundary) from to ss m;
     }

@@ -10,10 +10,12 @@ pub mod Reading
 pub mod Refusing
 pub mod Alike
 pub mod Unread
+pub mod Boundaries
 pub mod CutLaws
 pub mod Pieces
 pub mod Moves
 pub mod Rivals
+pub mod Parts
 pub mod Bound
 pub mod Fewest
 pub mod Listing
@@ -25,4 +27,5 @@ pub mod Sent
 pub mod Received
 pub mod Bench
 pub mod MoveRows
+pub mod BoundaryRows
 pub mod ListRows

@@ -15,12 +15,13 @@ use borrow.Author.Tests.{lt-ltb, le-ltb, ltb-true, ltb-false}
 use Rattle.srp.specs.Lists.{All, isSome}
 use Rattle.srp.specs.Descriptors.{Segment, sumOf}
 use Rattle.srp.specs.Cutting.{Rule, upTo, bytesIn, highest, trimmed, cutSegment, cutsFrom, cutsOf, cuts}
-use Rattle.srp.specs.Moves.{InSegments, Consecutive, run, bytesOfSegments, bytesOfPieces, MovesCut, OwnList, EndsAt, HighestIs, HighestOfOwn}
+use Rattle.srp.specs.Moves.{InSegments, CrossesNone, Consecutive, run, bytesOfSegments, bytesOfPieces, MovesCut, OwnList, EndsAt, HighestIs, HighestOfOwn}
 use Rattle.srp.specs.Credit.{ruleOf}
 use Rattle.srp.specs.Calls.{hasPieces, nextIn}
 use Rattle.srp.specs.Ranges.{HasPieces}
 use Rattle.srp.specs.declared.Piece.{Piece}
 use Rattle.srp.proofs.ListLaws.{all-weaken}
+use Rattle.srp.proofs.Boundaries.{longest-most, longest-crosses-none}
 use Rattle.srp.proofs.CutLaws.{Lawful, up-to, done-iff, cutSegment-bytes, next-at, cutsFrom-bytes}
 use Rattle.srp.proofs.Pieces.{piece-fits, as-long}
 
@@ -156,16 +157,18 @@ move-covered rule from to ss m = covered-from rule 0 from to ss m
 
 -- so the cuts of a move are what specs/Moves.antt says
 pub moves-cut : MovesCut
-moves-cut M from to ss m h =
-    let rule = upTo M in
-    let fit = move-fits rule from to ss (up-to M m) in
+moves-cut M Q from to ss m h =
+    let rule = upTo M Q in
+    let cut = up-to M Q m in
+    let fit = move-fits rule from to ss cut in
     record {
-      sizes = all-weaken _ _ (λ p x. (x .0, omega (arith, x .1 .1))) (cutsOf rule from to ss) fit;
-      longest = all-at _ (cutsOf rule from to ss) λ k p e. as-long M 0 (from + bytesIn (take k (cutsOf rule from to ss))) to ss p m (sym (next-at rule 0 from to ss k (up-to M m)) ∙ e);
+      sizes = all-weaken _ _ (λ p x. (x .0, omega (arith, x .1 .1, longest-most M Q (p .address)))) (cutsOf rule from to ss) fit;
+      boundaries = all-weaken _ (CrossesNone Q) (λ p x. longest-crosses-none M Q p (omega (arith, x .1 .1))) (cutsOf rule from to ss) fit;
+      longest = all-at _ (cutsOf rule from to ss) λ k p e. as-long M Q 0 (from + bytesIn (take k (cutsOf rule from to ss))) to ss p m (sym (next-at rule 0 from to ss k cut) ∙ e);
       inside = all-weaken _ _ (λ p x. x .2) (cutsOf rule from to ss) fit;
-      consecutive = move-consecutive rule from to ss (up-to M m);
-      bytes = move-bytes rule from to ss (up-to M m) h;
-      covered = move-covered rule from to ss (up-to M m);
+      consecutive = move-consecutive rule from to ss cut;
+      bytes = move-bytes rule from to ss cut h;
+      covered = move-covered rule from to ss cut;
     }
 
 pub own-list : OwnList
@@ -210,5 +213,5 @@ has-pieces T s m r = go (nextIn T s) refl
     go : (v : Option Piece) → nextIn T s ≡ v → hasPieces s ≡ isSome v
     go none e = le-ltb (s .transfer .at) (s .transfer .end) (done-iff (ruleOf T) (s .transfer .at) (s .transfer .end) (s .extent .segs) ends .0 e)
     go (some o) e =
-        let f = piece-fits (ruleOf T) 0 (s .transfer .at) (s .transfer .end) (s .extent .segs) o (up-to (T .maximum) m) e in
+        let f = piece-fits (ruleOf T) 0 (s .transfer .at) (s .transfer .end) (s .extent .segs) o (up-to (T .maximum) (T .boundary) m) e in
         lt-ltb (s .transfer .at) (s .transfer .end) (omega (arith, f .some, f .upto))

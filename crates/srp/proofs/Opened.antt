@@ -14,7 +14,7 @@ use mathlib.Core.Logic.{inl, inr}
 use mathlib.Core.Bool.{false}
 use lib.Dec.{ltb, eqb}
 use borrow.Author.Tests.{ltb-false, eqb-false}
-use Rattle.srp.specs.Cutting.{badMaximum}
+use Rattle.srp.specs.Cutting.{badMaximum, badBoundary}
 use Rattle.srp.specs.Ranges.{Ranged}
 use Rattle.srp.proofs.Checks.{passes, both-false}
 
@@ -38,7 +38,8 @@ login-kept c own room s = go (firstOf (loginChecks c room s)) refl
     opens e none =
         let a = both-false (eqb (c .buffers) 0) _ e in
         let b = both-false (ltb 16 (c .buffers)) _ (a .1) in
-        let m = both-false (eqb (c .maximum) 0) (ltb 1048576 (c .maximum)) (both-false (badMaximum (c .maximum)) _ (b .1) .0) in
+        let d = both-false (badMaximum (c .maximum)) _ (b .1) in
+        let m = both-false (eqb (c .maximum) 0) (ltb 1048576 (c .maximum)) (d .0) in
         let few = ltb-false 16 (c .buffers) (b .0) in
         inr (record {
           live = refl;
@@ -47,6 +48,7 @@ login-kept c own room s = go (firstOf (loginChecks c room s)) refl
           room = omega arith;
           smallest = omega (arith, eqb-false (c .maximum) 0 (m .0));
           largest = ltb-false 1048576 (c .maximum) (m .1);
+          boundary = both-false (badBoundary (c .boundary)) _ (d .1) .0;
           commands = tt;
         })
     opens e (some r) = inl refl

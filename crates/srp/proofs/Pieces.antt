@@ -1,21 +1,22 @@
 -- The next piece of a move: it lies inside one segment, where its offset says, is as long as the rule says, and its address fits 64 bits.
 -- Assumes nothing.
-use mathlib.Core.Path.{_≡_, refl, ap, subst}
+use mathlib.Core.Path.{_≡_, refl, ap, _∙_, subst}
 use mathlib.Core.Logic.{_⊎_, inl, inr, ⊎-elim}
 use mathlib.Core.Bool.{Bool, true, false, cond}
 use mathlib.Core.List.{List, [], _∷_}
 use mathlib.Core.Option.{some, Option·none-ne-some, Option·some-injective}
-use Prim.Native.Nat.{ℕ, _+_, _-_, _^_, _≤_, _<_, min}
+use Prim.Native.Nat.{ℕ, _+_, _-_, _/_, _^_, _≤_, _<_, min}
 use native.Mathlib.Nat.{mod-eq-of-lt}
 use native.Mathlib.Omega.{arith}
 use lib.Dec.{ltb, leb}
 use borrow.Author.Tests.{ltb-true, ltb-false, leb-true, leb-false}
 use Rattle.srp.specs.Descriptors.{Segment, reachable}
-use Rattle.srp.specs.Cutting.{Rule, upTo, piece, nextFrom, next}
-use Rattle.srp.specs.Moves.{Inside, InSegments, EndsSegment, AsLong}
+use Rattle.srp.specs.Cutting.{Rule, nextMultiple, longestAt, upTo, piece, nextFrom, next}
+use Rattle.srp.specs.Moves.{Inside, InSegments, EndsSegment, EndsAtMultiple, AsLong}
 use Rattle.srp.specs.Calls.{wrapped}
 use Rattle.srp.specs.declared.Piece.{Piece}
 use Rattle.srp.proofs.FieldLaws.{both}
+use Rattle.srp.proofs.Boundaries.{longest-ends}
 use Rattle.srp.proofs.CutLaws.{Lawful, up-to}
 
 -- so it has only bytes of that segment
@@ -67,42 +68,51 @@ piece-fits rule o from to (s ∷ ss) p m e = go (ltb from n) refl e (λ f. piece
     go true q f ih = subst (Fits rule o from to (s ∷ ss)) (Option·some-injective _ p f) (first (ltb-true from n q))
     go false q f ih = later (ltb-false from n q) (ih f)
 
--- by document 01's rule every piece is M long, or ends where the bytes or its segment do
-pub as-long : (M o from to : ℕ) (ss : List Segment) (p : Piece) → 1 ≤ M → nextFrom (upTo M) o from to ss ≡ some p
-    → AsLong M o to ss p
-as-long M o from to [] p m e = absurd (Option·none-ne-some p e)
-as-long M o from to (s ∷ ss) p m e = go (ltb from n) refl e (λ f. as-long M (o + n) (from - n) (to - n) ss p m f)
+-- by the papers' rule every piece is M long, or ends at a multiple of Q, or where the bytes or its segment do
+pub as-long : (M Q o from to : ℕ) (ss : List Segment) (p : Piece) → 1 ≤ M → nextFrom (upTo M Q) o from to ss ≡ some p
+    → AsLong M Q o to ss p
+as-long M Q o from to [] p m e = absurd (Option·none-ne-some p e)
+as-long M Q o from to (s ∷ ss) p m e = go (ltb from n) refl e (λ f. as-long M Q (o + n) (from - n) (to - n) ss p m f)
   where
     n : ℕ
     n = min (s .len) to
 
-    l : ℕ
-    l = min M (n - from)
+    a : ℕ
+    a = s .address + from
 
-    this : from < n → AsLong M o to (s ∷ ss) (piece (s .address + from) (s .handle) l (o + from))
-    this h = short (leb M (n - from)) refl (leb (s .len) to) refl
+    longest : ℕ
+    longest = longestAt M Q a
+
+    this : from < n → AsLong M Q o to (s ∷ ss) (piece a (s .handle) (min longest (n - from)) (o + from))
+    this h = short (leb longest (n - from)) refl (leb (s .len) to) refl
       where
-        short : (a : Bool) → leb M (n - from) ≡ a → (b : Bool) → leb (s .len) to ≡ b
-            → AsLong M o to (s ∷ ss) (piece (s .address + from) (s .handle) l (o + from))
-        short true x b y = inl (omega (arith, leb-true M (n - from) x))
-        short false x true y = inr (inr (inl (omega (arith, leb-false M (n - from) x, leb-true (s .len) to y))))
-        short false x false y = inr (inl (omega (arith, leb-false M (n - from) x, leb-false (s .len) to y)))
+        short : (b : Bool) → leb longest (n - from) ≡ b → (c : Bool) → leb (s .len) to ≡ c
+            → AsLong M Q o to (s ∷ ss) (piece a (s .handle) (min longest (n - from)) (o + from))
+        short true x c y =
+            let is : min longest (n - from) ≡ longest = omega (arith, leb-true longest (n - from) x) in
+            ⊎-elim (λ (z : longest ≡ M). inl (is ∙ z))
+            (λ (z : (1 ≤ Q) × (a + longest ≡ nextMultiple Q a)). inr (inl (a / Q + 1, ap (λ (k : ℕ). a + k) is ∙ z .1)))
+            (longest-ends M Q a)
+        short false x true y = inr (inr (inr (inl (omega (arith, leb-false longest (n - from) x, leb-true (s .len) to y)))))
+        short false x false y = inr (inr (inl (omega (arith, leb-false longest (n - from) x, leb-false (s .len) to y))))
 
-    later : n ≤ from → nextFrom (upTo M) (o + n) (from - n) (to - n) ss ≡ some p → AsLong M (o + n) (to - n) ss p → AsLong M o to (s ∷ ss) p
+    later : n ≤ from → nextFrom (upTo M Q) (o + n) (from - n) (to - n) ss ≡ some p → AsLong M Q (o + n) (to - n) ss p → AsLong M Q o to (s ∷ ss) p
     later h f ih =
-        let fits = piece-fits (upTo M) (o + n) (from - n) (to - n) ss p (up-to M m) f in
+        let fits = piece-fits (upTo M Q) (o + n) (from - n) (to - n) ss p (up-to M Q m) f in
         let whole : o + n ≡ o + s .len = omega (arith, fits .some, fits .upto) in
         ⊎-elim (λ (x : p .len ≡ M). inl x)
-        (λ (x : (p .offset + p .len ≡ o + n + (to - n)) ⊎ EndsSegment (o + n) p ss).
-        inr (⊎-elim (λ (y : p .offset + p .len ≡ o + n + (to - n)). inl (omega (arith, fits .some, fits .upto)))
-        (λ (y : EndsSegment (o + n) p ss). inr (inr (subst (λ (k : ℕ). EndsSegment k p ss) whole y))) x))
+        (λ (x : EndsAtMultiple Q p ⊎ (p .offset + p .len ≡ o + n + (to - n)) ⊎ EndsSegment (o + n) p ss).
+        inr (⊎-elim (λ (y : EndsAtMultiple Q p). inl y)
+        (λ (y : (p .offset + p .len ≡ o + n + (to - n)) ⊎ EndsSegment (o + n) p ss).
+        inr (⊎-elim (λ (z : p .offset + p .len ≡ o + n + (to - n)). inl (omega (arith, fits .some, fits .upto)))
+        (λ (z : EndsSegment (o + n) p ss). inr (inr (subst (λ (k : ℕ). EndsSegment k p ss) whole z))) y)) x))
         ih
 
     go : (b : Bool) → ltb from n ≡ b
-        → cond b (some (piece (s .address + from) (s .handle) l (o + from))) (nextFrom (upTo M) (o + n) (from - n) (to - n) ss) ≡ some p
-        → (nextFrom (upTo M) (o + n) (from - n) (to - n) ss ≡ some p → AsLong M (o + n) (to - n) ss p)
-        → AsLong M o to (s ∷ ss) p
-    go true w f ih = subst (AsLong M o to (s ∷ ss)) (Option·some-injective _ p f) (this (ltb-true from n w))
+        → cond b (some (piece a (s .handle) (min longest (n - from)) (o + from))) (nextFrom (upTo M Q) (o + n) (from - n) (to - n) ss) ≡ some p
+        → (nextFrom (upTo M Q) (o + n) (from - n) (to - n) ss ≡ some p → AsLong M Q (o + n) (to - n) ss p)
+        → AsLong M Q o to (s ∷ ss) p
+    go true w f ih = subst (AsLong M Q o to (s ∷ ss)) (Option·some-injective _ p f) (this (ltb-true from n w))
     go false w f ih = later (ltb-false from n w) f (ih f)
 
 -- ── where the segments end by 2^64

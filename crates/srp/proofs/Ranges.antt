@@ -116,20 +116,20 @@ module _ (s : List ℕ) (t : Tables) (b : Bytes s) where
 
 -- its pieces have bytes, and no more than are left
 pub cutting : {p : Port} → Ranges p → Lawful (ruleOf (p .terms))
-cutting {p} v = up-to (p .terms .maximum) (v .smallest)
+cutting {p} v = up-to (p .terms .maximum) (p .terms .boundary) (v .smallest)
 
 module _ {p : Port} (v : Ranges p) where
   fewer : (a : ℕ) (cs : List Open) → a + length cs ≤ 16 → All OpenRanges cs → Ranges (withHeld p a cs)
   fewer a cs h r =
-      record { live = v .live; least = v .least; most = v .most; room = h; smallest = v .smallest; largest = v .largest; commands = r }
+      record { live = v .live; least = v .least; most = v .most; room = h; smallest = v .smallest; largest = v .largest; boundary = v .boundary; commands = r }
 
   wanting : (w : ℕ) → 1 ≤ w → w ≤ 16 → Ranges (withWanted p w)
   wanting w a b =
-      record { live = v .live; least = a; most = b; room = v .room; smallest = v .smallest; largest = v .largest; commands = v .commands }
+      record { live = v .live; least = a; most = b; room = v .room; smallest = v .smallest; largest = v .largest; boundary = v .boundary; commands = v .commands }
 
   asking : (b : Bool) → Ranges (withUnanswered p b)
   asking b =
-      record { live = v .live; least = v .least; most = v .most; room = v .room; smallest = v .smallest; largest = v .largest; commands = v .commands }
+      record { live = v .live; least = v .least; most = v .most; room = v .room; smallest = v .smallest; largest = v .largest; boundary = v .boundary; commands = v .commands }
 
   unless-kept : (r : Option Refusal) (o : Outcome) → (r ≡ none → Ranged (o .port)) → Ranged (unless r p o .port)
   unless-kept none o f = f refl

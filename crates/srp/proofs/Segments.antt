@@ -4,7 +4,6 @@ use mathlib.Core.Path.{_≡_, refl, ap, sym}
 use mathlib.Core.Bool.{Bool, true, false, cond, not, _&&_, _||_, true≢false}
 use mathlib.Core.List.{List, []}
 use Prim.Native.Nat.{ℕ, zero, suc, _+_, _-_, _*_, _/_, _^_, _≤_}
-use native.Mathlib.Nat.{le-div-iff-mul-le}
 use native.Mathlib.Omega.{arith}
 use lib.Dec.{leb, eqb}
 use lib.ListN.{length, take, drop, length-take}
@@ -13,10 +12,11 @@ use Rattle.srp.specs.Limits.{mostCopies, longestTable}
 use Rattle.srp.specs.Descriptors.{segmentsIn, goodTable, whole, fetched, copies, segmentBytes, segments, goodIndirect, goodFormat}
 use Rattle.srp.specs.Cutting.{cutsOf}
 use Rattle.srp.specs.Credit.{ruleOf}
+use Rattle.srp.specs.Fewest.{touched, crossed}
 use Rattle.srp.specs.Ranges.{mostOperations, OperationsAtMost}
 use Rattle.srp.specs.declared.Descriptor.{Descriptor}
 use Rattle.srp.proofs.FieldLaws.{both}
-use Rattle.srp.proofs.Bound.{cuts-bound, few-touched}
+use Rattle.srp.proofs.Bound.{later, cuts-bound, few-touched, few-crossed}
 
 pub segments-count : (n : ℕ) (l : List ℕ) → length (segmentsIn n l) ≡ n
 segments-count zero l = refl
@@ -57,12 +57,32 @@ few-segments d s table good e =
 
 -- ── a move's operations
 
+-- so many segments with a byte in a move and so many multiples of Q inside are within the bound
+pub slots-enough : (M Q bytes t k : ℕ) → t ≤ mostCopies → k ≤ cond (eqb Q 0) 0 (t + bytes / Q) → t + bytes / M + k ≤ mostOperations M Q bytes
+slots-enough M Q bytes t k h = go (eqb Q 0)
+  where
+    go : (b : Bool) → k ≤ cond b 0 (t + bytes / Q) → t + bytes / M + k ≤ mostCopies + bytes / M + cond b 0 (mostCopies + bytes / Q)
+    go true e = omega arith
+    go false e = omega arith
+
+-- more bytes have no fewer
+more-slots : (M Q m n : ℕ) → m ≤ n → mostOperations M Q m ≤ mostOperations M Q n
+more-slots M Q m n h = go (eqb Q 0)
+  where
+    d : (K : ℕ) → m / K ≤ n / K
+    d K = let e : n ≡ m + (n - m) = omega arith in rw e (later K m (n - m))
+
+    go : (b : Bool) → mostCopies + m / M + cond b 0 (mostCopies + m / Q) ≤ mostCopies + n / M + cond b 0 (mostCopies + n / Q)
+    go true = omega (arith, d M)
+    go false = omega (arith, d M, d Q)
+
 pub operations-at-most : OperationsAtMost
 operations-at-most T s from to m r h =
     let M = T .maximum in
+    let Q = T .boundary in
     let ss = s .extent .segs in
     let bytes = to - from in
-    let part : bytes / M * M ≤ bytes = le-div-iff-mul-le {k = M} {x = bytes / M} {y = bytes} m .0 (omega arith) in
-    let most : bytes / M ≤ (2 ^ 32 - 1) / M = le-div-iff-mul-le {k = M} {x = bytes / M} {y = 2 ^ 32 - 1} m .1 (omega (arith, r .extent .small)) in
-    let n : length (cutsOf (ruleOf T) from to ss) ≤ mostOperations M bytes = omega (arith, cuts-bound M from to ss m, few-touched 0 from to ss, r .extent .few) in
-    (n, omega (arith, n, most))
+    let few = few-touched 0 from to ss in
+    let n = slots-enough M Q bytes (touched 0 from to ss) (crossed Q 0 from to ss) (omega (arith, few, r .extent .few)) (few-crossed Q from to ss) in
+    let k : length (cutsOf (ruleOf T) from to ss) ≤ mostOperations M Q bytes = omega (arith, cuts-bound M Q from to ss m, n) in
+    (k, omega (arith, k, more-slots M Q bytes (2 ^ 32 - 1) (omega (arith, r .extent .small))))

@@ -1,4 +1,4 @@
--- Document 01, "Credit", and document 02, jobs 1 and 4: the state of one channel, W, A, H and D, and what moves of its commands' data.
+-- Document 01, "Credit", and document 02, jobs 1, 4 and 6: the state of one channel, W, A, H and D, and what moves of its commands' data.
 use mathlib.Core.Bool.{Bool, false}
 use mathlib.Core.List.{List, []}
 use Prim.Native.Nat.{ℕ, _+_, _-_, min}
@@ -61,10 +61,10 @@ Open = Held Side
 
 -- the rule that a login's pieces are cut by
 abbrev pub ruleOf : Terms → Rule
-ruleOf T = upTo (T .maximum)
+ruleOf T = upTo (T .maximum) (T .boundary)
 
 abbrev pub noTerms : Terms
-noTerms = record { maximum = 0; agreed = 0; formats = 0; crsolnt = false; losolnt = false }
+noTerms = record { maximum = 0; boundary = 0; agreed = 0; formats = 0; crsolnt = false; losolnt = false }
 
 -- `wanted` is W, `announced` A, `held` the open commands, oldest first: between calls their number is H. `unanswered`: a credit request
 -- waits for its response

@@ -1,11 +1,11 @@
--- Document 01, "Cutting", and document 02, job 1: the pieces of a move in one direction, and the next of them.
-use mathlib.Core.Bool.{Bool, cond, not, _||_}
+-- Document 01, "Cutting", and document 02, jobs 1 and 6: the pieces of a move in one direction, and the next of them.
+use mathlib.Core.Bool.{Bool, false, cond, not, _||_}
 use mathlib.Core.List.{List, [], _∷_, _++_}
 use mathlib.Core.Option.{Option, none, some}
-use Prim.Native.Nat.{ℕ, zero, suc, _+_, _-_, _%_, _^_, min, max}
+use Prim.Native.Nat.{ℕ, zero, suc, _+_, _-_, _*_, _/_, _%_, _^_, min, max}
 use lib.Dec.{ltb, leb, eqb}
 use lib.ListN.{length}
-use Rattle.srp.specs.Limits.{largestPiece, longestTable}
+use Rattle.srp.specs.Limits.{largestPiece, leastExponent, greatestExponent, longestTable}
 use Rattle.srp.specs.Refusals.{Check, firstOf}
 use Rattle.srp.specs.Descriptors.{Segment, segmentsOf, sumOf, reachable}
 use Rattle.srp.specs.declared.Piece.{Piece}
@@ -31,9 +31,18 @@ highest (p ∷ ps) = max (p .offset + p .len) (highest ps)
 abbrev pub Rule : Type 0
 Rule = (address left : ℕ) → ℕ
 
--- "each piece as long as possible up to M (a login setting)"
-abbrev pub upTo : ℕ → Rule
-upTo M address left = min M left
+-- "the next multiple of Q above its first address", where Q is not 0
+abbrev pub nextMultiple : (Q address : ℕ) → ℕ
+nextMultiple Q address = (address / Q + 1) * Q
+
+-- the longest piece at an address: M bytes, or up to the next multiple of Q
+unfoldable pub longestAt : (M Q address : ℕ) → ℕ
+longestAt M Q address = cond (eqb Q 0) M (min M (nextMultiple Q address - address))
+
+-- "each piece as long as possible up to M (a login setting)": "A piece now ends at the nearest of M, the segment's end, the move's end and the next
+-- multiple of Q above its first address"
+abbrev pub upTo : (M Q : ℕ) → Rule
+upTo M Q address left = min (longestAt M Q address) left
 
 -- ── the pieces
 
@@ -88,11 +97,20 @@ pieces (suc f) rule from to ss = elim (next rule from to ss) [ none ↦ [] | som
 abbrev pub badMaximum : ℕ → Bool
 badMaximum M = eqb M 0 || ltb largestPiece M
 
+-- x is 2^k for one of the n numbers k from the first argument on
+abbrev pub isPower : (k n x : ℕ) → Bool
+isPower k zero x = false
+isPower k (suc n) x = eqb x (2 ^ k) || isPower (suc k) n x
+
+-- "0 for none, or a power of two from 512 to 2^32"
+unfoldable pub badBoundary : ℕ → Bool
+badBoundary Q = not (eqb Q 0 || isPower leastExponent (suc greatestExponent - leastExponent) Q)
+
 -- "2 for M out of range; 11 for a list not a multiple of 16 up to 512 bytes, or more handed out than min(R, B); 10 for a segment
--- past 2^64 or a sum above 2^32 - 1; the list's 11 before 10, the other after"
-abbrev pub cutChecks : List ℕ → ℕ → ℕ → ℕ → List Check
-cutChecks list M R handed =
-    (badMaximum M, Setting)
+-- past 2^64 or a sum above 2^32 - 1; the list's 11 before 10, the other after"; "A bad Q draws refusal 2"
+abbrev pub cutChecks : (list : List ℕ) (M Q R handed : ℕ) → List Check
+cutChecks list M Q R handed =
+    (badMaximum M || badBoundary Q, Setting)
     ∷ (not (eqb (length list % 16) 0) || ltb longestTable (length list), Argument)
     ∷ (not (reachable (segmentsOf list)) || leb (2 ^ 32) (sumOf (segmentsOf list)), Fields)
     ∷ (ltb (min R (sumOf (segmentsOf list))) handed, Argument)
@@ -103,8 +121,8 @@ cutNext none = CutDone
 cutNext (some p) = CutPiece p
 
 -- "gives the next piece or done"
-abbrev pub cutOutcome : List ℕ → ℕ → ℕ → ℕ → Cut
-cutOutcome list M R handed = cutNext (next (upTo M) handed (min R (sumOf (segmentsOf list))) (segmentsOf list))
+abbrev pub cutOutcome : (list : List ℕ) (M Q R handed : ℕ) → Cut
+cutOutcome list M Q R handed = cutNext (next (upTo M Q) handed (min R (sumOf (segmentsOf list))) (segmentsOf list))
 
-abbrev pub cutDef : List ℕ → ℕ → ℕ → ℕ → Cut
-cutDef list M R handed = elim (firstOf (cutChecks list M R handed)) [ none ↦ cutOutcome list M R handed | some r ↦ CutRefused r ]
+abbrev pub cutDef : (list : List ℕ) (M Q R handed : ℕ) → Cut
+cutDef list M Q R handed = elim (firstOf (cutChecks list M Q R handed)) [ none ↦ cutOutcome list M Q R handed | some r ↦ CutRefused r ]

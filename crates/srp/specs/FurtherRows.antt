@@ -1,4 +1,4 @@
--- The rest of the table of rows: logins, look, the cut, the CDB and cutlist; and the table whole.
+-- The rest of the table of rows: logins, look, the cut, the CDB and cutlist; and the table whole, with the rows of specs/BoundaryRows.antt.
 use mathlib.Core.Bool.{true, false}
 use mathlib.Core.List.{List, [], _∷_, _++_}
 use Prim.Native.Nat.{ℕ}
@@ -9,6 +9,7 @@ use Rattle.srp.specs.declared.Settings.{Settings}
 use Rattle.srp.specs.declared.Direction.the-variants.{Out, In}
 use Rattle.srp.specs.Cutting.{piece}
 use Rattle.srp.specs.Rows.{parts, Row, Seen, accepted, t-logout, cdbs, cmd-bytes, command, counters, counts, cuts, done, listed, lists, login-req, logs-in, looks, message, no-data, logs-in-with, own, performed, prints, refused, rejected, login-rej, segment, settings, takes-in, text, tsk-mgmt, login-rsp}
+use Rattle.srp.specs.BoundaryRows.{boundaries}
 use Rattle.srp.specs.Table.{on-port, from-closed, direct-in, entries, table, two-entries, bench, tasks, fields, hang-ups, calls}
 
 -- ── logins
@@ -17,17 +18,20 @@ abbrev pub logged : Settings → List ℕ → List Seen → Row
 logged c s ss = from-closed (logs-in c 132 s ∷ counts ∷ []) (ss ++ (refused 21 ∷ []))
 
 abbrev pub usual : Settings
-usual = settings 4 512 1000 true true
+usual = settings 4 512 0 1000 true true
 
 abbrev pub logins : List Row
 logins =
-    from-closed (logs-in usual 131 (login-req 64 6 0 own) ∷ logs-in (settings 0 512 1000 true true) 131 [] ∷ counts ∷ []) (refused 1 ∷ refused 1 ∷ refused 21 ∷ [])
-    ∷ logged (settings 0 512 1000 true true) [] (refused 2 ∷ [])
-    ∷ logged (settings 17 512 1000 true true) (login-req 64 6 0 own) (refused 2 ∷ [])
-    ∷ logged (settings 4 0 1000 true true) (login-req 64 6 0 own) (refused 2 ∷ [])
-    ∷ logged (settings 4 1048577 1000 true true) (login-req 64 6 0 own) (refused 2 ∷ [])
-    ∷ logged (settings 4 512 63 true true) (login-req 64 6 0 own) (refused 2 ∷ [])
-    ∷ logged (settings 4 512 1365 true true) (login-req 64 6 0 own) (refused 2 ∷ [])
+    from-closed (logs-in usual 131 (login-req 64 6 0 own) ∷ logs-in (settings 0 512 0 1000 true true) 131 [] ∷ counts ∷ []) (refused 1 ∷ refused 1 ∷ refused 21 ∷ [])
+    ∷ logged (settings 0 512 0 1000 true true) [] (refused 2 ∷ [])
+    ∷ logged (settings 17 512 0 1000 true true) (login-req 64 6 0 own) (refused 2 ∷ [])
+    ∷ logged (settings 4 0 0 1000 true true) (login-req 64 6 0 own) (refused 2 ∷ [])
+    ∷ logged (settings 4 1048577 0 1000 true true) (login-req 64 6 0 own) (refused 2 ∷ [])
+    ∷ logged (settings 4 512 511 1000 true true) [] (refused 2 ∷ [])
+    ∷ logged (settings 4 512 768 1000 true true) (login-req 64 6 0 own) (refused 2 ∷ [])
+    ∷ logged (settings 4 512 0x200000000 1000 true true) (login-req 64 6 0 own) (refused 2 ∷ [])
+    ∷ logged (settings 4 512 0 63 true true) (login-req 64 6 0 own) (refused 2 ∷ [])
+    ∷ logged (settings 4 512 0 1365 true true) (login-req 64 6 0 own) (refused 2 ∷ [])
     ∷ logged usual (0xff ∷ replicate 64 0) (refused 3 ∷ [])
     ∷ logged usual (1 ∷ replicate 63 0) (refused 4 ∷ [])
     -- each rejection with those behind it
@@ -35,17 +39,17 @@ logins =
     ∷ logged usual (login-req 1001 1 1 (replicate 16 0)) (rejected 0x10002 ∷ login-rej 0x10002 6 ∷ [])
     ∷ logged usual (login-req 1000 0x0a 1 (replicate 16 0)) (rejected 0x10004 ∷ login-rej 0x10004 6 ∷ [])
     ∷ logged usual (login-req 1000 1 1 (replicate 16 0)) (rejected 0x10004 ∷ login-rej 0x10004 6 ∷ [])
-    ∷ logged (settings 4 512 1000 false true) (login-req 1000 4 1 (replicate 16 0)) (rejected 0x10004 ∷ login-rej 0x10004 2 ∷ [])
+    ∷ logged (settings 4 512 0 1000 false true) (login-req 1000 4 1 (replicate 16 0)) (rejected 0x10004 ∷ login-rej 0x10004 2 ∷ [])
     ∷ logged usual (login-req 1000 6 1 (replicate 16 0)) (rejected 0x10005 ∷ login-rej 0x10005 6 ∷ [])
     ∷ logged usual (login-req 1000 6 2 (replicate 16 0)) (rejected 0x10000 ∷ login-rej 0x10000 6 ∷ [])
     ∷ logged usual (login-req 1000 6 3 (replicate 16 0)) (rejected 0x10000 ∷ login-rej 0x10000 6 ∷ [])
     ∷ logged usual (login-req 1000 6 0 (replicate 16 7)) (rejected 0x10003 ∷ login-rej 0x10003 6 ∷ [])
     ∷ logged usual (login-req 1000 6 0 (6 ∷ replicate 14 7 ++ (8 ∷ []))) (rejected 0x10003 ∷ login-rej 0x10003 6 ∷ [])
     -- accepted: the requested length, SOLNTSUP, the supported formats
-    ∷ from-closed (logs-in (settings 16 1048576 1364 false false) 132 (login-req 64 0 0xcc own) ∷ counts ∷ takes-in (replicate 65 2) ∷ [])
+    ∷ from-closed (logs-in (settings 16 1048576 0 1364 false false) 132 (login-req 64 0 0xcc own) ∷ counts ∷ takes-in (replicate 65 2) ∷ [])
     (accepted ∷ message (0xc0 ∷ 0 ∷ 0 ∷ 0 ∷ bytesOf 4 16 ++ (bytesOf 8 77 ++ (bytesOf 4 64 ++ (bytesOf 4 132 ++ (0 ∷ 2 ∷ replicate 26 0))))) ∷ counters 16 16 0 (pos 0)
     ∷ refused 3 ∷ t-logout 0 0 ∷ [])
-    ∷ from-closed (logs-in (settings 1 1 64 true true) 132 (login-req 64 2 0 own) ∷ counts ∷ []) (accepted
+    ∷ from-closed (logs-in (settings 1 1 0 64 true true) 132 (login-req 64 2 0 own) ∷ counts ∷ []) (accepted
     ∷ message (0xc0 ∷ 0 ∷ 0 ∷ 0 ∷ bytesOf 4 1 ++ (bytesOf 8 77 ++ (bytesOf 4 64 ++ (bytesOf 4 132 ++ (0 ∷ 6 ∷ 0x10 ∷ replicate 25 0))))) ∷ counters 1 1 0 (pos 0) ∷ [])
     -- a login uses no earlier port
     ∷ on-port (takes-in (no-data 1) ∷ logs-in-with 2 0 ∷ lists 16 ∷ counts ∷ logs-in usual 132 [] ∷ counts ∷ [])
@@ -77,9 +81,9 @@ outside =
     ∷ looked (table 3 48 700 entries) (performed ∷ message (replicate 32 0) ∷ [])
     ∷ looked (table 0 24 700 []) (performed ∷ message (replicate 32 0) ∷ [])
     -- the cut: 1, 2, 11, 10, 11, a piece, done
-    ∷ from-closed (cuts [] 0 0 0 31 ∷ cuts (0 ∷ []) 0 0 0 32 ∷ cuts (0 ∷ []) 1048577 0 0 32 ∷ cuts (0 ∷ []) 512 0 1 32 ∷ cuts (replicate 528 0) 512 0 1 32
-    ∷ cuts (segment 0xffffffffffffff00 7 257) 512 0 1 32 ∷ cuts (segment 0 7 0xffffffff ++ segment 0 7 1) 512 0 1 32 ∷ cuts entries 512 650 651 32
-    ∷ cuts entries 512 800 701 32 ∷ cuts entries 512 650 600 33 ∷ cuts entries 512 650 650 32 ∷ cuts [] 512 9 0 32 ∷ cuts (replicate 512 0) 512 9 0 32 ∷ [])
+    ∷ from-closed (cuts [] 0 0 0 0 31 ∷ cuts (0 ∷ []) 0 0 0 0 32 ∷ cuts (0 ∷ []) 1048577 0 0 0 32 ∷ cuts (0 ∷ []) 512 0 0 1 32 ∷ cuts (replicate 528 0) 512 0 0 1 32
+    ∷ cuts (segment 0xffffffffffffff00 7 257) 512 0 0 1 32 ∷ cuts (segment 0 7 0xffffffff ++ segment 0 7 1) 512 0 0 1 32 ∷ cuts entries 512 0 650 651 32
+    ∷ cuts entries 512 0 800 701 32 ∷ cuts entries 512 0 650 600 33 ∷ cuts entries 512 0 650 650 32 ∷ cuts [] 512 0 9 0 32 ∷ cuts (replicate 512 0) 512 0 9 0 32 ∷ [])
     (refused 1 ∷ refused 2 ∷ refused 2 ∷ refused 11 ∷ refused 11 ∷ refused 10 ∷ refused 10 ∷ refused 11 ∷ refused 11
     ∷ performed ∷ message (segment 0x5000 7 50 ++ bytesOf 4 600 ++ replicate 12 0) ∷ performed ∷ message (replicate 32 0) ∷ performed ∷ message (replicate 32 0) ∷ performed ∷ message (replicate 32 0) ∷ [])
     -- the CDB, with the additional bytes; none where look refuses
@@ -111,4 +115,4 @@ outside =
 -- ── the table
 
 abbrev pub rows : List Row
-rows = bench ++ tasks ++ fields ++ hang-ups ++ calls ++ logins ++ outside
+rows = bench ++ tasks ++ fields ++ hang-ups ++ calls ++ logins ++ outside ++ boundaries

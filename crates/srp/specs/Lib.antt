@@ -24,6 +24,7 @@ pub mod Outside
 pub mod Initiator
 pub mod Rows
 pub mod Table
+pub mod BoundaryRows
 pub mod FurtherRows
 pub mod Written
 pub mod MoveRows

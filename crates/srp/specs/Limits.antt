@@ -1,4 +1,4 @@
--- Document 01's limits, each in one place.
+-- Document 01's limits, and document 02's of job 6, each in one place.
 use Prim.Native.Nat.{ℕ}
 
 -- a lent message buffer has at least this; so long is the longest message that the port writes
@@ -16,6 +16,13 @@ mostBuffers = 16
 -- M is 1 to this
 abbrev pub largestPiece : ℕ
 largestPiece = 1048576
+
+-- Q is 0, or 2 to the power of a number from the one to the other: "a power of two from 512 to 2^32"
+abbrev pub leastExponent : ℕ
+leastExponent = 9
+
+abbrev pub greatestExponent : ℕ
+greatestExponent = 32
 
 -- an agreed length, and X, is from the one to the other
 abbrev pub shortestAgreed : ℕ

@@ -1,4 +1,4 @@
--- Document 01, "Login": the settings, the refusals and rejections, and the port that a login makes.
+-- Document 01, "Login", and document 02, job 6: the settings, the refusals and rejections, and the port that a login makes.
 use mathlib.Core.Bool.{Bool, true, false, cond, not, _||_}
 use mathlib.Core.List.{List, [], _∷_, _++_}
 use mathlib.Core.Option.{Option, none, some}
@@ -11,7 +11,7 @@ use Rattle.srp.specs.Messages.{tag, formatBits, requestedLength, loginCr
 use Rattle.srp.specs.Refusals.{Check, firstOf, short}
 use Rattle.srp.specs.Descriptors.{sameBytes}
 use Rattle.srp.specs.Requests.{flag, otherFormats, badLength}
-use Rattle.srp.specs.Cutting.{badMaximum}
+use Rattle.srp.specs.Cutting.{badMaximum, badBoundary}
 use Rattle.srp.specs.Credit.{Port, closedPort}
 use Rattle.srp.specs.declared.Settings.{Settings}
 use Rattle.srp.specs.declared.Terms.{Terms}
@@ -21,10 +21,10 @@ use Rattle.srp.specs.declared.Refusal.{Refusal}
 use Rattle.srp.specs.declared.Refusal.the-variants.{Setting, Length, OtherType}
 use Rattle.srp.specs.declared.Reply.the-variants.{Accepted, Rejected}
 
--- "N 1 to 16, M 1 to 1,048,576, X 64 to 1,364"
+-- "N 1 to 16, M 1 to 1,048,576, X 64 to 1,364"; "A bad Q draws refusal 2"
 abbrev pub badSettings : Settings → Bool
 badSettings c =
-    eqb (c .buffers) 0 || (ltb mostBuffers (c .buffers) || (badMaximum (c .maximum) || badLength (c .longest)))
+    eqb (c .buffers) 0 || (ltb mostBuffers (c .buffers) || (badMaximum (c .maximum) || (badBoundary (c .boundary) || badLength (c .longest))))
 
 -- "supported formats (0006h or 0002h)"
 abbrev pub supported : Settings → ℕ
@@ -43,9 +43,9 @@ rejectionsBy c own n f a target =
     ∷ (not (sameBytes target own), 0x00010003)
     ∷ []
 
--- M, and from the message the agreed length and formats, CRSOLNT and LOSOLNT
+-- M and Q, and from the message the agreed length and formats, CRSOLNT and LOSOLNT
 abbrev pub termsBy : (c : Settings) (n f r o : ℕ) → Terms
-termsBy c n f r o = record { maximum = c .maximum; agreed = n; formats = f; crsolnt = flag r; losolnt = flag o }
+termsBy c n f r o = record { maximum = c .maximum; boundary = c .boundary; agreed = n; formats = f; crsolnt = flag r; losolnt = flag o }
 
 -- "After login W = A = N, H = D = 0"
 abbrev pub openedWith : ℕ → Terms → Port

@@ -1,9 +1,9 @@
--- Document 02, job 1: what the cuts of a move are, and what h is. The laws are proofs/Moves.antt.
+-- Document 02, jobs 1 and 6: what the cuts of a move are, and what h is. The laws are proofs/Moves.antt.
 use mathlib.Core.Path.{_≡_}
 use mathlib.Core.Logic.{_⊎_}
 use mathlib.Core.List.{List, [], _∷_, _++_}
 use mathlib.Core.Option.{some}
-use Prim.Native.Nat.{ℕ, zero, suc, _+_, _-_, _≤_, min}
+use Prim.Native.Nat.{ℕ, zero, suc, _+_, _-_, _*_, _≤_, _<_, min}
 use lib.ListN.{take, drop, getElem?}
 use Rattle.srp.specs.Lists.{All}
 use Rattle.srp.specs.Descriptors.{Segment, sumOf}
@@ -29,9 +29,17 @@ abbrev pub EndsSegment : ℕ → Piece → List Segment → Type 0
 EndsSegment o p [] = ⊥
 EndsSegment o p (s ∷ ss) = (p .offset + p .len ≡ o + s .len) ⊎ EndsSegment (o + s .len) p ss
 
--- it is M long, or ends where the move does, `to` bytes behind the first of the segments, or where its segment does
-abbrev pub AsLong : (M o to : ℕ) → List Segment → Piece → Type 0
-AsLong M o to ss p = (p .len ≡ M) ⊎ (p .offset + p .len ≡ o + to) ⊎ EndsSegment o p ss
+-- by its addresses it crosses no multiple of Q: one above its first address is not below its end
+abbrev pub CrossesNone : (Q : ℕ) → Piece → Type 0
+CrossesNone Q p = (k : ℕ) → p .address < k * Q → p .address + p .len ≤ k * Q
+
+-- it ends at a multiple of Q
+abbrev pub EndsAtMultiple : (Q : ℕ) → Piece → Type 0
+EndsAtMultiple Q p = (k : ℕ) × (p .address + p .len ≡ k * Q)
+
+-- it is M long, or ends at a multiple of Q, or where the move does, `to` bytes behind the first of the segments, or where its segment does
+abbrev pub AsLong : (M Q o to : ℕ) → List Segment → Piece → Type 0
+AsLong M Q o to ss p = (p .len ≡ M) ⊎ EndsAtMultiple Q p ⊎ (p .offset + p .len ≡ o + to) ⊎ EndsSegment o p ss
 
 -- each piece starts where the one before it ends
 abbrev pub Consecutive : ℕ → List Piece → Type 0
@@ -53,11 +61,12 @@ bytesOfPieces (p ∷ ps) = run (p .handle) (p .address) (p .len) ++ bytesOfPiece
 
 -- ── the cuts of a move
 
--- 1 to M long, "each piece as long as possible", each inside one segment, one behind the other from the move's offset on, and together the move's bytes, in
--- order, once
-pub record CutAsMove (M from to : ℕ) (ss : List Segment) (ps : List Piece) : Type 0 where
+-- 1 to M long, crossing no multiple of Q, "each piece as long as possible", each inside one segment, one behind the other from the move's offset on, and
+-- together the move's bytes, in order, once
+pub record CutAsMove (M Q from to : ℕ) (ss : List Segment) (ps : List Piece) : Type 0 where
   pub sizes : All (λ p. (1 ≤ p .len) × (p .len ≤ M)) ps
-  pub longest : All (λ p. AsLong M 0 to ss p) ps
+  pub boundaries : All (CrossesNone Q) ps
+  pub longest : All (λ p. AsLong M Q 0 to ss p) ps
   pub inside : All (λ p. InSegments 0 p ss) ps
   pub consecutive : Consecutive from ps
   pub bytes : bytesIn ps ≡ to - from
@@ -65,7 +74,7 @@ pub record CutAsMove (M from to : ℕ) (ss : List Segment) (ps : List Piece) : T
 
 -- a move ends by min(R, B), so by B
 abbrev pub MovesCut : Type 0
-MovesCut = (M from to : ℕ) (ss : List Segment) → 1 ≤ M → to ≤ sumOf ss → CutAsMove M from to ss (cutsOf (upTo M) from to ss)
+MovesCut = (M Q from to : ℕ) (ss : List Segment) → 1 ≤ M → to ≤ sumOf ss → CutAsMove M Q from to ss (cutsOf (upTo M Q) from to ss)
 
 -- document 01's own list is the move that offset 0 and count R name
 abbrev pub OwnList : Type 0

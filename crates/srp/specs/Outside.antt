@@ -1,4 +1,4 @@
--- Document 01, "Open commands, C calls, cutlist": look and the cut as C calls them, and what cutlist prints.
+-- Document 01, "Open commands, C calls, cutlist", and document 02, job 6: look and the cut as C calls them, and what cutlist prints.
 use mathlib.Core.Bool.{true, false, cond, not, _||_}
 use mathlib.Core.List.{List, [], _∷_, _++_}
 use mathlib.Core.Option.{none, some}
@@ -63,8 +63,8 @@ cutAnswer (CutRefused r) = refusingC r
 cutAnswer (CutPiece p) = givingC (descriptorBytes (p .address) (p .handle) (p .len) ++ (bytesOf 4 (p .offset) ++ zeros 12))
 cutAnswer CutDone = givingC (zeros answerSize)
 
-abbrev pub cutInC : List ℕ → ℕ → ℕ → ℕ → ℕ → CReturn
-cutInC list M R handed room = inBuffer room (cutAnswer (cutDef list M R handed))
+abbrev pub cutInC : (list : List ℕ) (M Q R handed room : ℕ) → CReturn
+cutInC list M Q R handed room = inBuffer room (cutAnswer (cutDef list M Q R handed))
 
 -- ── cutlist
 
@@ -108,9 +108,9 @@ fetchLine = 0x66 ∷ 0x65 ∷ 0x74 ∷ 0x63 ∷ 0x68 ∷ 0x0a ∷ []
 abbrev pub noTables : Tables
 noTables = record { out = []; inn = [] }
 
--- "M = 512, R = B"; "one move each way, offset 0, count R"
+-- "M = 512, R = B"; "one move each way, offset 0, count R"; of Q, "cutlist's is 0"
 abbrev pub wholeCuts : List Segment → List Piece
-wholeCuts ss = cuts (upTo 512) (sumOf ss) ss
+wholeCuts ss = cuts (upTo 512 0) (sumOf ss) ss
 
 -- a command that look takes: ""fetch" only, ahead of 10"
 abbrev pub cutlistOf : Command → List ℕ → List ℕ

@@ -2,15 +2,16 @@
 -- proofs/Moves.antt and `operations-at-most` of proofs/Segments.antt.
 use mathlib.Core.Path.{_≡_}
 use mathlib.Core.Logic.{_⊎_}
-use mathlib.Core.Bool.{true, false}
+use mathlib.Core.Bool.{true, false, cond}
 use mathlib.Core.List.{List}
 use Prim.Native.Nat.{ℕ, _+_, _-_, _/_, _^_, _≤_, _<_}
+use lib.Dec.{eqb}
 use lib.ListN.{length}
 use Rattle.srp.specs.Limits.{mostBuffers, largestPiece, mostCopies}
 use Rattle.srp.specs.Messages.{tag}
 use Rattle.srp.specs.Lists.{All, isSome}
 use Rattle.srp.specs.Descriptors.{sumOf, reachable}
-use Rattle.srp.specs.Cutting.{cutsOf}
+use Rattle.srp.specs.Cutting.{cutsOf, badBoundary}
 use Rattle.srp.specs.Both.{Each}
 use Rattle.srp.specs.Credit.{Extent, Side, movable, Open, ruleOf, Port, closedPort}
 use Rattle.srp.specs.Take.{Tables, takeDef}
@@ -41,14 +42,16 @@ pub record SideRanges (s : Side) : Type 0 where
 abbrev pub HasPieces : Type 0
 HasPieces = (T : Terms) (s : Side) → 1 ≤ T .maximum → SideRanges s → hasPieces s ≡ isSome (nextIn T s)
 
--- a move of it has at most one operation for each of 32 segments, and one more for each M bytes; and no move has 2^32 bytes
-abbrev pub mostOperations : (M bytes : ℕ) → ℕ
-mostOperations M bytes = mostCopies + bytes / M
+-- a move of it has at most one operation for each of 32 segments, and one more for each M bytes; with boundaries as many again, by Q; and no move has 2^32
+-- bytes
+abbrev pub mostOperations : (M Q bytes : ℕ) → ℕ
+mostOperations M Q bytes = mostCopies + bytes / M + cond (eqb Q 0) 0 (mostCopies + bytes / Q)
 
 abbrev pub OperationsAtMost : Type 0
 OperationsAtMost = (T : Terms) (s : Side) (from to : ℕ) → 1 ≤ T .maximum → SideRanges s → to ≤ movable s
     → let n : ℕ = length (cutsOf (ruleOf T) from to (s .extent .segs)) in
-    (n ≤ mostOperations (T .maximum) (to - from)) × (n ≤ mostOperations (T .maximum) (2 ^ 32 - 1))
+    let most : ℕ → ℕ = mostOperations (T .maximum) (T .boundary) in
+    (n ≤ most (to - from)) × (n ≤ most (2 ^ 32 - 1))
 
 -- an open command: its tag has 8 bytes, and R is 0 until it is planned
 pub record OpenRanges (c : Open) : Type 0 where
@@ -56,7 +59,7 @@ pub record OpenRanges (c : Open) : Type 0 where
   pub sides : Each SideRanges (c .sides)
   pub unplanned : c .planned ≡ false → Each (λ s. s .transfer .required ≡ 0) (c .sides)
 
--- a port that is open: W, A + H, M and its commands
+-- a port that is open: W, A + H, M, Q and its commands
 pub record Ranges (p : Port) : Type 0 where
   pub live : p .live ≡ true
   pub least : 1 ≤ p .wanted
@@ -64,6 +67,7 @@ pub record Ranges (p : Port) : Type 0 where
   pub room : p .announced + length (p .held) ≤ mostBuffers
   pub smallest : 1 ≤ p .terms .maximum
   pub largest : p .terms .maximum ≤ largestPiece
+  pub boundary : badBoundary (p .terms .boundary) ≡ false
   pub commands : All OpenRanges (p .held)
 
 -- the ports that a login made, accepted or not, and calls changed, whatever they answered; a message is bytes, and R below 2^32

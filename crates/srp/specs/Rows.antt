@@ -40,7 +40,7 @@ pub data Act : Type 0 where
   lists : ℕ → Act
   -- calls without a port: look and the cut in C, the CDB, the segments, cutlist
   looks : ℕ → ℕ → List ℕ → ℕ → Act
-  cuts : List ℕ → ℕ → ℕ → ℕ → ℕ → Act
+  cuts : (list : List ℕ) (M Q R handed room : ℕ) → Act
   cdbs : List ℕ → Act
   parts : Direction → List ℕ → List ℕ → Act
   prints : List ℕ → Act
@@ -115,7 +115,7 @@ act p (closes room reason) = called (closeDef p room reason)
 act p counts = called (countersDef p)
 act p (lists n) = called (listDef p n)
 act p (looks agreed formats s room) = returnedC p (lookInC agreed formats s room)
-act p (cuts list M R handed room) = returnedC p (cutInC list M R handed room)
+act p (cuts list M Q R handed room) = returnedC p (cutInC list M Q R handed room)
 act p (cdbs s) = asked p (text (cdbDef 1364 6 s))
 act p (parts d s table) = asked p (text (segmentsDef d 1364 6 s table))
 act p (prints s) = asked p (text (cutlist s))
@@ -154,12 +154,12 @@ abbrev pub login-req : ℕ → ℕ → ℕ → List ℕ → List ℕ
 login-req n formats flags target =
     0 ∷ replicate 7 0 ++ (bytesOf 8 77 ++ (bytesOf 4 n ++ (replicate 4 0 ++ (bytesOf 2 formats ++ (flags ∷ replicate 5 0 ++ (replicate 16 5 ++ target))))))
 
-abbrev pub settings : ℕ → ℕ → ℕ → Bool → Bool → Settings
-settings n m x indirect solicited = record { buffers = n; maximum = m; longest = x; indirect = indirect; solicited = solicited }
+abbrev pub settings : (n m q x : ℕ) (indirect solicited : Bool) → Settings
+settings n m q x indirect solicited = record { buffers = n; maximum = m; boundary = q; longest = x; indirect = indirect; solicited = solicited }
 
--- a port with N buffers and M = 512, both formats agreed, CRSOLNT and LOSOLNT as byte 26 says
+-- a port with N buffers, M = 512 and no boundaries, both formats agreed, CRSOLNT and LOSOLNT as byte 26 says
 abbrev pub logs-in-with : ℕ → ℕ → Act
-logs-in-with n flags = logs-in (settings n 512 1364 true true) 132 (login-req 1364 6 flags own)
+logs-in-with n flags = logs-in (settings n 512 0 1364 true true) 132 (login-req 1364 6 flags own)
 
 -- ── messages from the port
 

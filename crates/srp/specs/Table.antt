@@ -182,7 +182,7 @@ hang-ups =
     -- 23, before 9
     ∷ on-port (takes-in (no-data 1) ∷ with-table (no-data 1) two-entries ∷ lists 16 ∷ []) (command 1 0 16 ∷ refused 23 ∷ t-logout 0 0 ∷ refused 21 ∷ [])
     -- formats that the login did not require
-    ∷ from-closed (logs-in (settings 4 512 1364 true true) 132 (login-req 1364 2 0 own) ∷ takes-in (table 0 32 300 []) ∷ [])
+    ∷ from-closed (logs-in (settings 4 512 0 1364 true true) 132 (login-req 1364 2 0 own) ∷ takes-in (table 0 32 300 []) ∷ [])
     (accepted ∷ login-rsp 4 ∷ refused 6 ∷ t-logout 0 7 ∷ [])
     -- the initiator's logout
     ∷ on-port (takes-in (no-data 1) ∷ takes-in (tag-only 0x03 9) ∷ counts ∷ []) (command 1 0 16 ∷ logged-out ∷ refused 21 ∷ [])

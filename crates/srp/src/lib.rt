@@ -58,18 +58,20 @@ pub struct Request {
     pub scsolnt: bool,
 }
 
-// What the owner sets before a login: N, M, X, and whether indirect tables and solicited events are supported.
+// What the owner sets before a login: N, M, Q, X, and whether indirect tables and solicited events are supported.
 pub struct Settings {
     pub buffers: u32,
     pub maximum: u32,
+    pub boundary: u64,
     pub longest: u32,
     pub indirect: bool,
     pub solicited: bool,
 }
 
-// What a login settled: M, the agreed length and formats, CRSOLNT and LOSOLNT.
+// What a login settled: M, Q, the agreed length and formats, CRSOLNT and LOSOLNT.
 pub struct Terms {
     pub maximum: u32,
+    pub boundary: u64,
     pub agreed: u32,
     pub formats: u32,
     pub crsolnt: bool,

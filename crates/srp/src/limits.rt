@@ -1,4 +1,4 @@
-// Document 01's limits, for the code: the numbers of specs/Limits.antt.
+// The papers' limits, for the code: the numbers of specs/Limits.antt.
 
 // the longest message that the port writes
 pub const LONGEST_WRITTEN_MESSAGE: u32 = 132;
@@ -8,6 +8,11 @@ pub const MOST_BUFFERS: u8 = 16;
 
 // M is 1 to this
 pub const LARGEST_PIECE: u32 = 1048576;
+
+// Q is 0, or 2 to the power of a number from the one to the other
+pub const LEAST_EXPONENT: u32 = 9;
+
+pub const GREATEST_EXPONENT: u32 = 32;
 
 // an agreed length is from the one to the other
 pub const SHORTEST_AGREED: u32 = 64;

@@ -71,7 +71,7 @@ next-part T st place d p {at} f = let h : at + p .segments * 16 - at ≡ 16 * p 
 -- it has a byte, and ends by the move's end
 ends-by : (T : Terms) → 1 ≤ T .maximum → (s : Side) (o : Piece) → nextIn T s ≡ some o → (1 ≤ o .len) × (s .transfer .at + o .len ≤ s .transfer .end)
 ends-by T some-byte s o e =
-    let f = piece-fits (ruleOf T) 0 (s .transfer .at) (s .transfer .end) (s .extent .segs) o (up-to (T .maximum) some-byte) e in
+    let f = piece-fits (ruleOf T) 0 (s .transfer .at) (s .transfer .end) (s .extent .segs) o (up-to (T .maximum) (T .boundary) some-byte) e in
     (f .some, f .upto)
 
 -- ── the next piece as the walk over the memory descriptors answers it

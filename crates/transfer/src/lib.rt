@@ -14,10 +14,11 @@ use words::Part;
 use words::STORE;
 use words::commands;
 ghost use mathlib.Core.Path.{_≡_};
-ghost use mathlib.Core.Bool.{true};
+ghost use mathlib.Core.Bool.{true, false};
 ghost use Prim.Native.Nat.{_≤_, _<_, _+_, max};
 ghost use lib.ListN.{length, getD};
 ghost use Rattle.srp.specs.Limits.{mostCopies};
+ghost use Rattle.srp.specs.Cutting.{badBoundary};
 ghost use Rattle.srp.specs.Calls.{nextIn, kindOf};
 ghost use Rattle.cut.specs.Walk.{nextWrapped};
 ghost use Rattle.words.specs.Sizes.{portWords, storeSize, mostSlots, listSize};
@@ -118,6 +119,7 @@ fn next_for(store: &[u8], place: u8, p: Part, d: Direction, terms: Terms) -> Cut
     requires { ⌜ length (now store) ≡ storeSize ⌝ }
     requires { ⌜ place < mostSlots ⌝ }
     requires { ⌜ p .segments ≤ mostCopies ⌝ }
+    requires { ⌜ badBoundary (terms .boundary) ≡ false ⌝ }
     ensures { λ r. ⌜ r ≡ nextWrapped (nextIn terms (sideOf (now (store .entry)) (placeAt d place) p)) ⌝ }
 {
     let at = place_for(place, d);
@@ -125,6 +127,7 @@ fn next_for(store: &[u8], place: u8, p: Part, d: Direction, terms: Terms) -> Cut
     cut::next_piece(
         &store[at..end],
         terms.maximum,
+        terms.boundary,
         p.transfer.at,
         p.transfer.end,
     )

@@ -8,13 +8,15 @@ use Prim.Native.Nat.{ℕ, zero, suc, _<_}
 use native.Mathlib.Omega.{arith}
 use lib.ListN.{length, getD, replicate, length-map}
 use lib.Seq.{length-take-le, getD-take}
+use Rattle.srp.specs.Cutting.{badBoundary}
 use Rattle.srp.specs.Credit.{closedPort}
 use Rattle.words.specs.declared.Slot.{Slot}
 use Rattle.words.specs.Sizes.{portWords, mostSlots}
 use Rattle.words.specs.Slots.{partAt, partIn, slotOf, PartFits, SlotFits, slotAt, region, slots, noSlot}
 use Rattle.srp.specs.declared.Direction.the-variants.{Out, In}
-use Rattle.words.specs.Head.{headOf, HeadFits}
+use Rattle.words.specs.Head.{boundaryIn, headOf, HeadFits}
 use Rattle.words.specs.View.{opens, openOf, shown, view, closedWords, InRanges}
+use Rattle.srp.proofs.Boundaries.{zero-good}
 use Rattle.words.proofs.Slots.{slots-long, slot-at, slot-tag}
 
 -- ── ranges
@@ -30,6 +32,14 @@ said-fits r = record { place = omega arith; out = part-fits r (partAt Out); inn 
 pub slot-fits : (l : List ℕ) (i : ℕ) → i < mostSlots → SlotFits (getD (slots l) i noSlot)
 slot-fits l i h = rw (slot-at l i h) (said-fits (region l i))
 
+-- a Q that is read is good
+read-good : (word : ℕ) → badBoundary (boundaryIn word) ≡ false
+read-good word = go (badBoundary word) refl
+  where
+    go : (b : Bool) → badBoundary word ≡ b → badBoundary (cond b 0 word) ≡ false
+    go true e = zero-good
+    go false e = e
+
 -- so is a head
 pub head-fits : (l : List ℕ) → HeadFits (headOf l)
 head-fits l =
@@ -39,6 +49,7 @@ head-fits l =
           record {
             smallest = omega arith;
             largest = omega arith;
+            boundary = read-good (getD l 10 0);
             shortest = omega arith;
             longest = omega arith;
             even = omega arith;

@@ -136,7 +136,7 @@ words-front (suc n) k m l h = rw (getD-take m l k 0 (omega arith), words-front n
 -- lists that agree in their first 16 words say the same head
 pub head-same : (l l′ : List ℕ) → take headSize l′ ≡ take headSize l → headOf l′ ≡ headOf l
 unfolding wordsAt
-head-same l l′ e = ap headOf (sym (words-front 10 0 headSize l′ (omega arith)) ∙ ap (wordsAt 10 0) e ∙ words-front 10 0 headSize l (omega arith))
+head-same l l′ e = ap headOf (sym (words-front 11 0 headSize l′ (omega arith)) ∙ ap (wordsAt 11 0) e ∙ words-front 11 0 headSize l (omega arith))
 
 -- ── what is written says what was meant
 
@@ -183,7 +183,7 @@ head-put l h F =
     let m : (h .terms .maximum - 1) % 1048576 + 1 ≡ h .terms .maximum = omega (arith, T .smallest, T .largest) in
     let x : (h .terms .agreed - 64) % 1301 + 64 ≡ h .terms .agreed = omega (arith, T .shortest, T .longest) in
     let f : h .terms .formats / 2 % 4 * 2 ≡ h .terms .formats = omega (arith, T .formats, T .even) in
-    simp (n, w, a, m, x, f, on-bit)
+    simp (n, w, a, m, x, f, T .boundary, on-bit)
 
 -- words written in the head leave the slots
 head-slots : (l : List ℕ) (ws : List ℕ) → length l ≡ portWords → length ws ≤ headSize → slots (paste l 0 ws (length ws)) ≡ slots l

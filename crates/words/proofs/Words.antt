@@ -45,7 +45,7 @@ module _ (l : List ℕ) (n w a : ℕ) (u : Bool) where
       let e1 : min n 16 ≡ n = omega (arith, F .room) in
       let e2 : (w - 1) % 16 + 1 ≡ w = omega (arith, F .least, F .most) in
       let e3 : min a (16 - n) ≡ a = omega (arith, F .room) in
-      ap (λ (x : List ℕ). headOf (set (set (set (set x 1 n) 2 (w - 1)) 3 a) 4 (bit u))) (spread 10 0 l (omega arith)) ∙ simp (e1, e2, e3, on-bit)
+      ap (λ (x : List ℕ). headOf (set (set (set (set x 1 n) 2 (w - 1)) 3 a) 4 (bit u))) (spread 11 0 l (omega arith)) ∙ simp (e1, e2, e3, on-bit)
 
   -- other counts written
   pub recounted-put : length l ≡ portWords → CountsFit n w a → HeadChanged l recounted (countedOf n w a u)

@@ -1,11 +1,12 @@
 -- The head of a port's words: what it says, and what changes of the words leave of head and slots.
 use mathlib.Core.Path.{_≡_}
-use mathlib.Core.Bool.{Bool}
+use mathlib.Core.Bool.{Bool, false, cond}
 use mathlib.Core.List.{List, [], _∷_}
 use Prim.Native.Nat.{ℕ, min, _+_, _-_, _*_, _/_, _≤_, _%_}
 use lib.ListN.{getD, set}
 use Rattle.srp.specs.Limits.{mostBuffers, largestPiece, shortestAgreed, longestAgreed, bothFormats}
 use Rattle.srp.specs.Bytes.{bit}
+use Rattle.srp.specs.Cutting.{badBoundary}
 use Rattle.srp.specs.declared.Terms.{Terms}
 use Rattle.words.specs.declared.Head.{Head}
 use Rattle.words.specs.declared.Slot.{Slot}
@@ -17,10 +18,15 @@ use Rattle.words.specs.Slots.{on, slots, noSlot}
 abbrev pub heldIn : List ℕ → ℕ
 heldIn l = min (getD l 1 0) mostBuffers
 
+-- a bad Q is read as none
+abbrev pub boundaryIn : ℕ → ℕ
+boundaryIn word = cond (badBoundary word) 0 word
+
 abbrev pub termsIn : List ℕ → Terms
 termsIn l =
     record {
       maximum = getD l 5 0 % largestPiece + 1;
+      boundary = boundaryIn (getD l 10 0);
       agreed = getD l 6 0 % (longestAgreed - shortestAgreed + 1) + shortestAgreed;
       formats = getD l 7 0 % 4 * 2;
       crsolnt = on (getD l 8 0);
@@ -46,9 +52,10 @@ headWords h =
     ∷ h .terms .formats / 2
     ∷ bit (h .terms .crsolnt)
     ∷ bit (h .terms .losolnt)
+    ∷ h .terms .boundary
     ∷ []
 
--- ── document 01's ranges
+-- ── the papers' ranges
 
 -- W is 1 to 16, A and H are together at most 16
 pub record CountsFit (held wanted announced : ℕ) : Type 0 where
@@ -56,10 +63,11 @@ pub record CountsFit (held wanted announced : ℕ) : Type 0 where
   pub most : wanted ≤ mostBuffers
   pub room : announced + held ≤ mostBuffers
 
--- M is 1 to 1,048,576, the agreed length 64 to 1,364, the agreed formats have no bit but 1 and 2
+-- M is 1 to 1,048,576, Q good, the agreed length 64 to 1,364, the agreed formats have no bit but 1 and 2
 pub record TermsFit (t : Terms) : Type 0 where
   pub smallest : 1 ≤ t .maximum
   pub largest : t .maximum ≤ largestPiece
+  pub boundary : badBoundary (t .boundary) ≡ false
   pub shortest : shortestAgreed ≤ t .agreed
   pub longest : t .agreed ≤ longestAgreed
   pub even : t .formats % 2 ≡ 0

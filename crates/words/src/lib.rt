@@ -12,7 +12,7 @@ ghost use Prim.Native.Nat.{_+_, _≤_};
 ghost use lib.ListN.{length};
 ghost use lib.Seq.{paste};
 ghost use Rattle.words.specs.Sizes.{portWords};
-ghost use Rattle.words.specs.Head.{termsIn, headWords, HeadIs, HeadFits, HeadChanged, CountsFit, countedOf};
+ghost use Rattle.words.specs.Head.{boundaryIn, termsIn, headWords, HeadIs, HeadFits, HeadChanged, CountsFit, countedOf};
 ghost use Rattle.words.specs.View.{closedWords};
 
 // Commands that can be open at once, and places of the store.
@@ -92,6 +92,13 @@ pub fn put_words(to: &mut [u64], at: usize, from: &[u64])
     }
 }
 
+// Q, where a bad one is read as none.
+fn boundary_of(word: u64) -> u64
+    ensures { λ q. ⌜ q ≡ boundaryIn word ⌝ }
+{
+    if boundary::is_bad(word) { 0 } else { word }
+}
+
 // What the login settled.
 fn terms_of(s: &[u64]) -> Terms
     requires { ⌜ length (now s) ≡ portWords ⌝ }
@@ -99,6 +106,7 @@ fn terms_of(s: &[u64]) -> Terms
 {
     Terms {
         maximum: (s[TERMS] % LARGEST_PIECE + 1) as u32,
+        boundary: boundary_of(s[TERMS + 5]),
         agreed: (s[TERMS + 1] % AGREED_LENGTHS + SHORTEST_AGREED) as u32,
         formats: (s[TERMS + 2] % 4 * 2) as u32,
         crsolnt: s[TERMS + 3] % 2 == 1,
@@ -123,7 +131,7 @@ pub fn get_head(s: &[u64]) -> Head
     }
 }
 
-fn head_words(h: Head) -> [u64; 10]
+fn head_words(h: Head) -> [u64; 11]
     requires { ⌜ HeadFits h ⌝ }
     ensures { λ r. ⌜ r ≡ headWords h ⌝ }
 {
@@ -139,6 +147,7 @@ fn head_words(h: Head) -> [u64; 10]
         (t.formats / 2) as u64,
         t.crsolnt as u64,
         t.losolnt as u64,
+        t.boundary,
     ]
 }
 

@@ -3,6 +3,7 @@
 use std::fmt::Debug;
 
 use crate::guarded::{GuardedMemory, Side};
+use crate::limits::Limits;
 use crate::model;
 use crate::random::Random;
 
@@ -19,7 +20,7 @@ pub struct Look {
 #[derive(Clone, Debug)]
 pub struct Cut {
     pub list: Vec<u8>,
-    pub m: u32,
+    pub limits: Limits,
     pub r: u32,
     pub handed: u32,
     pub lent: usize,
@@ -153,11 +154,11 @@ impl Call for Cut {
     }
 
     fn on_library(&self, list: &[u8], buf: &mut [u8]) -> u32 {
-        crate::cut(list, self.m, self.r, self.handed, buf)
+        crate::cut(list, self.limits, self.r, self.handed, buf)
     }
 
     fn on_model(&self, buf: &mut [u8]) -> u32 {
-        model::cut_in_c(&self.list, self.m, self.r, self.handed, buf)
+        model::cut_in_c(&self.list, self.limits, self.r, self.handed, buf)
     }
 }
 

@@ -8,7 +8,7 @@ use crate::calls::Look;
 use crate::model::MemoryDescriptor;
 use crate::random::Random;
 
-pub use list::{lengths, list_of, segment};
+pub use list::{boundary, is_boundary, lengths, list_of, segment};
 
 pub const LONGEST: u32 = 1364;
 pub const BOTH_FORMATS: u32 = 0b110;

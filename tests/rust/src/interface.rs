@@ -4,6 +4,8 @@ use std::ptr;
 
 use srp_target_sys::*;
 
+use crate::limits::Limits;
+
 pub use srp_target_sys::{PORT_WORDS, STORE_BYTES};
 
 // SAFETY, of every call below: each pointer leads to as many bytes or words as its length says, or to an array of the
@@ -30,8 +32,8 @@ pub fn look(msg: &[u8], agreed: u32, formats: u32, buf: &mut [u8]) -> u32 {
     unsafe { srp_look(pointer(msg), msg.len(), agreed, formats, pointer_mut(buf), buf.len()) }
 }
 
-pub fn cut(list: &[u8], m: u32, r: u32, handed: u32, buf: &mut [u8]) -> u32 {
-    unsafe { srp_cut(pointer(list), list.len(), m, r, handed, pointer_mut(buf), buf.len()) }
+pub fn cut(list: &[u8], limits: Limits, r: u32, handed: u32, buf: &mut [u8]) -> u32 {
+    unsafe { srp_cut(pointer(list), list.len(), limits.m, limits.q, r, handed, pointer_mut(buf), buf.len()) }
 }
 
 pub fn trace(msg: &[u8], direction: u32, buf: &mut [u8]) -> u32 {
@@ -56,9 +58,10 @@ impl<'a> Port<'a> {
         Port { words, store, answer }
     }
 
-    pub fn login(self, settings: &Settings, own: &Own, msg: &[u8], buf: &mut [u8]) -> u32 {
+    pub fn login(self, settings: &Settings, boundary: u64, own: &Own, msg: &[u8], buf: &mut [u8]) -> u32 {
         let Port { words, answer, .. } = self;
-        unsafe { srp_target_login(words, settings, own, pointer(msg), msg.len(), pointer_mut(buf), buf.len(), answer) }
+        let (msg, msg_len, buf, buf_len) = (pointer(msg), msg.len(), pointer_mut(buf), buf.len());
+        unsafe { srp_target_login(words, settings, boundary, own, msg, msg_len, buf, buf_len, answer) }
     }
 
     pub fn take(self, msg: &[u8], [out, inn]: [&[u8]; 2], buf: &mut [u8]) -> u32 {

@@ -1,6 +1,6 @@
-//! The port, look and the cut as document 01 states them, and moves, their numbers of operations and the trace page as
-//! document 02 does, in plain Rust. This is written from the documents, and from nothing of the proved code or its
-//! definitions: where the two differ, one of them misreads them. No input makes it panic.
+//! The port, look and the cut as document 01 states them, and moves, their numbers of operations, boundaries and the
+//! trace page as document 02 does, in plain Rust. This is written from the documents, and from nothing of the proved
+//! code or its definitions: where the two differ, one of them misreads them. No input makes it panic.
 
 pub mod channel;
 pub mod command;

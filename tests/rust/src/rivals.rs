@@ -1,7 +1,7 @@
 //! Every list of operations that moves the same bytes, found by trying: no rule here says how long an operation is to
 //! be.
 
-use crate::judge::Byte;
+use crate::judge::{is_multiple, Byte};
 
 /// All lists for some bytes: how many there are, and the operations of one that has the fewest.
 #[derive(Debug, PartialEq, Eq)]
@@ -28,9 +28,27 @@ pub fn rivals(parts: &[usize], at: usize, end: usize, m: usize) -> Rivals {
     all
 }
 
-/// Of each byte the segment that has it: "each inside one segment".
-pub fn by_segment(bytes: &[Byte]) -> Vec<usize> {
-    bytes.iter().map(|byte| byte.segment).collect()
+/// The operations of a list that has the fewest, of all that `rivals` tries: by the fewest for the bytes before its
+/// last operation, wherever that begins.
+pub fn fewest(parts: &[usize], from: usize, to: usize, m: usize) -> u64 {
+    let mut least = vec![0; to - from + 1];
+    for end in from + 1..=to {
+        let in_part = (from.max(end.saturating_sub(m))..end).rev().take_while(|&at| parts[at] == parts[end - 1]);
+        least[end - from] = in_part.map(|at| least[at - from] + 1).min().expect("an operation of one byte");
+    }
+    least[to - from]
+}
+
+/// Of each byte the part that has it: "each inside one segment", and there between two multiples of Q, which rival
+/// lists "obey too".
+pub fn by_segment(bytes: &[Byte], q: u64) -> Vec<usize> {
+    let begins = |at: usize| bytes[at].segment != bytes[at - 1].segment || is_multiple(bytes[at].address, q);
+    let mut part = 0;
+    let part_of = |at: usize| {
+        part += usize::from(at > 0 && begins(at));
+        part
+    };
+    (0..bytes.len()).map(part_of).collect()
 }
 
 /// Of each byte the stretch of memory that has it: segments that adjoin, with the same handle, are one. Operations that
@@ -75,10 +93,29 @@ mod tests {
     }
 
     #[test]
+    fn fewest_of_all_lists() {
+        for (from, to) in (0..=11).flat_map(|from| (from..=11).map(move |to| (from, to))) {
+            for m in 1..=7 {
+                let all = rivals(&PARTS, from, to, m);
+                assert_eq!(fewest(&PARTS, from, to, m), all.fewest, "{from} to {to}, M {m}");
+            }
+        }
+    }
+
+    #[test]
     fn stretches_of_memory() {
         let byte = |segment, handle, address| Byte { segment, handle, address };
         let bytes = [byte(0, 7, 8), byte(0, 7, 9), byte(1, 7, 10), byte(3, 8, 11), byte(4, 8, 13), byte(5, 8, 13)];
-        assert_eq!(by_segment(&bytes), [0, 0, 1, 3, 4, 5]);
+        assert_eq!(by_segment(&bytes, 0), [0, 0, 1, 2, 3, 4]);
         assert_eq!(by_stretch(&bytes), [0, 0, 0, 1, 2, 3]);
+    }
+
+    #[test]
+    fn parts_between_multiples() {
+        let byte = |segment, address| Byte { segment, handle: 7, address };
+        let bytes = [byte(0, 511), byte(0, 512), byte(0, 513), byte(2, 1023), byte(2, 1024), byte(3, 1025)];
+        assert_eq!(by_segment(&bytes, 512), [0, 1, 1, 2, 3, 4]);
+        assert_eq!(by_segment(&bytes, 1024), [0, 0, 0, 1, 2, 3]);
+        assert_eq!(by_segment(&bytes, 0), [0, 0, 0, 1, 1, 2]);
     }
 }

@@ -6,6 +6,7 @@ use std::fs;
 use std::path::Path;
 
 use crate::calls::{Cut, Look, Trace};
+use crate::limits::Limits;
 use crate::tally::Tally;
 
 /// What a row says the call gives: the 32 bytes or the line, or the refusal.
@@ -46,6 +47,7 @@ pub const JOB_1: &str = "job1.rows";
 pub const JOB_2: &str = "job2.rows";
 pub const JOB_4: &str = "job4.rows";
 pub const JOB_5: &str = "job5.rows";
+pub const JOB_6: &str = "job6.rows";
 
 /// Runs the rows of look.
 pub fn run_look(through: &str, look: impl Fn(&Look, &mut [u8]) -> u32) {
@@ -61,8 +63,8 @@ pub fn run_look(through: &str, look: impl Fn(&Look, &mut [u8]) -> u32) {
 
 /// Runs the rows of the cut, of all files that have some.
 pub fn run_cut(through: &str, cut: impl Fn(&Cut, &mut [u8]) -> u32) {
-    run(BASE, &[("cut", 267)], through, |words| cut_row(words, &cut));
-    for (file, count) in [(JOB_1, 480), (JOB_4, 237), (JOB_5, 230)] {
+    run(BASE, &[("cut", 267)], through, |words| cut_row(&job::with_no_boundary(words), &cut));
+    for (file, count) in [(JOB_1, 480), (JOB_4, 237), (JOB_5, 230), (JOB_6, 235)] {
         run(file, &[("cut", count)], through, |words| {
             let row = job::in_base_words(words);
             cut_row(&row.split(' ').collect::<Vec<&str>>(), &cut)
@@ -71,17 +73,17 @@ pub fn run_cut(through: &str, cut: impl Fn(&Cut, &mut [u8]) -> u32) {
 }
 
 fn cut_row(words: &[&str], cut: impl Fn(&Cut, &mut [u8]) -> u32) -> Result<(), String> {
-    let ["cut", list, m, r, handed, lent, fill, "=", answer @ ..] = words else {
+    let ["cut", list, m, q, r, handed, lent, fill, "=", answer @ ..] = words else {
         panic!("not a cut row: {words:?}");
     };
-    let (m, r, handed, lent) = (number(m), number(r), number(handed), number(lent) as usize);
-    let call = Cut { list: bytes(list), m, r, handed, lent };
+    let (limits, lent) = (Limits { m: number(m), q: long(q) }, number(lent) as usize);
+    let call = Cut { list: bytes(list), limits, r: number(r), handed: number(handed), lent };
     judge(lent, fill, answer, |buf| cut(&call, buf))
 }
 
-/// Runs the rows of the trace, which are all of job2.rows and some of job4.rows and job5.rows.
+/// Runs the rows of the trace, which are all of job2.rows and some of job4.rows, job5.rows and job6.rows.
 pub fn run_trace(through: &str, trace: impl Fn(&Trace, &mut [u8]) -> u32) {
-    for (file, count) in [(JOB_2, 3000), (JOB_4, 243), (JOB_5, 250)] {
+    for (file, count) in [(JOB_2, 3000), (JOB_4, 243), (JOB_5, 250), (JOB_6, 245)] {
         run(file, &[("trace", count)], through, |words| trace_row(words, &trace));
     }
 }
@@ -111,13 +113,18 @@ fn judge(lent: usize, fill: &str, answer: &[&str], call: impl FnOnce(&mut [u8]) 
     Answer::read(answer).compare(returned, &buf, fill)
 }
 
+/// The lines of a file.
+pub fn lines(file: &str) -> Vec<String> {
+    let path = Path::new(env!("CARGO_MANIFEST_DIR")).join("../rows").join(file);
+    let text = fs::read_to_string(&path).unwrap_or_else(|error| panic!("{}: {error}", path.display()));
+    text.lines().map(String::from).collect()
+}
+
 /// Runs the rows of these kinds, in the file's order, and panics with the first that failed, or unless there are so
 /// many of each.
 pub fn run(file: &str, kinds: &[(&str, usize)], through: &str, mut row: impl FnMut(&[&str]) -> Result<(), String>) {
-    let path = Path::new(env!("CARGO_MANIFEST_DIR")).join("../rows").join(file);
-    let text = fs::read_to_string(&path).unwrap_or_else(|error| panic!("{}: {error}", path.display()));
     let (mut rows, mut failures) = (Tally::default(), Vec::new());
-    for (at, line) in text.lines().enumerate() {
+    for (at, line) in lines(file).iter().enumerate() {
         let words: Vec<&str> = line.split(' ').collect();
         if kinds.iter().any(|(kind, _)| *kind == words[0]) {
             rows.add(words[0]);

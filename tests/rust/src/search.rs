@@ -3,6 +3,8 @@
 
 use crate::calls::{Call as _, Cut, Memory, Placement};
 use crate::generate::list_of;
+use crate::judge::is_multiple;
+use crate::limits::Limits;
 use crate::model::MemoryDescriptor;
 use crate::port::generate::{command, Data};
 use crate::port::plain::{fetched, login, take};
@@ -17,8 +19,8 @@ const TAG: u64 = 5;
 #[derive(Clone, Copy)]
 pub struct Byte {
     handle: u32,
-    address: u64,
-    left: u64,
+    pub address: u64,
+    pub left: u64,
 }
 
 /// A buffer, byte after byte.
@@ -51,8 +53,17 @@ pub fn first_and_last(segments: &[MemoryDescriptor], to: u64) -> Vec<(u64, Byte)
 
 /// Segments of these lengths, each with a handle of its own; some end at 2^64.
 pub fn segments(lengths: &[u32]) -> Vec<MemoryDescriptor> {
+    segments_at(lengths, |at| (at + 1) << 40)
+}
+
+/// Each with a multiple of Q so many bytes behind its first address; some end at 2^64.
+pub fn segments_around(lengths: &[u32], q: u64, before: u64) -> Vec<MemoryDescriptor> {
+    segments_at(lengths, |at| (2 * at + 3) * q - before)
+}
+
+fn segments_at(lengths: &[u32], address: impl Fn(u64) -> u64) -> Vec<MemoryDescriptor> {
     let segment = |(at, &length): (usize, &u32)| {
-        let address = if at % 5 == 3 { 0u64.wrapping_sub(length.into()) } else { (at as u64 + 1) << 40 };
+        let address = if at % 5 == 3 { 0u64.wrapping_sub(length.into()) } else { address(at as u64) };
         MemoryDescriptor { address, handle: 100 + at as u32, length }
     };
     lengths.iter().enumerate().map(segment).collect()
@@ -65,9 +76,14 @@ fn lengths_of(segments: &[MemoryDescriptor]) -> Vec<u32> {
 /// Handle, address, length and offset of a piece; None for done.
 pub type Piece = Option<[u64; 4]>;
 
-/// The piece at `from` of the bytes up to `to`, by the byte there, if the buffer has one.
-pub fn piece(byte: Option<&Byte>, m: u32, from: u64, to: u64) -> Piece {
-    let length = |byte: &Byte| byte.left.min(m.into()).min(to - from);
+/// The piece at `from` of the bytes up to `to`, by the byte there, if the buffer has one. With a boundary each byte
+/// behind it is looked at: the first at a multiple of Q is not in the piece.
+pub fn piece(byte: Option<&Byte>, limits: Limits, from: u64, to: u64) -> Piece {
+    let length = |byte: &Byte| {
+        let most = byte.left.min(limits.m.into()).min(to - from);
+        let walked = if limits.q == 0 { 0..0 } else { 1..most };
+        walked.into_iter().find(|length| is_multiple(byte.address.wrapping_add(*length), limits.q)).unwrap_or(most)
+    };
     byte.filter(|_| from < to).map(|byte| [byte.handle.into(), byte.address, length(byte), from])
 }
 
@@ -96,12 +112,12 @@ impl Search {
     }
 
     /// A command with this list in one direction and another in the other.
-    pub fn plan(&mut self, list: &[MemoryDescriptor], m: u32, r: u32) {
+    pub fn plan(&mut self, list: &[MemoryDescriptor], limits: Limits, r: u32) {
         self.direction = self.random.below(2);
         let other = fetched(&[MemoryDescriptor { address: 0x9999, handle: 99, length: 999 }]);
         let mut data = [other.clone(), other];
         data[self.direction] = if list.is_empty() { Data::none() } else { fetched(list) };
-        self.port.call(&login(&mut self.random, 1, m, 1364, 0b110));
+        self.port.call(&login(&mut self.random, 1, limits, 1364, 0b110));
         let msg = command(&mut self.random, TAG, 0, 0, &data);
         assert_eq!(self.port.call(&take(&msg, [&data[0].table, &data[1].table])).returned, 0, "taken");
         assert_eq!(self.port.call(&Call::Plan { tag: TAG, r_out: r, r_in: r }).returned, 0, "planned");
@@ -117,9 +133,14 @@ impl Search {
         self.planned.store[at..at + list.len()].copy_from_slice(&list);
     }
 
+    /// Writes over a word of the port with a command planned: "any words are a port".
+    pub fn write_word(&mut self, at: usize, word: u64) {
+        self.planned.words[at] = word;
+    }
+
     /// srp_cut with so many bytes handed out.
-    pub fn judge_cut(&mut self, list: &[MemoryDescriptor], m: u32, r: u32, from: u64, expected: Piece) {
-        let cut = Cut { list: list_of(list), m, r, handed: from as u32, lent: 32 };
+    pub fn judge_cut(&mut self, list: &[MemoryDescriptor], limits: Limits, r: u32, from: u64, expected: Piece) {
+        let cut = Cut { list: list_of(list), limits, r, handed: from as u32, lent: 32 };
         let outcome = cut.outcome(&mut self.memory, Placement::AT_END);
         let mut answer = [0; 32];
         if let Some([handle, address, length, offset]) = expected {
@@ -128,7 +149,8 @@ impl Search {
             answer[16..20].copy_from_slice(&(offset as u32).to_be_bytes());
         }
         let lengths = lengths_of(list);
-        assert_eq!((outcome.returned, &outcome.buf[..]), (0, &answer[..]), "cut at {from}, M {m}, R {r}, {lengths:?}");
+        assert_eq!(outcome.returned, 0, "cut at {from}, {limits:?}, R {r}, {list:x?}");
+        assert_eq!(outcome.buf, answer, "cut at {from}, {limits:?}, R {r}, {list:x?}");
         self.note(&lengths, from, expected);
     }
 
@@ -143,7 +165,7 @@ impl Search {
             .map_or([0; 8], |[handle, address, length, offset]| [1, operation, handle, address, length, offset, 1, 0]);
         let lengths = lengths_of(list);
         assert_eq!((named.returned, stepped.returned), (0, 0), "move and step at {from}, {lengths:?}");
-        assert_eq!(stepped.answer, answer, "step at {from}, count {count}, {lengths:?}");
+        assert_eq!(stepped.answer, answer, "step at {from}, count {count}, {list:x?}");
         self.note(&lengths, from, expected);
     }
 
@@ -158,8 +180,13 @@ impl Search {
 
     /// Prints the tally, and asserts that each of these kinds and done came up.
     pub fn tell(&self, name: &str, least: u64, kinds: &[&str]) {
+        self.tell_pieces(name, least, &[kinds, &["done"]].concat());
+    }
+
+    /// As `tell`, without done.
+    pub fn tell_pieces(&self, name: &str, least: u64, kinds: &[&str]) {
         println!("{name}: {} pieces", self.pieces);
         self.kinds.print_as(name, "kinds of them");
-        self.kinds.assert_each(least, &[kinds, &["done"]].concat());
+        self.kinds.assert_each(least, kinds);
     }
 }

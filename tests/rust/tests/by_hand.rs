@@ -18,7 +18,7 @@ fn look(msg: &[u8]) -> (u32, [u8; 32]) {
 
 fn cut(list: &[u8], m: u32, r: u32, handed: u32) -> (u32, [u8; 32]) {
     let mut buf = [FILL; 36];
-    let returned = srp_tests::cut(list, m, r, handed, &mut buf);
+    let returned = srp_tests::cut(list, m.into(), r, handed, &mut buf);
     assert_eq!(buf[32..], [FILL; 4]);
     (returned, buf[..32].try_into().unwrap())
 }

@@ -17,7 +17,7 @@ fn open() -> Plain {
 }
 
 fn login(plain: &mut Plain, msg: &[u8], buf: &mut [u8]) -> u32 {
-    plain.port().login(&[4, 512, 1364, 1, 1], &OWN, msg, buf)
+    plain.port().login(&[4, 512, 1364, 1, 1], 0, &OWN, msg, buf)
 }
 
 fn login_request() -> Vec<u8> {
@@ -57,7 +57,7 @@ fn messages_and_tables_above_2_32() {
     assert_eq!(open().port().take(&command(), [table, &[]], &mut buf), 9);
     assert_eq!(open().port().take(&command(), [&[], table], &mut buf), 9);
     assert_eq!(interface::look(reserved(LONG + 48, &command()), 1364, 6, &mut buf), 3);
-    assert_eq!(interface::cut(reserved(LONG + 16, &[]), 512, 0, 0, &mut buf), 11);
+    assert_eq!(interface::cut(reserved(LONG + 16, &[]), 512.into(), 0, 0, &mut buf), 11);
 
     let mut plain = open();
     assert_eq!(plain.port().take(&command(), none, &mut buf), 0);
@@ -78,7 +78,7 @@ fn buffers_and_lists_above_2_32() {
     assert_eq!(plain.port().grant(buf), 0);
     assert_eq!(plain.port().close(0, buf), 0);
     assert_eq!(interface::look(&command(), 1364, 6, buf), 0);
-    assert_eq!(interface::cut(&[], 512, 0, 0, buf), 0);
+    assert_eq!(interface::cut(&[], 512.into(), 0, 0, buf), 0);
     assert_eq!((interface::trace(&[], 0, buf), buf[0]), (0, b'>'));
     assert_eq!(buf[132..4096], [0; 4096 - 132]);
 }
@@ -128,7 +128,16 @@ mod wide {
         pub fn srp_target_add(port: *mut u64, k: u64) -> u32;
         pub fn srp_target_withdraw(port: *mut u64, k: u64) -> u32;
         pub fn srp_target_close(port: *mut u64, reason: u64, buf: *mut u8, buf_len: usize, answer: *mut u64) -> u32;
-        pub fn srp_cut(list: *const u8, length: usize, m: u64, r: u64, handed: u64, buf: *mut u8, lent: usize) -> u32;
+        pub fn srp_cut(
+            list: *const u8,
+            length: usize,
+            m: u64,
+            q: u64,
+            r: u64,
+            handed: u64,
+            buf: *mut u8,
+            lent: usize,
+        ) -> u32;
         pub fn srp_trace(msg: *const u8, length: usize, direction: u64, buf: *mut u8, lent: usize) -> u32;
     }
 }
@@ -159,8 +168,12 @@ fn arguments_below_other_bits() {
         assert_eq!(wide::srp_target_close(port, ABOVE | 7, buf.as_mut_ptr(), buf.len(), answered), 0);
         assert_eq!(buf[..16], [0x80, buf[1], 0, 0, 0, 0, 0, 7, 0, 0, 0, 0, 0, 0, 0, 0]);
         let list = [0, 0, 0, 0, 0, 0, 0x10, 0, 0, 0, 0, 7, 0, 0, 0, 9];
-        let cut = wide::srp_cut(list.as_ptr(), 16, ABOVE | 4, ABOVE | 6, ABOVE | 4, buf.as_mut_ptr(), buf.len());
-        assert_eq!((cut, &buf[..20]), (0, &[0, 0, 0, 0, 0, 0, 0x10, 4, 0, 0, 0, 7, 0, 0, 0, 2, 0, 0, 0, 4][..]));
+        let cut = |q, buf: &mut [u8]| {
+            wide::srp_cut(list.as_ptr(), 16, ABOVE | 4, q, ABOVE | 6, ABOVE | 4, buf.as_mut_ptr(), buf.len())
+        };
+        assert_eq!([0, 1 << 32].map(|q| cut(q, &mut buf)), [0, 0]);
+        assert_eq!(buf[..20], [0, 0, 0, 0, 0, 0, 0x10, 4, 0, 0, 0, 7, 0, 0, 0, 2, 0, 0, 0, 4]);
+        assert_eq!([ABOVE, ABOVE | 512].map(|q| cut(q, &mut buf)), [2, 2], "Q has 64 bits");
         for (direction, sign) in [(ABOVE, b'>'), (ABOVE | 1, b'<')] {
             let traced = wide::srp_trace(list.as_ptr(), 16, direction, buf.as_mut_ptr(), buf.len());
             assert_eq!((traced, buf[0]), (0, sign));

@@ -2,6 +2,7 @@
 
 use srp_tests::calls::{Call, Cut, Memory, Outcome, Placement};
 use srp_tests::generate;
+use srp_tests::limits::Limits;
 use srp_tests::model::{self, MemoryDescriptor, Piece};
 use srp_tests::position;
 use srp_tests::random::Random;
@@ -17,6 +18,8 @@ fn kind(call: &Cut, outcome: &Outcome) -> String {
         11 => "refused 11, list".into(),
         10 if model::segments(&call.list).any(model::past_the_end) => "refused 10, past 2^64".into(),
         10 => "refused 10, sum".into(),
+        2 if (1..=1_048_576).contains(&call.limits.m) => "refused 2, Q".into(),
+        2 => "refused 2, M".into(),
         refusal => format!("refused {refusal}"),
     }
 }
@@ -25,24 +28,29 @@ fn piece_kind(call: &Cut, buf: &[u8]) -> &'static str {
     let memory = MemoryDescriptor::read(buf);
     let b = model::sum_of_lengths(&call.list);
     let piece_end = u64::from(call.handed) + u64::from(memory.length);
-    if memory.length == call.m {
+    let ends_a_segment = |at: usize| model::sum_of_lengths(&call.list[..at]) == piece_end;
+    if memory.length == call.limits.m {
         "piece of M bytes"
     } else if piece_end == b.min(u64::from(call.r)) {
         "piece up to min(R, B)"
-    } else {
+    } else if (16..=call.list.len()).step_by(16).any(ends_a_segment) {
         "piece up to its segment's end"
+    } else {
+        "piece up to a multiple of Q"
     }
 }
 
-const OUTCOMES: [&str; 10] = [
+const OUTCOMES: [&str; 12] = [
     "refused 1",
-    "refused 2",
+    "refused 2, M",
+    "refused 2, Q",
     "refused 10, past 2^64",
     "refused 10, sum",
     "refused 11, handed out",
     "refused 11, list",
     "done",
     "piece of M bytes",
+    "piece up to a multiple of Q",
     "piece up to its segment's end",
     "piece up to min(R, B)",
 ];
@@ -78,7 +86,7 @@ fn every_list_length() {
         for length in (0..=600).rev() {
             list.truncate(length);
             for handed in [0, 1, 150, 3199, 3200] {
-                let call = Cut { list: list.clone(), m: 64, r: 3200, handed, lent: 33 };
+                let call = Cut { list: list.clone(), limits: 64.into(), r: 3200, handed, lent: 33 };
                 let outcome = call.compared(&mut memory, Placement::AT_END);
                 tally.add(kind(&call, &outcome));
             }
@@ -90,13 +98,16 @@ fn every_list_length() {
     assert_eq!(tally.total(), 2 * 601 * 5);
 }
 
-/// The bounds of M, of a segment's end and of the sum, by document 01's numbers: each with the outcome as a number.
+/// The bounds of M, Q, a segment's end and the sum, by the documents' numbers: each with the outcome as a number.
 #[test]
 fn bounds() {
     let at = |address, length| MemoryDescriptor { address, handle: 7, length };
     let plain = [at(0x1000, u32::MAX)];
-    let of_m = |m| returned(&plain, m, 5, 0);
+    let of_m = |m: u32| returned(&plain, m, 5, 0);
     assert_eq!([0, 1, 1_048_576, 1_048_577, u32::MAX].map(of_m), [2, 0, 0, 2, 2]);
+    let of_q = |q| returned(&plain, Limits { m: 512, q }, 5, 0);
+    assert_eq!([0, 1, 256, 511, 512, 513, 768, 1024].map(of_q), [0, 2, 2, 2, 0, 2, 2, 0]);
+    assert_eq!([(1 << 32) - 1, 1 << 32, (1 << 32) + 512, 1 << 33, u64::MAX].map(of_q), [2, 0, 2, 2, 2]);
 
     // address + length = 2^64 - 1, 2^64, 2^64 + 1
     let ends = [u64::MAX - 600, u64::MAX - 599, u64::MAX - 598];
@@ -118,15 +129,16 @@ fn bounds() {
     assert_eq!([0, 1].map(|handed| returned(&[], 512, 650, handed)), [0, 11]);
 }
 
-fn returned(segments: &[MemoryDescriptor], m: u32, r: u32, handed: u32) -> u32 {
-    let call = Cut { list: generate::list_of(segments), m, r, handed, lent: 32 };
+fn returned(segments: &[MemoryDescriptor], limits: impl Into<Limits>, r: u32, handed: u32) -> u32 {
+    let call = Cut { list: generate::list_of(segments), limits: limits.into(), r, handed, lent: 32 };
     call.compared(&mut Memory::default(), Placement::AT_END).returned
 }
 
 /// The last byte of memory and of the longest buffer can be handed out.
 #[test]
 fn last_bytes() {
-    let piece = |segments: &[MemoryDescriptor], handed| model::cut(&generate::list_of(segments), 512, u32::MAX, handed);
+    let piece =
+        |segments: &[MemoryDescriptor], handed| model::cut(&generate::list_of(segments), 512.into(), u32::MAX, handed);
     let last_of_memory = [MemoryDescriptor { address: u64::MAX - 599, handle: 9, length: 600 }];
     let memory = MemoryDescriptor { address: u64::MAX, handle: 9, length: 1 };
     assert_eq!(piece(&last_of_memory, 599), Ok(Some(Piece { memory, offset: 599 })));
@@ -134,7 +146,7 @@ fn last_bytes() {
     let memory = MemoryDescriptor { address: 0xffff_fffe, handle: 9, length: 1 };
     assert_eq!(piece(&longest, 0xffff_fffe), Ok(Some(Piece { memory, offset: 0xffff_fffe })));
     for (segments, handed) in [(last_of_memory, 599), (longest, 0xffff_fffe)] {
-        let call = Cut { list: generate::list_of(&segments), m: 512, r: u32::MAX, handed, lent: 32 };
+        let call = Cut { list: generate::list_of(&segments), limits: 512.into(), r: u32::MAX, handed, lent: 32 };
         call.compared(&mut Memory::default(), Placement::AT_END);
     }
 }

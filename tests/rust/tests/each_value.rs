@@ -138,18 +138,18 @@ fn of_a_message_s_length() {
 #[test]
 fn of_a_byte_of_a_login() {
     let mut from = From::new(prepared(LONGEST));
-    let Call::Login { settings, own, msg, buf } = login(LONGEST) else { unreachable!() };
+    let Call::Login { settings, boundary, own, msg, buf } = login(LONGEST) else { unreachable!() };
     for at in 0..msg.len() {
         for value in 0..=255 {
             let mut msg = msg.clone();
             msg[at] = value;
-            from.call(&Call::Login { settings, own, msg, buf: buf.clone() });
+            from.call(&Call::Login { settings, boundary, own, msg, buf: buf.clone() });
         }
     }
     for length in 0..=140 {
         let mut msg = msg.clone();
         msg.resize(length, 0);
-        from.call(&Call::Login { settings, own, msg, buf: buf.clone() });
+        from.call(&Call::Login { settings, boundary, own, msg, buf: buf.clone() });
     }
     from.tally.print("port, each value of each byte of a login");
     let rejected = ["login: rejected 10000", "login: rejected 10002", "login: rejected 10003", "login: rejected 10004"];
@@ -160,11 +160,11 @@ fn of_a_byte_of_a_login() {
 #[test]
 fn of_a_setting() {
     let mut from = From::new(prepared(LONGEST));
-    let Call::Login { settings, own, msg, buf } = login(64) else { unreachable!() };
+    let Call::Login { settings, boundary, own, msg, buf } = login(64) else { unreachable!() };
     let mut with = |at: usize, value: u32| {
         let mut settings = settings;
         settings[at] = value;
-        from.call(&Call::Login { settings, own, msg: msg.clone(), buf: buf.clone() });
+        from.call(&Call::Login { settings, boundary, own, msg: msg.clone(), buf: buf.clone() });
     };
     for value in 0..=1500 {
         (0..5).for_each(|at| with(at, value));
@@ -183,10 +183,10 @@ fn of_a_setting() {
 #[test]
 fn of_a_buffer_s_length() {
     let mut from = From::new(prepared(LONGEST));
-    let Call::Login { settings, own, msg, .. } = login(64) else { unreachable!() };
+    let Call::Login { settings, boundary, own, msg, .. } = login(64) else { unreachable!() };
     for length in 0..=300 {
         let buf = || buffer(length);
-        from.call(&Call::Login { settings, own, msg: msg.clone(), buf: buf() });
+        from.call(&Call::Login { settings, boundary, own, msg: msg.clone(), buf: buf() });
         for (msg, tables) in messages() {
             from.call(&Call::Take { msg, tables, buf: buf() });
         }
@@ -226,7 +226,7 @@ fn of_a_number_of_buffers() {
     for wanted in 1..=16 {
         let mut both = Both::new(6);
         let Call::Login { own, msg, buf, .. } = login(64) else { unreachable!() };
-        both.call(&Call::Login { settings: [wanted, 1, 64, 1, 0], own, msg, buf });
+        both.call(&Call::Login { settings: [wanted, 1, 64, 1, 0], boundary: 0, own, msg, buf });
         let mut from = From::new(both);
         for k in (0..=40).chain((0..32).flat_map(|bit| [(1u32 << bit) + 15, 0u32.wrapping_sub(1 << bit)])) {
             from.call(&Call::Add { k });

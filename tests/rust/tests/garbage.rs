@@ -10,6 +10,10 @@ use srp_tests::port::plain::{fetched, login, take};
 use srp_tests::port::{kinds, library::Library, Call, Target};
 use srp_tests::random::Random;
 
+/// What stands for Q in the words.
+const PIECES: [&str; 4] =
+    ["a bad boundary, across a multiple", "a bad boundary, across none", "a boundary", "no boundary"];
+
 #[test]
 fn any_words_are_a_port() {
     let mut garbage = Garbage::new(Library::new(21), 21);
@@ -17,6 +21,8 @@ fn any_words_are_a_port() {
         garbage.round();
     }
     garbage.tally.print("garbage");
+    garbage.pieces.print_as("garbage, by the boundary in the words", "pieces");
+    garbage.pieces.assert_each(100, &PIECES);
     // Every outcome but those of login, which uses nothing of the words.
     let of_words: Vec<&str> = kinds::OUTCOMES.into_iter().filter(|outcome| !outcome.starts_with("login")).collect();
     garbage.tally.assert_at_least(10, &of_words);

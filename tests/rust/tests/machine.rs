@@ -3,31 +3,36 @@
 use srp_tests::port::{library::Library, machine::Machine};
 use srp_tests::position;
 
-const STATES: [&str; 20] = [
+const STATES: [&str; 25] = [
     "16 commands open",
     "SRP_CRED_REQ lifts 1",
     "SRP_CRED_REQ lifts more",
     "SRP_RSP lifts 0",
     "SRP_RSP lifts 1",
     "SRP_RSP lifts more",
+    "a boundary",
     "a tag used again",
     "aborted in the middle",
     "done after none",
     "done after one",
     "done after several",
+    "ended by a boundary",
     "ended with pieces left",
     "finished in the middle",
+    "from a boundary to the next",
     "h above the bytes handed out",
     "h below the bytes handed out",
     "move after operations",
     "move after operations, refused",
+    "no boundary",
     "owed 0",
     "owed above 0",
     "owed below 0",
+    "up to 2^64, with a boundary",
 ];
 
 /// Events that come up whatever the initiator does.
-const EVENTS: [&str; 51] = [
+const EVENTS: [&str; 52] = [
     "add: done",
     "add: refused 11",
     "add: refused 28",
@@ -42,6 +47,7 @@ const EVENTS: [&str; 51] = [
     "grant: refused 26",
     "grant: refused 27",
     "login: accepted",
+    "login: refused 2",
     "move: done",
     "move: refused 24",
     "move: refused 29",

@@ -1,8 +1,10 @@
 //! Moves on a port, judged byte by byte by the words of documents 01 and 02 and not by the model: the pieces of a move
-//! cover its bytes from its offset to the smaller of offset + count and min(R, B), cut from there as document 01 cuts,
-//! and are numbered from 1 on; the listing and the residual take the highest offset handed out + 1.
+//! cover its bytes from its offset to the smaller of offset + count and min(R, B), cut from there as document 01 cuts
+//! and at multiples of Q, and are numbered from 1 on; the listing and the residual take h, which is the highest offset
+//! handed out + 1.
 
-use srp_tests::judge::{bytes_of, judge, Byte, ENDS};
+use srp_tests::judge::{bytes_of, judge, Byte, AT_MULTIPLE, ENDS};
+use srp_tests::limits::Limits;
 use srp_tests::model::MemoryDescriptor;
 use srp_tests::port::generate::command;
 use srp_tests::port::plain::{fetched, finish, login, take};
@@ -16,7 +18,7 @@ const TAG: u64 = 9;
 struct Command {
     port: Library,
     direction: u32,
-    m: u32,
+    limits: Limits,
     bytes: Vec<Byte>,
     r: usize,
     /// The highest offset handed out + 1.
@@ -37,7 +39,8 @@ fn segments(random: &mut Random) -> Vec<MemoryDescriptor> {
 impl Command {
     fn new(random: &mut Random) -> Self {
         let (mut port, m) = (Library::new(random.u64()), random.of(&[1, 2, 3, 7, 16, 31, 64, 100, 512]));
-        port.call(&login(random, 1, m, 1364, 0b110));
+        let limits = Limits { m, q: random.of(&[0, 512, 512, 1024, 1 << 32]) };
+        port.call(&login(random, 1, limits, 1364, 0b110));
         let (moved, other, direction) = (segments(random), segments(random), random.below(2));
         let data = [0, 1].map(|at| fetched(if at == direction { &moved } else { &other }));
         let msg = command(random, TAG, 0, 0, &data);
@@ -47,7 +50,7 @@ impl Command {
         let mut required = [random.any_size(), random.any_size()];
         required[direction] = r as u32;
         assert_eq!(port.call(&Call::Plan { tag: TAG, r_out: required[0], r_in: required[1] }).returned, 0, "planned");
-        Command { port, direction: direction as u32, m, bytes, r, h: 0, number: 0 }
+        Command { port, direction: direction as u32, limits, bytes, r, h: 0, number: 0 }
     }
 
     /// min(R, B).
@@ -133,7 +136,7 @@ fn walk(command: &mut Command, random: &mut Random, tally: &mut Tally) {
         next += memory.length as usize;
         pieces.push((memory, at));
     }
-    judge(&command.bytes, offset..end, command.m, &pieces, tally);
+    judge(&command.bytes, offset..end, command.limits, &pieces, tally);
     tally.add(if offset < end { "move" } else { "empty move" });
 }
 
@@ -152,5 +155,6 @@ fn every_byte_of_small_moves() {
         command.assert_residual();
     }
     tally.print("moves, judged byte by byte");
-    tally.assert_each(300, &[&["move", "empty move", "refused 31", "refused 32"], &ENDS[..]].concat());
+    let kinds = ["move", "empty move", "refused 31", "refused 32", AT_MULTIPLE];
+    tally.assert_each(300, &[&kinds, &ENDS[..]].concat());
 }

@@ -31,7 +31,8 @@ fn generated_calls() {
     outcomes.print("port, generated calls");
     features.print_as("port, generated calls", "kinds of them");
     outcomes.assert_each(40, &kinds::OUTCOMES);
-    features.assert_each(40, &[&kinds::FEATURES[..], &kinds::moves::FEATURES, &position::KINDS].concat());
+    let kinds = [&kinds::FEATURES[..], &kinds::moves::FEATURES, &kinds::logins::FEATURES, &position::KINDS];
+    features.assert_each(40, &kinds.concat());
 }
 
 /// Data-in of 600 and 100 bytes, of which 650 are required: min(R, B) is 650.

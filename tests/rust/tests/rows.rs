@@ -38,3 +38,8 @@ fn number_rows() {
 fn order_rows() {
     port::rows::run_job_5(&mut Library::new(1), "the C interface");
 }
+
+#[test]
+fn boundary_rows() {
+    port::rows::run_job_6(&mut Library::new(1), "the C interface");
+}

@@ -1,10 +1,11 @@
 //! Whole walks with srp_cut, from 0 bytes handed out to done, judged by document 01's words and not by the model: the
 //! pieces cover exactly the first min(R, B) bytes in order, each is at most M long and as long as possible, and none
-//! crosses a segment's end.
+//! crosses a segment's end or, by document 02, a multiple of Q.
 
 use srp_tests::calls::{Call, Cut, Memory, Placement};
 use srp_tests::generate;
-use srp_tests::judge::{bytes_of, judge, ENDS};
+use srp_tests::judge::{bytes_of, is_multiple, judge, AT_MULTIPLE, ENDS};
+use srp_tests::limits::Limits;
 use srp_tests::model::MemoryDescriptor;
 use srp_tests::random::Random;
 use srp_tests::tally::Tally;
@@ -20,13 +21,13 @@ fn read_answer(buf: &[u8]) -> Option<(MemoryDescriptor, u32)> {
 
 struct Walk {
     list: Vec<u8>,
-    m: u32,
+    limits: Limits,
     r: u32,
 }
 
 impl Walk {
     fn returned(&self, memory: &mut Memory, handed: u32) -> (u32, Vec<u8>) {
-        let call = Cut { list: self.list.clone(), m: self.m, r: self.r, handed, lent: 32 };
+        let call = Cut { list: self.list.clone(), limits: self.limits, r: self.r, handed, lent: 32 };
         let outcome = call.outcome(memory, Placement::AT_END);
         (outcome.returned, outcome.buf)
     }
@@ -82,28 +83,30 @@ fn every_byte_of_small_buffers() {
     let (mut random, mut memory, mut tally) = (Random::new(7), Memory::default(), Tally::default());
     for _ in 0..6_000 {
         let m = random.of(&[1, 2, 3, 7, 16, 31, 64, 100, 512]);
+        let limits = Limits { m, q: random.of(&[0, 0, 512, 512, 1024, 4096, 1 << 32]) };
         let segments = segments(&mut random, m);
         let bytes = bytes_of(&segments);
         let r = random.of(&[bytes.len(), bytes.len() + 1, bytes.len().saturating_sub(1), bytes.len() / 2, 0, 1 << 31]);
-        let walk = Walk { list: generate::list_of(&segments), m, r: r as u32 };
+        let walk = Walk { list: generate::list_of(&segments), limits, r: r as u32 };
         let pieces = walk.pieces(&mut memory, 10_000);
-        judge(&bytes, 0..bytes.len().min(r), m, &pieces, &mut tally);
+        judge(&bytes, 0..bytes.len().min(r), limits, &pieces, &mut tally);
         tally.add("done");
     }
     tally.print("walks, judged byte by byte");
-    tally.assert_each(500, &[&["done"], &ENDS[..]].concat());
+    tally.assert_each(500, &[&["done", AT_MULTIPLE], &ENDS[..]].concat());
 }
 
 /// Buffers up to 2^32 - 1 bytes: each piece is placed by its offset in its segment.
 #[test]
 fn large_buffers() {
-    let (mut random, mut memory, mut seen) = (Random::new(8), Memory::default(), 0);
+    let (mut random, mut memory, mut seen, mut at_multiples) = (Random::new(8), Memory::default(), 0, 0);
     for _ in 0..200 {
         let (segments, b) = large_segments(&mut random);
         let m = 1_048_576 - random.of(&[0, 0, 1, 500_000]);
+        let q = random.of(&[0, 1 << 19, 1 << 20, 1 << 21, 1 << 31, 1 << 32]);
         let r = random.of(&[u64::from(u32::MAX), b, b.saturating_sub(1), b / 2]);
-        let walk = Walk { list: generate::list_of(&segments), m, r: r as u32 };
-        let pieces = walk.pieces(&mut memory, 10_000);
+        let walk = Walk { list: generate::list_of(&segments), limits: Limits { m, q }, r: r as u32 };
+        let pieces = walk.pieces(&mut memory, 20_000);
         seen += pieces.len();
         let mut next = 0;
         for (memory, offset) in &pieces {
@@ -112,12 +115,16 @@ fn large_buffers() {
             let segment_end = end_of_its_segment(&segments, memory, *offset);
             assert!(next <= segment_end, "crosses a segment");
             assert!(memory.length <= m, "longer than M");
-            assert!(memory.length == m || next == segment_end || next == b.min(r), "could be longer");
+            let last = memory.address + u64::from(memory.length - 1);
+            assert_eq!(memory.address.checked_div(q), last.checked_div(q), "crosses a multiple of Q");
+            let other_end = memory.length == m || next == segment_end || next == b.min(r);
+            assert!(other_end || is_multiple(last.wrapping_add(1), q), "could be longer");
+            at_multiples += u32::from(!other_end);
         }
         assert_eq!(next, b.min(r), "all of the first min(R, B) bytes");
     }
     println!("walks over large buffers: {seen} pieces");
-    assert!(seen > 50_000);
+    assert!(seen > 50_000 && at_multiples > 5_000, "{at_multiples} up to a multiple");
 }
 
 /// Up to 32 segments, some of them large; and B, at most 2^32 - 1.

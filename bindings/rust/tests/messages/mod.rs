@@ -4,7 +4,8 @@
 use srp_target::{Message, Port, Refusal, Settings, Tables, TakeRefusal, Taken, MESSAGE_BYTES};
 
 pub const OWN: [u8; 16] = [1, 2, 3, 4, 5, 6, 7, 8, 9, 10, 11, 12, 13, 14, 15, 16];
-pub const SETTINGS: Settings = Settings { buffers: 4, maximum: 512, longest: 1364, indirect: true, solicited: false };
+pub const SETTINGS: Settings =
+    Settings { buffers: 4, maximum: 512, boundary: 0, longest: 1364, indirect: true, solicited: false };
 pub const BOTH_FORMATS: u32 = 0b110;
 pub const LUN: u64 = 0x0102_0304_0506_0708;
 
@@ -38,7 +39,11 @@ pub fn login_request() -> [u8; 64] {
 
 /// An open port with 4 buffers and pieces of up to 512 bytes.
 pub fn open_port() -> Port {
-    let (port, _) = Port::login(&SETTINGS, &OWN, &login_request(), &mut lent()).expect("the login is accepted");
+    port_with(&SETTINGS)
+}
+
+pub fn port_with(settings: &Settings) -> Port {
+    let (port, _) = Port::login(settings, &OWN, &login_request(), &mut lent()).expect("the login is accepted");
     port
 }
 

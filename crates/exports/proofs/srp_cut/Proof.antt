@@ -12,7 +12,7 @@ number-of-requires c κs = search needs
 
 returns : tie.Need-returns
 returns c =
-    short (cutAnswer (cutDef (c .before .before .before .before .args .list .now) (c .before .before .before .before .args .m) (c .before .before .before .before .args .r) (c .before .before .before .before .args .handed))) (c .before .before .before .before .args .buf .now) (c .before .if1 .taken) (c .number-of .ensures)
+    short (cutAnswer (cutDef (c .before .before .before .before .args .list .now) (c .before .before .before .before .args .m) (c .before .before .before .before .args .q) (c .before .before .before .before .args .r) (c .before .before .before .before .args .handed))) (c .before .before .before .before .args .buf .now) (c .before .if1 .taken) (c .number-of .ensures)
 
 cut-requires : tie.Need-cut-requires
 cut-requires c κs = search needs

@@ -1,6 +1,6 @@
 -- `login::bad_settings` meets its contract. Each return is the law of the test that hits there.
 -- Assumes nothing.
-use Rattle.login.proofs.Deciding.{no-buffers, many-buffers, no-piece, large-piece, low-length, high-length}
+use Rattle.login.proofs.Deciding.{no-buffers, many-buffers, no-piece, large-piece, bad-boundary, low-length, high-length}
 use Rattle.login.proofs.bad_settings.Statement.{statement}
 use Rattle.login.proofs.bad_settings.Tie as tie
 

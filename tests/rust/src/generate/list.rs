@@ -2,6 +2,7 @@
 
 use super::lent;
 use crate::calls::Cut;
+use crate::limits::Limits;
 use crate::model::MemoryDescriptor;
 use crate::random::Random;
 
@@ -10,10 +11,12 @@ pub fn list_of(segments: &[MemoryDescriptor]) -> Vec<u8> {
     segments.iter().flat_map(|segment| segment.to_bytes()).collect()
 }
 
-/// A segment of that length; its end may be the last byte of memory or just miss it.
-pub fn segment(random: &mut Random, length: u32, may_pass: bool) -> MemoryDescriptor {
+/// A segment of that length; its end may be the last byte of memory or just miss it. With a boundary, often a multiple
+/// of Q stands in it or at its ends.
+pub fn segment(random: &mut Random, length: u32, q: u64, may_pass: bool) -> MemoryDescriptor {
     let last = 0u64.wrapping_sub(u64::from(length)); // address + length = 2^64; 0 for length 0
     let address = match random.below(8) {
+        _ if is_boundary(q) && random.one_in(2) => before_multiple(random, q, length),
         0 => last,
         1 => last.wrapping_sub(1),
         2 if may_pass => last.wrapping_add(1),
@@ -24,6 +27,28 @@ pub fn segment(random: &mut Random, length: u32, may_pass: bool) -> MemoryDescri
     };
     let passes = u128::from(address) + u128::from(length) > 1 << 64;
     MemoryDescriptor { address: if passes && !may_pass { last } else { address }, handle: handle(random), length }
+}
+
+pub fn is_boundary(q: u64) -> bool {
+    (512..=1 << 32).contains(&q) && q.is_power_of_two()
+}
+
+/// An address up to a segment's length before a multiple of Q, or one byte behind it.
+fn before_multiple(random: &mut Random, q: u64, length: u32) -> u64 {
+    let multiple = (random.u64() >> 1 | 1 << 33) / q * q; // at least 2^33
+    let (length, below) = (u64::from(length), random.up_to(length.into()));
+    multiple + 1 - random.of(&[0, 1, 2, below, below, below, length, length + 1])
+}
+
+/// Q of a login or of the cut: none, small ones, any power of two that is one, and some that are none.
+pub fn boundary(random: &mut Random) -> u64 {
+    let any = random.u64();
+    match random.below(16) {
+        0 => random.of(&[1, 2, 256, 511, 513, 768, (1 << 32) + 512, 1 << 33, 1 << 63, u64::MAX, any]),
+        1..=5 => 0,
+        6..=10 => random.of(&[512, 512, 1024, 4096]),
+        _ => 1 << (9 + random.below(24)),
+    }
 }
 
 fn handle(random: &mut Random) -> u32 {
@@ -112,7 +137,7 @@ fn longest_piece(random: &mut Random) -> u32 {
 
 impl Cut {
     pub fn random(random: &mut Random) -> Self {
-        let m = longest_piece(random);
+        let (m, q) = (longest_piece(random), boundary(random));
         let counts = if random.one_in(24) { (33, 35) } else { random.of(&[(0, 3), (0, 32), (0, 32), (32, 32)]) };
         let count = counts.0 + random.below(counts.1 - counts.0 + 1);
         let mut lengths = lengths(random, count, m);
@@ -120,7 +145,8 @@ impl Cut {
             bring_sum_to(&mut lengths, sum_near_2_32(random));
         }
         let may_pass = random.one_in(8);
-        let segments: Vec<MemoryDescriptor> = lengths.iter().map(|&length| segment(random, length, may_pass)).collect();
+        let segments: Vec<MemoryDescriptor> =
+            lengths.iter().map(|&length| segment(random, length, q, may_pass)).collect();
         let b: u64 = lengths.iter().map(|&length| u64::from(length)).sum();
         let r = near(random, b).min(u64::from(u32::MAX)) as u32;
         let handed = handed_out(random, &lengths, m, b.min(u64::from(r))).min(u64::from(u32::MAX)) as u32;
@@ -129,6 +155,6 @@ impl Cut {
             let length = (list.len() + random.below(31)).saturating_sub(15);
             list.resize(length, random.u8());
         }
-        Cut { list, m, r, handed, lent: lent(random) }
+        Cut { list, limits: Limits { m, q }, r, handed, lent: lent(random) }
     }
 }

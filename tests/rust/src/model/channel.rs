@@ -4,6 +4,7 @@ use std::ops::Range;
 
 use super::command::Request;
 use super::cutting::sum_of_lengths;
+use crate::limits::Limits;
 
 /// "Without an accepted login it is closed": None.
 #[derive(Clone, Debug, Default, PartialEq, Eq)]
@@ -28,8 +29,8 @@ pub struct Agreement {
     pub length: u32,
     /// The agreed formats: the required ones.
     pub formats: u32,
-    /// M.
-    pub longest_piece: u32,
+    /// M and Q.
+    pub limits: Limits,
     pub crsolnt: bool,
     pub losolnt: bool,
 }

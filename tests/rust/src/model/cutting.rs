@@ -1,6 +1,9 @@
 //! Segments and the cut.
 
+use std::iter;
+
 use super::{MemoryDescriptor, Refusal};
+use crate::limits::Limits;
 
 /// The part of a segment that one RDMA operation moves, and its place in the buffer.
 #[derive(Clone, Copy, Debug, PartialEq, Eq)]
@@ -19,16 +22,17 @@ pub fn sum_of_lengths(list: &[u8]) -> u64 {
     segments(list).map(|segment| u64::from(segment.length)).sum()
 }
 
-/// "Settings: .. M 1 to 1,048,576."
-pub fn lawful_m(m: u32) -> bool {
-    (1..=1_048_576).contains(&m)
+/// "Settings: .. M 1 to 1,048,576"; "Q, 0 for none, or a power of two from 512 to 2^32".
+pub fn are_lawful(limits: Limits) -> bool {
+    let mut powers = iter::successors(Some(512), |power| Some(2 * power)).take_while(|&power| power <= 1 << 32);
+    (1..=1_048_576).contains(&limits.m) && (limits.q == 0 || powers.any(|power| power == limits.q))
 }
 
 /// The cut: the next piece, or None for done. "It refuses 2 for M out of range; 11 for a list not a multiple of 16 up
 /// to 512 bytes, or more handed out than min(R, B); 10 for a segment past 2^64 or a sum above 2^32 - 1; the list's 11
-/// before 10, the other after."
-pub fn cut(list: &[u8], m: u32, r: u32, handed: u32) -> Result<Option<Piece>, Refusal> {
-    if !lawful_m(m) {
+/// before 10, the other after." "A bad Q draws refusal 2."
+pub fn cut(list: &[u8], limits: Limits, r: u32, handed: u32) -> Result<Option<Piece>, Refusal> {
+    if !are_lawful(limits) {
         return Err(Refusal::Setting);
     }
     if list.len() % MemoryDescriptor::BYTES != 0 || list.len() > 512 {
@@ -42,7 +46,7 @@ pub fn cut(list: &[u8], m: u32, r: u32, handed: u32) -> Result<Option<Piece>, Re
     if u64::from(handed) > end {
         return Err(Refusal::Argument);
     }
-    Ok(next_piece(list, u64::from(m), u64::from(handed), end))
+    Ok(next_piece(list, limits, u64::from(handed), end))
 }
 
 /// "A segment with address + length above 2^64 (equal is fine)."
@@ -64,15 +68,29 @@ fn holding(list: &[u8], offset: u64) -> Option<(MemoryDescriptor, u64)> {
 }
 
 /// "The first min(R, B) bytes are cut segment by segment, zero-length segments skipped, each piece as long as possible
-/// up to M." Here the bytes up to `end`, which is at most B, after the first `handed`.
-pub fn next_piece(list: &[u8], m: u64, handed: u64, end: u64) -> Option<Piece> {
+/// up to M." "A piece now ends at the nearest of M, the segment's end, the move's end and the next multiple of Q above
+/// its first address." Here the bytes up to `end`, which is at most B, after the first `handed`. Where a piece ends is
+/// an address too; it may be 2^64.
+pub fn next_piece(list: &[u8], limits: Limits, handed: u64, end: u64) -> Option<Piece> {
     if handed >= end {
         return None;
     }
     let (segment, earlier) = holding(list, handed)?;
-    let within = handed - earlier;
-    let left = (u64::from(segment.length) - within).min(end - handed);
-    let address = segment.address + within;
-    let memory = MemoryDescriptor { address, handle: segment.handle, length: m.min(left) as u32 };
+    let address = segment.address + (handed - earlier);
+    let first = u128::from(address);
+    let ends = [
+        Some(first + u128::from(limits.m)),
+        Some(u128::from(segment.address) + u128::from(segment.length)),
+        Some(first + u128::from(end - handed)),
+        next_multiple(first, limits.q),
+    ];
+    let nearest = ends.into_iter().flatten().min()?;
+    let memory = MemoryDescriptor { address, handle: segment.handle, length: (nearest - first) as u32 };
     Some(Piece { memory, offset: handed as u32 })
+}
+
+/// "The next multiple of Q above" an address; none where Q is 0.
+fn next_multiple(address: u128, q: u64) -> Option<u128> {
+    let q = u128::from(q);
+    address.checked_div(q).map(|below| (below + 1) * q)
 }

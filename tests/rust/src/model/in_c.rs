@@ -1,6 +1,7 @@
 //! Look and the cut in their C forms.
 
 use super::{cut, look, Refusal};
+use crate::limits::Limits;
 
 /// "In C the answer takes 32 bytes (a shorter buffer draws 1 first)."
 pub const ANSWER_BYTES: usize = 32;
@@ -17,10 +18,10 @@ pub fn look_in_c(msg: &[u8], agreed: u32, formats: u32, buf: &mut [u8]) -> u32 {
 }
 
 /// The cut in its C form: "the piece and then its offset (4 bytes)"; "done .. and unused bytes are 0".
-pub fn cut_in_c(list: &[u8], m: u32, r: u32, handed: u32, buf: &mut [u8]) -> u32 {
+pub fn cut_in_c(list: &[u8], limits: Limits, r: u32, handed: u32, buf: &mut [u8]) -> u32 {
     answer(buf, || {
         let mut bytes = [0; ANSWER_BYTES];
-        if let Some(piece) = cut(list, m, r, handed)? {
+        if let Some(piece) = cut(list, limits, r, handed)? {
             bytes[0..16].copy_from_slice(&piece.memory.to_bytes());
             bytes[16..20].copy_from_slice(&piece.offset.to_be_bytes());
         }

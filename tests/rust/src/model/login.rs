@@ -1,24 +1,27 @@
 //! Login.
 
 use super::channel::{Agreement, Channel, Credit, Port};
-use super::cutting::lawful_m;
+use super::cutting::are_lawful;
 use super::writing::{login_rejection, login_response, write, Answer, LENT_BYTES};
 use super::{number, Refusal};
+use crate::limits::Limits;
 
-/// "Settings: N 1 to 16, M 1 to 1,048,576, X 64 to 1,364 (longest message), indirect yes/no, solicited yes/no."
+/// "Settings: N 1 to 16, M 1 to 1,048,576, X 64 to 1,364 (longest message), indirect yes/no, solicited yes/no." "Login
+/// gains a setting Q."
 struct Settings {
     n: u32,
-    m: u32,
+    limits: Limits,
     x: u32,
     indirect: bool,
     solicited: bool,
 }
 
 impl Settings {
-    fn lawful(words: &[u32; 5]) -> Option<Settings> {
+    fn lawful(words: &[u32; 5], q: u64) -> Option<Settings> {
         let [n, m, x, indirect, solicited] = *words;
-        let lawful = (1..=16).contains(&n) && lawful_m(m) && (64..=1364).contains(&x);
-        lawful.then_some(Settings { n, m, x, indirect: indirect != 0, solicited: solicited != 0 })
+        let limits = Limits { m, q };
+        let lawful = (1..=16).contains(&n) && are_lawful(limits) && (64..=1364).contains(&x);
+        lawful.then_some(Settings { n, limits, x, indirect: indirect != 0, solicited: solicited != 0 })
     }
 
     /// "Supported formats (0006h or 0002h)."
@@ -77,22 +80,23 @@ impl Port {
     pub fn login(
         &mut self,
         settings: &[u32; 5],
+        q: u64,
         own: &[u8; 16],
         msg: &[u8],
         buf: &mut [u8],
         answer: &mut Answer,
     ) -> u32 {
         (*self, *answer) = (Port::default(), [0; 8]);
-        match self.logged_in(settings, own, msg, buf, answer) {
+        match self.logged_in(Settings::lawful(settings, q), own, msg, buf, answer) {
             Ok(()) => 0,
             Err(refusal) => refusal.number(),
         }
     }
 
-    /// "Refused 1, 2, 3 (not 64 bytes), 4 in that order."
+    /// "Refused 1, 2, 3 (not 64 bytes), 4 in that order." Without lawful settings 2.
     fn logged_in(
         &mut self,
-        settings: &[u32; 5],
+        settings: Option<Settings>,
         own: &[u8; 16],
         msg: &[u8],
         buf: &mut [u8],
@@ -101,7 +105,7 @@ impl Port {
         if buf.len() < LENT_BYTES {
             return Err(Refusal::ShortBuffer);
         }
-        let settings = Settings::lawful(settings).ok_or(Refusal::Setting)?;
+        let settings = settings.ok_or(Refusal::Setting)?;
         if msg.len() != 64 {
             return Err(Refusal::Length);
         }
@@ -128,7 +132,7 @@ impl Channel {
             agreement: Agreement {
                 length: request.length,
                 formats: u32::from(request.formats),
-                longest_piece: settings.m,
+                limits: settings.limits,
                 crsolnt: request.crsolnt,
                 losolnt: request.losolnt,
             },

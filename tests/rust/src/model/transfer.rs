@@ -4,6 +4,7 @@ use super::channel::{Channel, OpenCommand, Port, Transfer};
 use super::cutting::next_piece;
 use super::writing::Answer;
 use super::Refusal;
+use crate::limits::Limits;
 
 impl OpenCommand {
     /// "Direction: 0 out, else in."
@@ -17,20 +18,20 @@ impl OpenCommand {
 }
 
 impl Port {
-    /// The open command with that tag, and M. "21 closed .. 24 tag not open."
-    fn command(&mut self, tag: u64) -> Result<(&mut OpenCommand, u32), Refusal> {
+    /// The open command with that tag, M and Q. "21 closed .. 24 tag not open."
+    fn command(&mut self, tag: u64) -> Result<(&mut OpenCommand, Limits), Refusal> {
         let channel: &mut Channel = self.channel.as_mut().ok_or(Refusal::Closed)?;
         let place = channel.place_of(tag).ok_or(Refusal::TagNotOpen)?;
-        Ok((&mut channel.commands[place], channel.agreement.longest_piece))
+        Ok((&mut channel.commands[place], channel.agreement.limits))
     }
 
     /// As `command`, then 29.
-    fn planned(&mut self, tag: u64) -> Result<(&mut OpenCommand, u32), Refusal> {
-        let (command, m) = self.command(tag)?;
+    fn planned(&mut self, tag: u64) -> Result<(&mut OpenCommand, Limits), Refusal> {
+        let (command, limits) = self.command(tag)?;
         if !command.planned {
             return Err(Refusal::Unplanned);
         }
-        Ok((command, m))
+        Ok((command, limits))
     }
 
     /// "Plan states once per command, for each direction, R." 21, 24, 30. "Plan alone starts none": no move.
@@ -71,22 +72,22 @@ impl Port {
     /// that direction's current move". 21, 24, 29.
     pub fn step(&mut self, tag: u64, direction: u32, answer: &mut Answer) -> u32 {
         *answer = [0; 8];
-        let (command, m) = match self.planned(tag) {
+        let (command, limits) = match self.planned(tag) {
             Err(refusal) => return refusal.number(),
             Ok(found) => found,
         };
         // "Data-out gives RDMA Reads, data-in RDMA Writes."
         let operation = if direction == 0 { 1 } else { 2 };
-        hand_out(command.transfer(direction), operation, m, answer);
+        hand_out(command.transfer(direction), operation, limits, answer);
         0
     }
 }
 
 /// "An operation is kind, handle, address, length, offset in the buffer." "Step's answers carry the number handed out so
 /// far for the current move, their own piece included": done's too.
-fn hand_out(transfer: &mut Transfer, operation: u64, m: u32, answer: &mut Answer) {
+fn hand_out(transfer: &mut Transfer, operation: u64, limits: Limits, answer: &mut Answer) {
     let current = &mut transfer.current;
-    if let Some(piece) = next_piece(&transfer.segments, u64::from(m), current.start, current.end) {
+    if let Some(piece) = next_piece(&transfer.segments, limits, current.start, current.end) {
         let (memory, offset) = (piece.memory, u64::from(piece.offset));
         current.start += u64::from(memory.length);
         transfer.reached = transfer.reached.max(current.start);

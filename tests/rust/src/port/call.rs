@@ -7,7 +7,7 @@ use crate::model::writing::Answer;
 /// A call of include/srp_target.h on a port. A lent buffer or record list stands as what it holds before the call.
 #[derive(Clone, Debug)]
 pub enum Call {
-    Login { settings: [u32; 5], own: [u8; 16], msg: Vec<u8>, buf: Vec<u8> },
+    Login { settings: [u32; 5], boundary: u64, own: [u8; 16], msg: Vec<u8>, buf: Vec<u8> },
     Take { msg: Vec<u8>, tables: [Vec<u8>; 2], buf: Vec<u8> },
     Plan { tag: u64, r_out: u32, r_in: u32 },
     Move { tag: u64, direction: u32, offset: u32, count: u32 },
@@ -126,9 +126,9 @@ impl Call {
     /// The call on the library; `lent` holds what the call has of it.
     pub fn on_library(&self, port: interface::Port, lent: Lent) -> u32 {
         match *self {
-            Call::Login { .. } => {
+            Call::Login { boundary, .. } => {
                 let settings = lent.settings.try_into().expect("five settings");
-                port.login(settings, lent.own.try_into().expect("16 bytes"), lent.input, lent.buf)
+                port.login(settings, boundary, lent.own.try_into().expect("16 bytes"), lent.input, lent.buf)
             }
             Call::Take { .. } => port.take(lent.input, lent.tables, lent.buf),
             Call::Plan { tag, r_out, r_in } => port.plan(tag, r_out, r_in),
@@ -149,7 +149,9 @@ impl Target for model::Port {
     fn call(&mut self, call: &Call) -> Outcome {
         let (mut buf, mut records, mut answer) = (call.buf().to_vec(), call.records().to_vec(), UNWRITTEN);
         let returned = match call {
-            Call::Login { settings, own, msg, .. } => self.login(settings, own, msg, &mut buf, &mut answer),
+            Call::Login { settings, boundary, own, msg, .. } => {
+                self.login(settings, *boundary, own, msg, &mut buf, &mut answer)
+            }
             Call::Take { msg, tables: [out, inn], .. } => self.take(msg, out, inn, &mut buf, &mut answer),
             Call::Plan { tag, r_out, r_in } => self.plan(*tag, *r_out, *r_in),
             Call::Move { tag, direction, offset, count } => self.name_move(*tag, *direction, *offset, *count),

@@ -7,9 +7,13 @@ use super::generate::Generator;
 use super::heap::Heap;
 use super::kinds;
 use super::library::Library;
+use crate::generate::{boundary, is_boundary};
 use crate::model;
 use crate::random::Random;
 use crate::tally::Tally;
+
+/// The word of a port that has Q, as itself.
+pub const BOUNDARY_WORD: usize = 10;
 
 /// A target whose memory can be overwritten.
 pub trait InMemory: Target {
@@ -35,6 +39,8 @@ pub struct Garbage<T> {
     generator: Generator,
     random: Random,
     pub tally: Tally,
+    /// Pieces, by what stands for Q in the words.
+    pub pieces: Tally,
 }
 
 impl<T: InMemory> Garbage<T> {
@@ -45,6 +51,7 @@ impl<T: InMemory> Garbage<T> {
             generator: Generator::new(seed),
             random: Random::new(!seed),
             tally: Tally::default(),
+            pieces: Tally::default(),
         }
     }
 
@@ -83,6 +90,9 @@ impl<T: InMemory> Garbage<T> {
                 }
             }
         }
+        if random.one_in(2) {
+            memory.words[BOUNDARY_WORD] = boundary(random);
+        }
         if random.one_in(3) {
             memory.store = random.bytes(memory.store.len());
         }
@@ -102,7 +112,7 @@ impl<T: InMemory> Garbage<T> {
     }
 
     /// An outcome that the call has on some port, and messages of their lengths.
-    fn assert_lawful(&self, call: &Call, outcome: &Outcome) {
+    fn assert_lawful(&mut self, call: &Call, outcome: &Outcome) {
         let kind = kinds::outcome(call, outcome);
         assert!(kinds::OUTCOMES.contains(&kind.as_str()), "{kind}: {call:02x?}\n{outcome:02x?}");
         if let (Call::Take { .. }, returned) = (call, outcome.returned) {
@@ -113,13 +123,30 @@ impl<T: InMemory> Garbage<T> {
             };
             assert_eq!(outcome.answer[0], length, "{call:02x?}\n{outcome:02x?}");
         }
-        if let (Call::Step { direction, .. }, [1, operation, _, _, length, offset, number, _]) = (call, outcome.answer)
+        if let (Call::Step { direction, .. }, [1, operation, _, address, length, offset, number, _]) =
+            (call, outcome.answer)
         {
             assert_eq!(operation, if *direction == 0 { 1 } else { 2 }, "RDMA Read or Write");
             assert!((1..=1_048_576).contains(&length), "a piece of {length} bytes");
             // Each operation before it had a byte below its offset.
             assert!((1..=offset + 1).contains(&number), "{number} operations up to a piece at {offset}");
+            self.assert_bounded(address, length);
         }
+    }
+
+    /// A piece crosses no multiple of the Q that stands in the words; of a bad one it may, as where there is none.
+    fn assert_bounded(&mut self, address: u64, length: u64) {
+        let q = self.target.memory().words[BOUNDARY_WORD];
+        let last = address.wrapping_add(length - 1);
+        let crosses = q > 0 && address / q != last / q;
+        assert!(!is_boundary(q) || !crosses, "{length} bytes at {address:x}, Q {q}");
+        let kind = match q {
+            0 => "no boundary",
+            _ if is_boundary(q) => "a boundary",
+            _ if crosses => "a bad boundary, across a multiple",
+            _ => "a bad boundary, across none",
+        };
+        self.pieces.add(kind);
     }
 
     /// A step that is not refused, made once more: its number goes on from the first one's.

@@ -1,5 +1,7 @@
 //! Names for what a call came to, so that a tally shows that all of it came up.
 
+pub mod logins;
+mod messages;
 pub mod moves;
 
 use super::call::{Call, Outcome};
@@ -99,7 +101,7 @@ pub fn outcome(call: &Call, outcome: &Outcome) -> String {
 }
 
 /// Further kinds, several a call: what a command was like, why it was refused, what a message says. `moves` has those
-/// of move and step.
+/// of move and step, `logins` those of a login's boundary.
 pub const FEATURES: [&str; 72] = [
     "SRP_CRED_REQ, delta above 1",
     "SRP_CRED_REQ, delta 1",
@@ -177,7 +179,7 @@ pub const FEATURES: [&str; 72] = [
 
 /// The features of a call, by the port before it.
 pub fn features(call: &Call, outcome: &Outcome, before: &Port) -> Vec<String> {
-    let mut found = Vec::new();
+    let mut found = logins::features(call, outcome);
     if let (Call::Take { msg, tables, .. }, Some(channel)) = (call, &before.channel) {
         match outcome.returned {
             0 if outcome.answer[1] == 1 => found.extend(of_command(msg, tables, channel)),
@@ -189,17 +191,18 @@ pub fn features(call: &Call, outcome: &Outcome, before: &Port) -> Vec<String> {
     }
     if let (Call::Move { tag, .. } | Call::Step { tag, .. }, Some(channel)) = (call, &before.channel) {
         let command = channel.place_of(*tag).map(|place| &channel.commands[place]);
-        found.extend(command.into_iter().flat_map(|command| moves::features(call, outcome, command)));
+        let limits = channel.agreement.limits;
+        found.extend(command.into_iter().flat_map(|command| moves::features(call, outcome, command, limits)));
     }
     if let (Call::Finish { tag, .. }, Some(channel), 0) = (call, &before.channel, outcome.returned) {
-        found.extend(of_residuals(&outcome.buf, *tag, channel));
+        found.extend(messages::of_residuals(&outcome.buf, *tag, channel));
     }
     if matches!(call, Call::Counters) && outcome.returned == 0 {
         let sign = ["below 0", "0", "above 0"][((outcome.answer[3] as i64).signum() + 1) as usize];
         found.push(format!("owed: {sign}"));
     }
     if !call.buf().is_empty() && outcome.answer[0] > 0 {
-        found.extend(of_message(outcome.message()));
+        found.extend(messages::of_message(outcome.message()));
     }
     found
 }
@@ -255,44 +258,4 @@ fn of_hang_up(refusal: u32, msg: &[u8], channel: &Channel) -> Option<String> {
         _ => return None,
     };
     Some(kind.into())
-}
-
-fn of_residuals(buf: &[u8], tag: u64, channel: &Channel) -> Vec<String> {
-    let planned = channel.place_of(tag).is_some_and(|place| channel.commands[place].planned);
-    let flags = buf[18];
-    let kinds = [
-        (!planned, "finish, unplanned"),
-        (flags & 0b11_1100 == 0, "finish, no residual"),
-        (flags & 1 << 2 != 0, "finish, out over"),
-        (flags & 1 << 3 != 0, "finish, out under"),
-        (flags & 1 << 4 != 0, "finish, in over"),
-        (flags & 1 << 5 != 0, "finish, in under"),
-    ];
-    kinds.into_iter().filter(|(fits, _)| *fits).map(|(_, kind)| kind.into()).collect()
-}
-
-fn of_message(message: &[u8]) -> Vec<String> {
-    let name = match message[0] {
-        0x80 => "SRP_T_LOGOUT",
-        0x81 => "SRP_CRED_REQ",
-        0xc0 => "SRP_LOGIN_RSP",
-        0xc1 => "SRP_RSP",
-        0xc2 => "SRP_LOGIN_REJ",
-        _ => "another message",
-    };
-    let mut found = match (message[0], number(&message[4..8])) {
-        (0x80, reason @ (0 | 6..=9)) => vec![format!("{name}, reason {reason}")],
-        (0x80, _) => vec![format!("{name}, another reason")],
-        (0x81 | 0xc1, delta @ (0 | 1)) => vec![format!("{name}, delta {delta}")],
-        (0x81 | 0xc1, _) => vec![format!("{name}, delta above 1")],
-        _ => vec![name.into()],
-    };
-    if message[0] != 0xc0 && message[0] != 0xc2 && message[1] == 1 {
-        found.push(format!("{name}, notified"));
-    }
-    if message[0] == 0xc1 && message[18] & 1 << 1 != 0 {
-        found.push(format!("{name}, sense"));
-        found.extend((message.len() == 132).then(|| format!("{name}, sense of 96 bytes")));
-    }
-    found
 }

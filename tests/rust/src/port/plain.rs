@@ -5,6 +5,7 @@ use super::frame::Memory;
 use super::generate::Data;
 use crate::generate::{list_of, Descriptor};
 use crate::interface::Port;
+use crate::limits::Limits;
 use crate::model::writing::Answer;
 use crate::model::MemoryDescriptor;
 use crate::random::Random;
@@ -17,15 +18,17 @@ pub fn buffer(length: usize) -> Vec<u8> {
     (0..length).map(|i| (i % 251) as u8 ^ 0x5b).collect()
 }
 
-/// A login that is accepted: N buffers, M, an agreed length, required formats. Whatever is not read is random.
-pub fn login(random: &mut Random, n: u32, m: u32, agreed: u32, formats: u16) -> Call {
+/// A login that is accepted: N buffers, M and perhaps Q, an agreed length, required formats. Whatever is not read is
+/// random.
+pub fn login(random: &mut Random, n: u32, limits: impl Into<Limits>, agreed: u32, formats: u16) -> Call {
+    let Limits { m, q } = limits.into();
     let mut msg = random.bytes(64);
     msg[0] = 0x00;
     msg[16..20].copy_from_slice(&agreed.to_be_bytes());
     msg[24..26].copy_from_slice(&formats.to_be_bytes());
     msg[26] &= !0b11;
     msg[48..64].copy_from_slice(&OWN);
-    Call::Login { settings: [n, m, 1364, 1, 1], own: OWN, msg, buf: buffer(132) }
+    Call::Login { settings: [n, m, 1364, 1, 1], boundary: q, own: OWN, msg, buf: buffer(132) }
 }
 
 /// A port in memory that nothing guards, and the answer words of the last call.
@@ -36,12 +39,14 @@ pub struct Plain {
 
 impl Plain {
     /// After a login with the longest messages and both formats.
-    pub fn after_login(n: u32, m: u32) -> Self {
-        let Call::Login { settings, own, msg, mut buf } = login(&mut Random::new(1), n, m, 1364, 0b110) else {
+    pub fn after_login(n: u32, limits: impl Into<Limits>) -> Self {
+        let login = login(&mut Random::new(1), n, limits, 1364, 0b110);
+        let Call::Login { settings, boundary, own, msg, mut buf } = login else {
             unreachable!("a login");
         };
         let mut plain = Plain { memory: Memory::default(), answer: UNWRITTEN };
-        assert_eq!((plain.port().login(&settings, &own, &msg, &mut buf), plain.answer[0]), (0, 52), "accepted");
+        let returned = plain.port().login(&settings, boundary, &own, &msg, &mut buf);
+        assert_eq!((returned, plain.answer[0]), (0, 52), "accepted");
         plain
     }
 

@@ -1,81 +1,17 @@
 //! The rows of tests/rows that are calls on a port.
 
+mod counts;
+
 use super::call::{Call, Outcome, Target, UNWRITTEN};
 use crate::model::number as field;
 use crate::model::writing::Answer;
 use crate::rows::{self, bytes, job, long, number};
 
-/// The kinds of rows of base.rows, and how many there are of each.
-const BASE: [(&str, usize); 11] = [
-    ("login", 652),
-    ("take", 1393),
-    ("plan", 98),
-    ("step", 134),
-    ("finish", 142),
-    ("add", 106),
-    ("withdraw", 112),
-    ("grant", 248),
-    ("close", 70),
-    ("list", 1186),
-    ("counters", 2337),
-];
-
-/// Those of job1.rows.
-const JOB_1: [(&str, usize); 13] = [
-    ("session", 160),
-    ("login", 189),
-    ("take", 673),
-    ("plan", 343),
-    ("move", 311),
-    ("step", 298),
-    ("finish", 286),
-    ("add", 483),
-    ("withdraw", 494),
-    ("grant", 718),
-    ("close", 16),
-    ("list", 926),
-    ("counters", 1383),
-];
-
-/// Those of job4.rows.
-const JOB_4: [(&str, usize); 13] = [
-    ("session", 160),
-    ("login", 182),
-    ("take", 912),
-    ("plan", 459),
-    ("move", 438),
-    ("step", 276),
-    ("finish", 289),
-    ("add", 358),
-    ("withdraw", 292),
-    ("grant", 682),
-    ("close", 32),
-    ("list", 1119),
-    ("counters", 1372),
-];
-
-/// Those of job5.rows.
-const JOB_5: [(&str, usize); 13] = [
-    ("session", 160),
-    ("login", 178),
-    ("take", 845),
-    ("plan", 501),
-    ("move", 504),
-    ("step", 234),
-    ("finish", 281),
-    ("add", 308),
-    ("withdraw", 297),
-    ("grant", 503),
-    ("close", 32),
-    ("list", 1111),
-    ("counters", 1307),
-];
-
 /// Runs the rows of base.rows in their order. "There is one current port. `login` replaces it, whatever its answer."
 /// They know no moves: after each plan that is not refused each direction gets one, offset 0, count R.
 pub fn run_base(target: &mut impl Target, through: &str) {
-    rows::run(rows::BASE, &BASE, through, |words| {
-        let (call, returned) = judge(target, words, 0)?;
+    rows::run(rows::BASE, &counts::BASE, through, |words| {
+        let (call, returned) = judge(target, &job::with_no_boundary(words), 0)?;
         if let (Call::Plan { tag, r_out, r_in }, 0) = (call, returned) {
             for (direction, count) in [(0, r_out), (1, r_in)] {
                 let named = target.call(&Call::Move { tag, direction, offset: 0, count });
@@ -87,15 +23,19 @@ pub fn run_base(target: &mut impl Target, through: &str) {
 }
 
 pub fn run_job_1(target: &mut impl Target, through: &str) {
-    run_job(rows::JOB_1, &JOB_1, 1, target, through);
+    run_job(rows::JOB_1, &counts::JOB_1, 1, target, through);
 }
 
 pub fn run_job_4(target: &mut impl Target, through: &str) {
-    run_job(rows::JOB_4, &JOB_4, 4, target, through);
+    run_job(rows::JOB_4, &counts::JOB_4, 4, target, through);
 }
 
 pub fn run_job_5(target: &mut impl Target, through: &str) {
-    run_job(rows::JOB_5, &JOB_5, 5, target, through);
+    run_job(rows::JOB_5, &counts::JOB_5, 5, target, through);
+}
+
+pub fn run_job_6(target: &mut impl Target, through: &str) {
+    run_job(rows::JOB_6, &counts::JOB_6, 6, target, through);
 }
 
 /// Runs the rows of a job's file in their order. A session begins with a closed port.
@@ -112,7 +52,7 @@ fn run_job(file: &str, kinds: &[(&str, usize)], level: u32, target: &mut impl Ta
 
 /// By a login that is refused.
 fn close(target: &mut impl Target) -> Result<(), String> {
-    let login = Call::Login { settings: [0; 5], own: [0; 16], msg: Vec::new(), buf: Vec::new() };
+    let login = Call::Login { settings: [0; 5], boundary: 0, own: [0; 16], msg: Vec::new(), buf: Vec::new() };
     match target.call(&login).returned {
         1 => Ok(()),
         other => Err(format!("a login without a buffer returned {other}")),
@@ -159,8 +99,9 @@ fn direction(word: &str) -> u32 {
 
 fn read_call(words: &[&str]) -> Call {
     match *words {
-        ["login", n, m, x, indirect, solicited, own, msg, length, fill] => Call::Login {
+        ["login", n, m, x, q, indirect, solicited, own, msg, length, fill] => Call::Login {
             settings: [n, m, x, indirect, solicited].map(number),
+            boundary: long(q),
             own: bytes(own).try_into().expect("16 bytes"),
             msg: bytes(msg),
             buf: lent(length, fill),
@@ -278,5 +219,10 @@ mod tests {
     #[test]
     fn order_rows() {
         super::run_job_5(&mut model::Port::default(), "the model");
+    }
+
+    #[test]
+    fn boundary_rows() {
+        super::run_job_6(&mut model::Port::default(), "the model");
     }
 }

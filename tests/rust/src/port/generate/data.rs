@@ -1,6 +1,7 @@
 //! A direction of a command: its descriptor, and the table to lend with it.
 
 use crate::generate::{lengths, list_of, segment, Descriptor};
+use crate::limits::Limits;
 use crate::model::MemoryDescriptor;
 use crate::random::Random;
 
@@ -12,15 +13,15 @@ pub struct Data {
 }
 
 /// Segments that a command may have: their sum fits 32 bits, and none passes 2^64.
-fn segments(random: &mut Random, count: usize, m: u32) -> Vec<MemoryDescriptor> {
+fn segments(random: &mut Random, count: usize, limits: Limits) -> Vec<MemoryDescriptor> {
     let mut left = u64::from(u32::MAX);
-    let fitting = lengths(random, count, m).into_iter().map(|length| {
+    let fitting = lengths(random, count, limits.m).into_iter().map(|length| {
         let length = u64::from(length).min(left);
         left -= length;
         length as u32
     });
     let lengths: Vec<u32> = fitting.collect();
-    lengths.into_iter().map(|length| segment(random, length, false)).collect()
+    lengths.into_iter().map(|length| segment(random, length, limits.q, false)).collect()
 }
 
 fn total(segments: &[MemoryDescriptor]) -> u32 {
@@ -37,22 +38,22 @@ impl Data {
     }
 
     /// In one of the agreed formats, and without a fault; `most` is the number of segments that may come up.
-    pub fn lawful(random: &mut Random, formats: u32, m: u32, most: usize) -> Self {
+    pub fn lawful(random: &mut Random, formats: u32, limits: Limits, most: usize) -> Self {
         let agreed: Vec<u32> = [0, 1, 1, 2, 2].into_iter().filter(|&at| at == 0 || formats & 1 << at != 0).collect();
         match agreed[random.below(agreed.len())] {
             0 => Data::none(),
-            1 => Data { descriptor: Descriptor::Direct(segments(random, 1, m)[0]), table: Vec::new() },
-            _ => Data::indirect(random, m, most),
+            1 => Data { descriptor: Descriptor::Direct(segments(random, 1, limits)[0]), table: Vec::new() },
+            _ => Data::indirect(random, limits, most),
         }
     }
 
-    fn indirect(random: &mut Random, m: u32, most: usize) -> Self {
+    fn indirect(random: &mut Random, limits: Limits, most: usize) -> Self {
         let count = match random.below(8) {
             0..=2 => 1 + random.below(3.min(most)),
             3 | 4 => most,
             _ => 1 + random.below(most),
         };
-        let segments = segments(random, count, m);
+        let segments = segments(random, count, limits);
         let copied = match random.below(3) {
             0 => 0,
             1 => count,
@@ -130,7 +131,7 @@ fn pass_the_end(random: &mut Random, copies: &mut [MemoryDescriptor], lent: &mut
 fn sum_of_2_32(random: &mut Random) -> Data {
     let first = 1 + random.u32() / 2;
     let lengths = [first, 0u32.wrapping_sub(first).wrapping_add(random.of(&[0, 1, 600]))];
-    let segments = lengths.map(|length| segment(random, length, false)).to_vec();
+    let segments = lengths.map(|length| segment(random, length, 0, false)).to_vec();
     let table = memory(random, 32);
     Data { table: Vec::new(), descriptor: Descriptor::Indirect { table, total: total(&segments), copies: segments } }
 }
@@ -138,7 +139,7 @@ fn sum_of_2_32(random: &mut Random) -> Data {
 /// More than 32 copies.
 fn many_copies(random: &mut Random) -> Data {
     let count = 33 + random.below(4);
-    let segments = segments(random, count, 512);
+    let segments = segments(random, count, 512.into());
     let length = random.of(&[16 * count as u32, 512, 4096]);
     let table = memory(random, length);
     Data { table: Vec::new(), descriptor: Descriptor::Indirect { table, total: total(&segments), copies: segments } }

@@ -3,6 +3,7 @@
 use super::super::call::Call;
 use super::super::plain::OWN;
 use super::buffer;
+use crate::generate::boundary;
 use crate::random::Random;
 
 fn settings(random: &mut Random) -> [u32; 5] {
@@ -83,5 +84,5 @@ pub fn login(random: &mut Random) -> Call {
             }
         }
     }
-    Call::Login { settings, own: OWN, msg, buf: buffer(random) }
+    Call::Login { settings, boundary: boundary(random), own: OWN, msg, buf: buffer(random) }
 }

@@ -54,7 +54,7 @@ fn take_command(random: &mut Random, channel: &Channel, careful: bool) -> Call {
     let (tag, lun) = (tag(random, channel, careful), random.of(&LUNS));
     let (mut msg, mut data) = (Vec::new(), [Data::none(), Data::none()]);
     for most in [32, 8, 2, 1] {
-        data = [0, 1].map(|_| Data::lawful(random, agreement.formats, agreement.longest_piece, most));
+        data = [0, 1].map(|_| Data::lawful(random, agreement.formats, agreement.limits, most));
         if random.one_in(if careful { 8 } else { 3 }) {
             let at = random.below(2);
             damage(random, &mut data[at], careful, agreement.formats);

@@ -122,7 +122,7 @@ pub fn name_move(random: &mut Random, channel: &Channel) -> Call {
     let out = fits(data_out) && (!fits(data_in) || random.one_in(2)) || random.one_in(16);
     let (transfer, direction) = if out { (data_out, 0) } else { (data_in, random.of(&[1, 1, 2, 0x100, 0x8000_0000])) };
     let offset = offset(random, transfer);
-    let count = count(random, transfer, offset, u64::from(channel.agreement.longest_piece));
+    let count = count(random, transfer, offset, u64::from(channel.agreement.limits.m));
     let [offset, count] = [offset, count].map(|number| number.min(u64::from(u32::MAX)) as u32);
     Call::Move { tag: tag(random, chosen(command)), direction, offset, count }
 }

@@ -1,13 +1,15 @@
 //! Kinds of moves and of their pieces.
 
 use super::super::call::{Call, Outcome};
+use crate::judge::is_multiple;
+use crate::limits::Limits;
 use crate::model::channel::{OpenCommand, Transfer};
 use crate::model::segments;
 use crate::position;
 
 /// Several a call: where a move begins and ends, why one is refused, how far a piece goes, what its number is.
 /// `position` has where among the segments a move begins.
-pub const FEATURES: [&str; 31] = [
+pub const FEATURES: [&str; 36] = [
     "move, across a segment's end",
     "move, after several operations",
     "move, all of a direction",
@@ -35,14 +37,19 @@ pub const FEATURES: [&str; 31] = [
     "step, done after no operation",
     "step, done after one operation",
     "step, done after several operations",
+    "step, from a multiple of Q to the next",
+    "step, from a multiple of Q, shorter",
+    "step, no multiple of Q at its ends",
     "step, several operations the other way",
     "step, the first of its move",
+    "step, up to 2^64 with a boundary",
+    "step, up to a multiple of Q alone",
     "step, up to h at most",
     "step, without a piece ever",
 ];
 
-/// The features of a move or a step, by the command before it.
-pub fn features(call: &Call, outcome: &Outcome, command: &OpenCommand) -> Vec<String> {
+/// The features of a move or a step, by the command before it, and M and Q.
+pub fn features(call: &Call, outcome: &Outcome, command: &OpenCommand, limits: Limits) -> Vec<String> {
     let sides = |direction: u32| match direction {
         0 => [&command.data_out, &command.data_in],
         _ => [&command.data_in, &command.data_out],
@@ -56,7 +63,10 @@ pub fn features(call: &Call, outcome: &Outcome, command: &OpenCommand) -> Vec<St
                 refusal => of_refusal(refusal, moved, direction == 0, start),
             }
         }
-        Call::Step { direction, .. } if outcome.returned == 0 => of_step(&outcome.answer, sides(direction)),
+        Call::Step { direction, .. } if outcome.returned == 0 => {
+            let [moved, other] = sides(direction);
+            [of_step(&outcome.answer, [moved, other]), of_boundary(&outcome.answer, moved, limits)].concat()
+        }
         _ => Vec::new(),
     };
     kinds.into_iter().filter(|(fits, _)| *fits).map(|(_, kind)| kind.into()).collect()
@@ -127,5 +137,20 @@ fn of_step(answer: &[u64; 8], [moved, other]: [&Transfer; 2]) -> Kinds {
         (piece == 1 && number == 1, "step, the first of its move"),
         (piece == 1 && end <= moved.reached, "step, up to h at most"),
         (piece == 0 && moved.due() > 0 && moved.reached == 0, "step, without a piece ever"),
+    ]
+}
+
+/// Where the piece of a step stands between multiples of Q.
+fn of_boundary(answer: &[u64; 8], moved: &Transfer, Limits { m, q }: Limits) -> Kinds {
+    let [piece, _, _, address, length, offset, ..] = *answer;
+    let (end, behind) = (offset + length, address.wrapping_add(length));
+    let (from, to) = (is_multiple(address, q), is_multiple(behind, q));
+    let other_end = length == m.into() || end == moved.current.end || ends(moved).any(|at| at == end);
+    vec![
+        (piece == 1 && from && to && length == q, "step, from a multiple of Q to the next"),
+        (piece == 1 && from && !to, "step, from a multiple of Q, shorter"),
+        (piece == 1 && q > 0 && !from && !to, "step, no multiple of Q at its ends"),
+        (piece == 1 && q > 0 && behind == 0, "step, up to 2^64 with a boundary"),
+        (piece == 1 && to && !other_end, "step, up to a multiple of Q alone"),
     ]
 }

@@ -3,6 +3,7 @@
 use std::collections::VecDeque;
 
 use super::pieces::Pieces;
+use crate::limits::Limits;
 use crate::model::number;
 
 /// "Start: the port as the login returned it, limit N, no command open, added = withdrawn = 0, two empty queues, one
@@ -29,7 +30,7 @@ pub struct Ends {
 /// What the login settled.
 #[derive(Clone, Copy, Default)]
 pub struct Login {
-    pub m: u32,
+    pub limits: Limits,
     pub agreed: u32,
     pub formats: u32,
 }

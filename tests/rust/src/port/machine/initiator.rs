@@ -1,23 +1,35 @@
 //! The initiator's events: it sends a message, and one is delivered to it.
 
 use super::ends::{delta, is_request, Ends, Login, Sent};
-use super::{Machine, Target};
+use super::{Call, Machine, Target};
+use crate::limits::Limits;
 use crate::port::generate::{self, Data};
 use crate::port::plain;
 
+/// Boundaries, 0 for none, and some that are none.
+const BOUNDARIES: [u64; 10] = [0, 0, 0, 512, 512, 1024, 4096, 1 << 16, 1 << 31, 1 << 32];
+const NO_BOUNDARIES: [u64; 9] = [1, 256, 511, 513, 768, 1 << 33, (1 << 32) + 512, 1 << 63, u64::MAX];
+
 impl<T: Target> Machine<T> {
-    /// A login that is accepted.
+    /// A login that is accepted, perhaps after one with a bad Q, which draws 2 and makes no port.
     pub(super) fn log_in(&mut self) {
         let random = &mut self.random;
         let n = random.of(&[1, 2, 3, 4, 8, 16, 16, 16]);
         let m = random.of(&[1, 16, 512, 512, 4096, 1_048_576]);
+        let (q, bad) = (random.of(&BOUNDARIES), random.of(&NO_BOUNDARIES));
         let agreed = random.of(&[64, 200, 600, 1364, 1364, 1364]);
         let formats = random.of(&[0, 2, 4, 6, 6, 6, 6, 6]);
-        let login = plain::login(random, n, m, agreed, formats);
+        let login = plain::login(random, n, Limits { m, q }, agreed, formats);
+        if random.one_in(4) {
+            let refused = plain::login(random, n, Limits { m, q: bad }, agreed, formats);
+            assert_eq!(self.counted(&refused).returned, 2, "Q {bad}");
+            assert_eq!(self.call(&Call::Counters).returned, 21, "closed");
+        }
         self.trace_sent("login", login.input());
         let outcome = self.counted(&login);
         assert_eq!((outcome.returned, outcome.answer[1]), (0, 0), "accepted");
-        self.ends = Ends::new(n, Login { m, agreed, formats: formats.into() });
+        self.states.add(if q == 0 { "no boundary" } else { "a boundary" });
+        self.ends = Ends::new(n, Login { limits: Limits { m, q }, agreed, formats: formats.into() });
     }
 
     /// "Send: a message of any content joins the queue to the port. A request, known by its type byte, takes 1 off the
@@ -95,7 +107,7 @@ impl<T: Target> Machine<T> {
     fn command(&mut self) -> Sent {
         let (tag, lun, login) = (self.unused_tag(), self.random.up_to(2), self.ends.login);
         for most in [32, 4, 1, 0] {
-            let mut data = [0, 1].map(|_| Data::lawful(&mut self.random, login.formats, login.m, most.max(1)));
+            let mut data = [0, 1].map(|_| Data::lawful(&mut self.random, login.formats, login.limits, most.max(1)));
             if self.random.one_in(12) {
                 data[self.random.below(2)].damage(&mut self.random);
             }

@@ -4,6 +4,7 @@ use super::ends::{delta, Open, Sent};
 use super::expected::Message;
 use super::pieces::Pieces;
 use super::{Call, Channel, Machine, Outcome, Target};
+use crate::limits::Limits;
 use crate::model::segments;
 use crate::random::Random;
 
@@ -129,7 +130,7 @@ impl<T: Target> Machine<T> {
 
     /// Offset and count: mostly of a few pieces, and around min(R, B) and a segment's start.
     fn range(&mut self, pieces: &Pieces) -> [u32; 2] {
-        let (due, m, random) = (pieces.due(), u64::from(self.ends.login.m), &mut self.random);
+        let (due, m, random) = (pieces.due(), u64::from(self.ends.login.limits.m), &mut self.random);
         let (below, any) = (random.up_to(due), random.any_size().into());
         let start = (pieces.start(random) + random.up_to(2)).saturating_sub(1).min(due);
         let offset =
@@ -155,7 +156,7 @@ impl<T: Target> Machine<T> {
         }
         if let (0, Some(place)) = (outcome.returned, place) {
             let pieces = &mut self.ends.open[place].pieces[direction];
-            pieces.name(offset, count, self.ends.login.m);
+            pieces.name(offset, count, self.ends.login.limits);
             if pieces.are_left() {
                 pieces.position(offset).for_each(|kind| self.states.add(kind));
             }
@@ -173,19 +174,35 @@ impl<T: Target> Machine<T> {
         if let (0, Some(place)) = (outcome.returned, self.ends.place_of(tag)) {
             let pieces = &mut self.ends.open[place].pieces[direction];
             pieces.number += u64::from(outcome.answer[0] == 1);
-            let expected = match pieces.next(self.ends.login.m) {
+            let expected = match pieces.next(self.ends.login.limits) {
                 Some([handle, address, length, offset]) => {
                     [1, direction as u64 + 1, handle, address, length, offset, pieces.number, 0]
                 }
                 None => [0, 0, 0, 0, 0, 0, pieces.number, 0],
             };
             assert_eq!(outcome.answer, expected, "the operation, or done");
-            if outcome.answer[0] == 0 {
+            if let [1, _, _, address, length, ..] = outcome.answer {
+                let inside = pieces.inside;
+                self.judge_boundary(address, length, inside);
+            } else {
                 assert_eq!(outcome.answer[6], pieces.list, "\"the length of its cut list\"");
                 let many = ["none", "one", "several"][pieces.number.min(2) as usize];
                 self.states.add(format!("done after {many}"));
             }
         }
+    }
+
+    /// "Adapters fail an operation that crosses a multiple of a power of two": none does, from its first address to its
+    /// last.
+    fn judge_boundary(&mut self, address: u64, length: u64, inside: bool) {
+        let (Limits { m, q }, last) = (self.ends.login.limits, address + (length - 1));
+        assert_eq!(address.checked_div(q), last.checked_div(q), "{length} bytes at {address:x}, Q {q}");
+        let states = [
+            (inside && length < m.into(), "ended by a boundary"),
+            (q > 0 && length == q, "from a boundary to the next"),
+            (q > 0 && last == u64::MAX, "up to 2^64, with a boundary"),
+        ];
+        states.into_iter().filter(|(is, _)| *is).for_each(|(_, state)| self.states.add(state));
     }
 
     /// "Unrefused, finish ends its command."

@@ -1,6 +1,7 @@
 //! A direction's moves and their operations. The segments are those that the model read; the cut is a second one, that
 //! takes a move's bytes out of the list, keeps its place in them, and calls nothing of the model's.
 
+use crate::limits::Limits;
 use crate::model::MemoryDescriptor;
 use crate::position;
 use crate::random::Random;
@@ -24,6 +25,8 @@ pub struct Pieces {
     /// The length of the current move's cut list, and how many operations were handed out since it was named.
     pub list: u64,
     pub number: u64,
+    /// Whether the last operation ended before its segment's part of the move did.
+    pub inside: bool,
     /// h: "the highest offset handed out + 1".
     pub highest: u64,
     /// Bytes handed out, once or again.
@@ -35,7 +38,8 @@ impl Pieces {
     pub fn new(segments: &[MemoryDescriptor]) -> Self {
         let numbers = |segment: &MemoryDescriptor| (segment.address, segment.handle.into(), segment.length.into());
         let segments = segments.iter().map(numbers).collect();
-        Pieces { segments, required: 0, due: 0, left: Vec::new(), at: 0, list: 0, number: 0, highest: 0, handed: 0 }
+        let (list, number, inside, highest, handed) = (0, 0, false, 0, 0);
+        Pieces { segments, required: 0, due: 0, left: Vec::new(), at: 0, list, number, inside, highest, handed }
     }
 
     /// Whether the current move has pieces left.
@@ -100,9 +104,8 @@ impl Pieces {
         }
     }
 
-    /// Names a move that is not refused. "A move is trimmed at min(R, B)." Its cut list has as many operations of each
-    /// segment's part as pieces of M bytes cover that.
-    pub fn name(&mut self, offset: u32, count: u32, m: u32) {
+    /// Names a move that is not refused. "A move is trimmed at min(R, B)."
+    pub fn name(&mut self, offset: u32, count: u32, limits: Limits) {
         self.at = offset.into();
         let (mut before, mut wanted) = (self.at, (self.due - self.at).min(count.into()));
         for &(address, handle, length) in &self.segments {
@@ -114,16 +117,18 @@ impl Pieces {
                 self.left.insert(0, (address + skipped, handle, part));
             }
         }
-        self.list = self.left.iter().map(|(_, _, part)| part.div_ceil(m.into())).sum();
+        self.list = self.left.iter().map(|&(address, _, part)| operations(address, part, limits)).sum();
         self.number = 0;
     }
 
     /// The next of the operations that are cut from the current move: "segment by segment, zero-length segments
-    /// skipped, each piece as long as possible up to M". None where all of them were handed out.
-    pub fn next(&mut self, m: u32) -> Option<Operation> {
+    /// skipped, each piece as long as possible up to M", and up to the next multiple of Q. None where all of them were
+    /// handed out.
+    pub fn next(&mut self, limits: Limits) -> Option<Operation> {
         let (address, handle, length) = self.left.pop()?;
-        let piece = length.min(m.into());
-        if piece < length {
+        let piece = length.min(limits.m.into()).min(up_to_multiple(address, limits.q));
+        self.inside = piece < length;
+        if self.inside {
             self.left.push((address + piece, handle, length - piece));
         }
         let operation = [handle, address, piece, self.at];
@@ -132,4 +137,18 @@ impl Pieces {
         self.handed += piece;
         Some(operation)
     }
+}
+
+/// How many bytes from an address on lie before "the next multiple of Q above" it.
+fn up_to_multiple(address: u64, q: u64) -> u64 {
+    address.checked_rem(q).map_or(u64::MAX, |past| q - past)
+}
+
+/// The length of the cut list of a segment's part: of the bytes up to the first multiple of Q, of each Q bytes behind
+/// it and of the rest as many operations as pieces of M bytes cover them.
+fn operations(address: u64, part: u64, Limits { m, q }: Limits) -> u64 {
+    let pieces = |bytes: u64| bytes.div_ceil(m.into());
+    let first = part.min(up_to_multiple(address, q));
+    let rest = part - first;
+    pieces(first) + rest.checked_div(q).map_or(0, |whole| whole * pieces(q) + pieces(rest % q))
 }

@@ -1,0 +1,32 @@
+use borrow.Author.Needs.{needs}
+use Rattle.boundary.proofs.is_bad.Statement.{statement}
+use Rattle.boundary.proofs.is_bad.Tie as tie
+use Rattle.boundary.proofs.is_bad.Reads as reads
+use Rattle.boundary.proofs.is_bad.Lts as lts
+
+-- src/lib.rt:13:9
+returns : tie.Need-returns
+returns c = ?
+
+-- src/lib.rt:17:9
+returns-2 : tie.Need-returns-2
+returns-2 c = ?
+
+-- src/lib.rt:20:9
+returns-3 : tie.Need-returns-3
+returns-3 c = ?
+
+-- src/lib.rt:22:18
+cast-result : tie.Need-cast-result
+cast-result c = search needs
+
+-- src/lib.rt:22:10
+shl-result : tie.Need-shl-result
+shl-result c = search needs
+
+-- src/lib.rt:9:1
+returns-4 : tie.Need-returns-4
+returns-4 c = ?
+
+pub is-bad-spec : {M : Type 1} → statement M
+is-bad-spec = tie.close (tie.spec returns returns-2 returns-3 cast-result shl-result returns-4)
