@@ -3,13 +3,13 @@
 use mathlib.Core.Path.{_≡_, refl, ap, sym, _∙_}
 use mathlib.Core.Logic.{⊎-elim}
 use mathlib.Core.Bool.{Bool, true, false, not}
-use Prim.Native.Nat.{ℕ, zero, suc, _+_, _-_, _/_, _%_, _^_, _≤_, _<_, min}
-use native.Mathlib.Nat.{not-suc-le-zero, pow-suc, mul-mod-left, mul-div-cancel}
+use Prim.Native.Nat.{ℕ, zero, suc, _+_, _-_, _*_, _/_, _%_, _^_, _≤_, _<_, min}
+use native.Mathlib.Nat.{one-mul, not-suc-le-zero, pow-suc, mul-mod-left, mul-div-cancel}
 use native.Mathlib.Omega.{arith}
 use lib.Bits.{bitAnd, and-mask}
 use lib.Count.{trailingZeros}
 use lib.Dec.{eqb}
-use lib.Pow.{pow-pos}
+use lib.Pow.{shl-exact}
 use borrow.Author.Tests.{eqb-true, eqb-false}
 use Rattle.srp.specs.Limits.{leastExponent, greatestExponent}
 use Rattle.srp.specs.Cutting.{longestAt, badBoundary}
@@ -58,8 +58,11 @@ module _ (q : ℕ) where
     pub high : greatestExponent < exponent → true ≡ badBoundary q
     high h = bad λ e. omega (arith, good e .1)
 
-    pub by-power : leastExponent ≤ exponent → exponent ≤ greatestExponent → not (eqb q (2 ^ exponent)) ≡ badBoundary q
-    by-power h l = go (eqb q (2 ^ exponent)) refl
+    -- 1 shifted by so much, in 64 bits
+    pub by-power : leastExponent ≤ exponent → exponent ≤ greatestExponent → not (eqb q (1 * 2 ^ exponent % 2 ^ 64)) ≡ badBoundary q
+    by-power h l =
+        let shifted : 1 * 2 ^ exponent % 2 ^ 64 ≡ 2 ^ exponent = shl-exact 1 exponent 64 (omega arith) (omega arith) ∙ one-mul (2 ^ exponent) in
+        ap (λ (x : ℕ). not (eqb q x)) shifted ∙ go (eqb q (2 ^ exponent)) refl
       where
         go : (b : Bool) → eqb q (2 ^ exponent) ≡ b → not b ≡ badBoundary q
         go true e = rw (eqb-true q (2 ^ exponent) e) (sym (power-good exponent h l))
