@@ -192,7 +192,7 @@ fn around_multiples() {
         }
     }
     search.tell_pieces("boundary, around multiples", 1_000, &ENDS);
-    assert!(shorter > 5_000, "{shorter} pieces up to a multiple");
+    assert!(shorter > 2_000, "{shorter} pieces up to a multiple");
 }
 
 /// Segments that end at 2^64, the shortest being the last byte of memory, from their first piece to done.

@@ -3,33 +3,25 @@ use Rattle.boundary.proofs.Powers.{none, low, high, by-power}
 use borrow.Author.Needs.{needs}
 use Rattle.boundary.proofs.is_bad.Statement.{statement}
 use Rattle.boundary.proofs.is_bad.Tie as tie
-use Rattle.boundary.proofs.is_bad.Reads as reads
-use Rattle.boundary.proofs.is_bad.Lts as lts
 
--- src/lib.rt:13:9
 returns : tie.Need-returns
 returns c =
     none (c .before .args .q) (c .if1 .taken)
 
--- src/lib.rt:17:9
 returns-2 : tie.Need-returns-2
 returns-2 c =
     low (c .before .before .args .q) (c .before .if1 .left) (c .if2 .taken)
 
--- src/lib.rt:20:9
 returns-3 : tie.Need-returns-3
 returns-3 c =
     high (c .before .before .before .args .q) (c .before .before .if1 .left) (c .if3 .taken)
 
--- src/lib.rt:22:18
 cast-result : tie.Need-cast-result
 cast-result c = search needs
 
--- src/lib.rt:22:10
 shl-result : tie.Need-shl-result
 shl-result c = search needs
 
--- src/lib.rt:9:1
 returns-4 : tie.Need-returns-4
 returns-4 c =
     by-power (c .before .before .before .args .q) (c .before .before .if1 .left) (c .before .if2 .left) (c .if3 .left)

@@ -7,32 +7,24 @@ use borrow.Author.Needs.{needs}
 use Rattle.boundary.proofs.longest_at.Statement.{statement}
 use Rattle.boundary.proofs.longest_at.Tie as tie
 use Rattle.boundary.proofs.longest_at.Reads as reads
-use Rattle.boundary.proofs.longest_at.Lts as lts
-use Rattle.wire.proofs.least.Reads as least-reads
 
--- src/lib.rt:31:9
 returns : tie.Need-returns
 returns c =
     alone (c .before .args .most) (c .before .args .q) (c .before .args .address) (c .if1 .taken)
 
--- src/lib.rt:33:46
 sub-least : tie.Need-sub-least
 sub-least c = search needs
 
--- src/lib.rt:33:30
 sub-least-2 : tie.Need-sub-least-2
 sub-least-2 c =
     omega (arith, and-le-r (c .before .args .address) (c .before .args .q - 1))
 
--- src/lib.rt:33:5
 least-requires : tie.Need-least-requires
 least-requires c κs = search needs
 
--- src/lib.rt:33:5
 cast-result : tie.Need-cast-result
 cast-result c = search needs
 
--- src/lib.rt:26:1
 returns-2 : tie.Need-returns-2
 returns-2 c =
     by-mask (c .before .before .args .most) (c .before .before .args .q) (c .before .before .args .address) (c .before .before .pre) (c .before .if1 .left) (c .least .ensures)
