@@ -27,12 +27,14 @@ struct Command {
     number: u64,
 }
 
-/// Up to 32 segments, some without a byte.
+/// Up to 32 segments, some without a byte; half of them begin up to 90 bytes before a multiple of 1,024.
 fn segments(random: &mut Random) -> Vec<MemoryDescriptor> {
     let most = random.of(&[1, 3, 32]);
     let count = 1 + random.below(most);
     let length = |random: &mut Random| if random.one_in(4) { 0 } else { random.below(90) as u32 };
-    let segment = |_| MemoryDescriptor { address: random.u64() >> 1, handle: random.u32(), length: length(random) };
+    let before = |random: &mut Random| (1 + (random.u64() >> 12)) * 1024 - random.up_to(90);
+    let address = |random: &mut Random| if random.one_in(2) { before(random) } else { random.u64() >> 1 };
+    let segment = |_| MemoryDescriptor { address: address(random), handle: random.u32(), length: length(random) };
     (0..count).map(segment).collect()
 }
 

@@ -6,7 +6,6 @@ use Rattle.boundary.proofs.Powers.{alone, by-mask}
 use borrow.Author.Needs.{needs}
 use Rattle.boundary.proofs.longest_at.Statement.{statement}
 use Rattle.boundary.proofs.longest_at.Tie as tie
-use Rattle.boundary.proofs.longest_at.Reads as reads
 
 returns : tie.Need-returns
 returns c =

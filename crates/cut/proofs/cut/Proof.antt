@@ -5,7 +5,6 @@ use Rattle.cut.proofs.Refusing.{zero-maximum, large-maximum, bad-bounda
 use borrow.Author.Needs.{needs}
 use Rattle.cut.proofs.cut.Statement.{statement}
 use Rattle.cut.proofs.cut.Tie as tie
-use Rattle.cut.proofs.cut.Reads as reads
 
 returns : tie.Need-returns
 returns c =

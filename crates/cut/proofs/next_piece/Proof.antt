@@ -5,7 +5,6 @@ use Rattle.cut.proofs.Pieces.{empty, behind, inside, low, short, here}
 use borrow.Author.Needs.{needs}
 use Rattle.cut.proofs.next_piece.Statement.{statement}
 use Rattle.cut.proofs.next_piece.Tie as tie
-use Rattle.cut.proofs.next_piece.Reads as reads
 
 returns : tie.Need-returns
 returns c =

@@ -3,7 +3,6 @@ use mathlib.Core.Path.{sym, _∙_}
 use borrow.Author.Needs.{needs}
 use Rattle.words.proofs.boundary_of.Statement.{statement}
 use Rattle.words.proofs.boundary_of.Tie as tie
-use Rattle.words.proofs.boundary_of.Reads as reads
 
 is-bad-requires : tie.Need-is-bad-requires
 is-bad-requires c κs = search needs

@@ -2,7 +2,6 @@
 use borrow.Author.Needs.{needs}
 use Rattle.words.proofs.terms_of.Statement.{statement}
 use Rattle.words.proofs.terms_of.Tie as tie
-use Rattle.words.proofs.terms_of.Reads as reads
 
 shared-slice-read-t3 : tie.Need-shared-slice-read-t3
 shared-slice-read-t3 c = search needs
