@@ -6,6 +6,7 @@ use lib.ListN.{getD}
 use Rattle.srp.specs.Calls.{nextIn}
 use Rattle.words.specs.Slots.{slots, noSlot, placeAt}
 use Rattle.words.specs.View.{sideOf}
+use Rattle.words.proofs.Ports.{head-fits}
 use Rattle.transfer.proofs.Pieces.{no-refusal, next-fits, handed-open}
 use Rattle.transfer.proofs.Handing.{none-left, one-handed}
 use borrow.Author.Needs.{needs}
@@ -19,7 +20,10 @@ load-place-requires : tie.Need-load-place-requires
 load-place-requires c κs = search needs
 
 next-for-requires : tie.Need-next-for-requires
-next-for-requires c κs = search needs
+next-for-requires c κs =
+    let a = c .before .before .before .before .before .before .args in
+    let p = c .before .before .before .before .before .before .pre in
+    (p .1 .0, (search needs, (search needs, rw (p .1 .1 .1 .1) (head-fits (a .s .now) .terms .boundary))))
 
 enum-known-f : tie.Need-enum-known-f
 enum-known-f c = search needs
