@@ -32,7 +32,7 @@ fn is_good(q: u64) -> bool {
     q == 0 || (512..=4_294_967_296).contains(&q) && q.count_ones() == 1
 }
 
-/// 0 and 24 powers: 2^1 - 1 and 2^0 + 1 are no others of them, and 2^0 - 1 is 0.
+/// 24 powers of two, and 0 twice, which is 2^0 - 1 too.
 fn assert_counted(good: usize, all: usize) {
     assert_eq!((good, all), (2 + 24, 3 * 64 + 2));
 }
