@@ -75,7 +75,8 @@ pub fn next_piece(list: &[u8], most: u32, q: u64, from: u32, to: u32) -> Cut
     };
     let at = location.index * SEGMENT;
     let skip = (from as u64) - location.earlier;
-    let address = std::num::wrapping_add_u64(wire::read64(list, at + ADDRESS), skip);
+    let start = wire::read64(list, at + ADDRESS);
+    let address = std::num::wrapping_add_u64(start, skip);
     let left = wire::least((location.len as u64) - skip, (to - from) as u64);
     let longest = boundary::longest_at(most, q, address);
     let len = wire::least(longest as u64, left) as u32;
