@@ -3,7 +3,7 @@
 use mathlib.Core.Path.{_≡_, refl, ap, sym, _∙_}
 use mathlib.Core.Logic.{⊎-elim}
 use mathlib.Core.Bool.{Bool, true, false, not}
-use Prim.Native.Nat.{ℕ, zero, suc, _+_, _-_, _*_, _/_, _%_, _^_, _≤_, _<_, min}
+use Prim.Native.Nat.{ℕ, zero, suc, _-_, _*_, _/_, _%_, _^_, _≤_, _<_, min}
 use native.Mathlib.Nat.{one-mul, not-suc-le-zero, pow-suc, mul-mod-left, mul-div-cancel}
 use native.Mathlib.Omega.{arith}
 use lib.Bits.{bitAnd, and-mask}
@@ -12,7 +12,7 @@ use lib.Dec.{eqb}
 use lib.Pow.{shl-exact}
 use borrow.Author.Tests.{eqb-true, eqb-false}
 use Rattle.srp.specs.Limits.{leastExponent, greatestExponent}
-use Rattle.srp.specs.Cutting.{longestAt, badBoundary}
+use Rattle.srp.specs.Cutting.{longestAt, badBoundary, Power}
 use Rattle.srp.proofs.Boundaries.{good-boundary, zero-good, power-good, longest-alone, longest-remainder}
 
 -- the trailing zeros of a power of two are its exponent
@@ -39,7 +39,7 @@ module _ (q : ℕ) where
     good : badBoundary q ≡ false → (leastExponent ≤ exponent) × (exponent ≤ greatestExponent) × (q ≡ 2 ^ exponent)
     good e =
         ⊎-elim (λ (z : q ≡ 0). absurd (ne z))
-        (λ (r : (k : ℕ) × (leastExponent ≤ k) × (k ≤ greatestExponent) × (q ≡ 2 ^ k)).
+        (λ (r : Power q).
         let t : exponent ≡ r .0 = ap (trailingZeros 64) (r .3) ∙ trailing-power 64 (r .0) (omega (arith, r .2)) in
         (omega (arith, r .1), omega (arith, r .2), r .3 ∙ ap (λ (k : ℕ). 2 ^ k) (sym t)))
         (good-boundary q e)
@@ -77,7 +77,7 @@ alone M q a e = rw e (sym (longest-alone M a))
 pub masked : (q a : ℕ) → badBoundary q ≡ false → (q ≡ 0 → ⊥) → bitAnd a (q - 1) ≡ a % q
 masked q a e ne =
     ⊎-elim (λ (z : q ≡ 0). absurd (ne z))
-    (λ (r : (k : ℕ) × (leastExponent ≤ k) × (k ≤ greatestExponent) × (q ≡ 2 ^ k)). rw (r .3) (and-mask a (r .0)))
+    (λ (r : Power q). rw (r .3) (and-mask a (r .0)))
     (good-boundary q e)
 
 pub by-mask : (M q a : ℕ) {n : ℕ} → badBoundary q ≡ false → (q ≡ 0 → ⊥) → n ≡ min M (q - bitAnd a (q - 1)) → n ≡ longestAt M q a

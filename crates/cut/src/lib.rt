@@ -19,7 +19,7 @@ ghost use lib.ListN.{length};
 ghost use Rattle.srp.specs.Limits.{longestTable};
 ghost use Rattle.srp.specs.Descriptors.{segmentsOf};
 ghost use Rattle.srp.specs.Cutting.{upTo, next, badBoundary, cutDef};
-ghost use Rattle.cut.specs.Walk.{totalOf, Bounded, nextWrapped};
+ghost use Rattle.cut.specs.Walk.{totalOf, Bounded, nextWrapped, ended};
 
 const LARGEST_TOTAL: u64 = 0xffff_ffff;
 
@@ -62,10 +62,9 @@ pub fn sum(list: &[u8]) -> Total
     Total::Sum(so_far)
 }
 
-// The piece at `from` of the bytes up to `to`, at most `most` long and crossing no multiple of Q. An address counts modulo 2^64.
-pub fn next_piece(list: &[u8], most: u32, q: u64, from: u32, to: u32) -> Cut
-    requires { ⌜ badBoundary q ≡ false ⌝ }
-    ensures { λ r. ⌜ r ≡ nextWrapped (next (upTo most q) from to (segmentsOf (now (list .entry)))) ⌝ }
+// The piece at `from` of the bytes up to `to`, at most `most` long, without boundaries. An address counts modulo 2^64.
+pub fn next_piece(list: &[u8], most: u32, from: u32, to: u32) -> Cut
+    ensures { λ r. ⌜ r ≡ nextWrapped (next (upTo most 0) from to (segmentsOf (now (list .entry)))) ⌝ }
 {
     if to <= from {
         return Cut::CutDone;
@@ -75,17 +74,32 @@ pub fn next_piece(list: &[u8], most: u32, q: u64, from: u32, to: u32) -> Cut
     };
     let at = location.index * SEGMENT;
     let skip = (from as u64) - location.earlier;
-    let start = wire::read64(list, at + ADDRESS);
-    let address = std::num::wrapping_add_u64(start, skip);
+    let address = wire::read64(list, at + ADDRESS);
     let left = wire::least((location.len as u64) - skip, (to - from) as u64);
-    let longest = boundary::longest_at(most, q, address);
-    let len = wire::least(longest as u64, left) as u32;
+    let len = wire::least(most as u64, left) as u32;
     Cut::CutPiece(Piece {
-        address: address,
+        address: std::num::wrapping_add_u64(address, skip),
         handle: wire::read32(list, at + HANDLE),
         len: len,
         offset: from,
     })
+}
+
+// A piece without boundaries, ended at the next multiple of Q above its first address where that is nearer.
+pub fn end_at_boundary(c: Cut, q: u64) -> Cut
+    requires { ⌜ badBoundary q ≡ false ⌝ }
+    ensures { λ r. ⌜ r ≡ ended q c ⌝ }
+{
+    match c {
+        Cut::CutRefused(f) => Cut::CutRefused(f),
+        Cut::CutPiece(p) => Cut::CutPiece(Piece {
+            address: p.address,
+            handle: p.handle,
+            len: boundary::longest_at(p.len, q, p.address),
+            offset: p.offset,
+        }),
+        Cut::CutDone => Cut::CutDone,
+    }
 }
 
 // The next piece of the first min(R, B) bytes, `handed` of them handed out before.
@@ -117,5 +131,5 @@ pub fn cut(list: &[u8], most: u32, q: u64, required: u32, handed: u32) -> Cut
     if to < handed {
         return Cut::CutRefused(Refusal::Argument);
     }
-    next_piece(list, most, q, handed, to)
+    end_at_boundary(next_piece(list, most, handed, to), q)
 }

@@ -20,9 +20,6 @@ ghost use Rattle.cutlist.specs.Outputs.{operationsOf, outputOf, Printabl
 
 const MAXIMUM: u32 = 512;
 
-// none
-const BOUNDARY: u64 = 0;
-
 const LONGEST_LINE: usize = 32;
 
 // A data buffer: its descriptor, and B.
@@ -102,7 +99,7 @@ pub fn fill(text: &mut [u8], list: &[u8], kind: Kind, from: u32, to: u32) -> Fil
                 from: next,
             };
         }
-        let Cut::CutPiece(p) = cut::next_piece(list, MAXIMUM, BOUNDARY, next, to) else {
+        let Cut::CutPiece(p) = cut::next_piece(list, MAXIMUM, next, to) else {
             return Filled { len: end, from: to };
         };
         end = lines::put_operation(&mut *text, end, kind, p);

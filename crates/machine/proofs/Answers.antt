@@ -11,6 +11,7 @@ use lib.Seq.{take-all}
 use borrow.Author.Tests.{ltb-false}
 use Rattle.srp.specs.Cutting.{cutsOf}
 use Rattle.srp.specs.Credit.{ruleOf}
+use Rattle.srp.specs.Moves.{CrossesNone}
 use Rattle.srp.specs.Fewest.{touched, crossed}
 use Rattle.srp.specs.Calls.{kindOf}
 use Rattle.srp.specs.declared.Terms.{Terms}
@@ -20,6 +21,7 @@ use Rattle.srp.specs.declared.Reply.the-variants.{Operation, Done}
 use Rattle.machine.specs.Machine.{Move, Progress, soFar, withOperation}
 use Rattle.machine.specs.Operations.{cutsOfAll, wholeOf, piecesLeft, saidOf, Finished, CurrentFinished, Right}
 use Rattle.srp.proofs.CutLaws.{Lawful, some-maximum, stops, some-below, none-above}
+use Rattle.srp.proofs.Moves.{next-crosses-none}
 use Rattle.srp.proofs.Bound.{few-touched, few-crossed}
 use Rattle.srp.proofs.Segments.{slots-enough}
 use Rattle.srp.proofs.Fewest.{fewest}
@@ -76,6 +78,10 @@ module _ (T : Terms) (cut : Lawful (ruleOf T)) (g : Progress) (s : Steady T g) (
         before = λ f. absurd (omega (arith, no-cuts T g f, some-below (wholeOf T g) (length (g .operations)) o t));
         done-iff = ((λ f. absurd (no-done (f .0) (f .1))), λ f. absurd (omega (arith, ap length f, some-below (wholeOf T g) (length (g .operations)) o t)));
         finished = λ n f. absurd (no-done n f);
+        uncrossed = λ k o′ n f.
+            let same : o ≡ o′ = cc in
+            subst (CrossesNone (T .boundary)) same
+            (next-crosses-none (T .maximum) (T .boundary) (atOf T g) (endOf (g .moves)) (g .segs) o (some-maximum (T .maximum) (T .boundary) cut) e .0);
         last = λ k o′ n f h.
             let same : o ≡ o′ = cc in
             let number : soFar g + 1 ≡ n = cc in
@@ -96,5 +102,6 @@ module _ (T : Terms) (cut : Lawful (ruleOf T)) (g : Progress) (s : Steady T g) (
             ap Done none;
         done-iff = (λ f. s .order ∙ take-all (length (g .operations)) (wholeOf T g) (none-above (wholeOf T g) (length (g .operations)) t), λ f. (soFar g, refl));
         finished = λ n f. let number : soFar g ≡ n = cc in subst (CurrentFinished T g) number (all-counted T cut g s e);
+        uncrossed = λ k o n f. let z : _≡_ {A = ℕ} 0 1 = cc in absurd (omega arith);
         last = λ k o n f. let z : _≡_ {A = ℕ} 0 1 = cc in absurd (omega arith);
       }

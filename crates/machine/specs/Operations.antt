@@ -12,6 +12,7 @@ use Rattle.srp.specs.Both.{of}
 use Rattle.srp.specs.Cutting.{Rule, cutsOf}
 use Rattle.srp.specs.Descriptors.{Segment}
 use Rattle.srp.specs.Credit.{ruleOf}
+use Rattle.srp.specs.Moves.{CrossesNone}
 use Rattle.srp.specs.Fewest.{Fewest}
 use Rattle.srp.specs.Calls.{kindOf}
 use Rattle.srp.specs.Ranges.{mostOperations}
@@ -63,10 +64,12 @@ abbrev pub CurrentFinished : Terms → Progress → ℕ → Type 0
 CurrentFinished T g n = (m : Move) → lastOf (g .moves) ≡ some m → Finished T (g .segs) m n
 
 -- an unrefused step's reply r is the next of them, in its direction's kind, with the number, "0 before any move"; it "says done exactly when all those of its
--- command and direction were handed out before it"; and the number that comes with done, and with the last piece before it, is a finished move's
+-- command and direction were handed out before it"; by its addresses no operation crosses a multiple of Q; and the number that comes with done, and with the last
+-- piece before it, is a finished move's
 pub record Right (T : Terms) (d : Direction) (g : Progress) (r : Reply) : Type 0 where
   pub in-turn : r ≡ saidOf d (soFar g) (getElem? (wholeOf T g) (length (g .operations)))
   pub before : g .moves ≡ [] → r ≡ Done 0
   pub done-iff : ((n : ℕ) × (r ≡ Done n)) ↔ (g .operations ≡ wholeOf T g)
   pub finished : (n : ℕ) → r ≡ Done n → CurrentFinished T g n
+  pub uncrossed : (k : Kind) (o : Piece) (n : ℕ) → r ≡ Operation k o n → CrossesNone (T .boundary) o
   pub last : (k : Kind) (o : Piece) (n : ℕ) → r ≡ Operation k o n → piecesLeft T (withOperation o g) ≡ false → CurrentFinished T g n

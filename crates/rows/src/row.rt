@@ -32,6 +32,7 @@ const NUMBERS: usize = 4;
 const LENGTHS: usize = 16;
 
 const BOUNDARY: usize = 26;
+
 // more than any row lends
 const ROOM: usize = 64;
 

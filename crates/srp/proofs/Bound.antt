@@ -3,27 +3,27 @@
 use mathlib.Core.Path.{_≡_, refl, ap, _∙_}
 use mathlib.Core.Logic.{⊎-elim}
 use mathlib.Core.Bool.{Bool, true, false, cond}
-use mathlib.Core.List.{List, [], _∷_, _++_}
+use mathlib.Core.List.{List, [], _∷_}
 use Prim.Native.Nat.{ℕ, zero, suc, _+_, _-_, _*_, _/_, _%_, _≤_, _<_, min}
 use native.Mathlib.Nat.{add-mul, suc-mul, one-mul, mul-le-mul-right, not-suc-le-zero, le-div-iff-mul-le, div-add-mod', div-zero, mod-lt, mul-div-cancel}
 use native.Mathlib.Omega.{arith}
 use lib.Arith.{digits-div, digits-mod}
 use lib.Dec.{ltb, eqb}
 use lib.ListN.{length, length-append}
-use borrow.Author.Tests.{lt-ltb, ltb-true, ltb-false, eqb-true, eqb-false, ne-eqb}
+use borrow.Author.Tests.{lt-ltb, ltb-true, ltb-false, eqb-true, ne-eqb}
 use Rattle.srp.specs.Descriptors.{Segment}
 use Rattle.srp.specs.Cutting.{Rule, upTo, nextMultiple, longestAt, cutSegment, cutsFrom, cutsOf}
-use Rattle.srp.specs.Fewest.{partAt, partLength, overParts, touches, touched, multiples, multiplesInside, crossed, CountsMultiples, FewTouched, FewCrossed}
+use Rattle.srp.specs.Fewest.{partAddress, partLength, overParts, touches, touched, multiples, multiplesInside, crossed, CountsMultiples, FewTouched, FewCrossed}
 use Rattle.srp.specs.declared.Piece.{Piece}
-use Rattle.srp.proofs.Boundaries.{longest-some, longest-ends}
-use Rattle.srp.proofs.Parts.{inParts, Counts, whole-parts, Within, parts-most}
+use Rattle.srp.proofs.Boundaries.{some-boundary, longest-some, longest-ends}
+use Rattle.srp.proofs.Parts.{inParts, whole-parts, Within, parts-most}
 
 -- ── the multiples of Q
 
--- up to a later address there are no fewer
-pub later : (Q a n : ℕ) → a / Q ≤ (a + n) / Q
-later zero a n = rw (div-zero a) (omega arith)
-later (suc Q) a n = le-div-iff-mul-le {k = suc Q} {x = a / suc Q} {y = a + n} (omega arith) .1 (omega (arith, div-add-mod' a (suc Q)))
+-- up to a later address there are no fewer multiples of Q
+pub quotient-grows : (Q a n : ℕ) → a / Q ≤ (a + n) / Q
+quotient-grows zero a n = rw (div-zero a) (omega arith)
+quotient-grows (suc Q) a n = le-div-iff-mul-le {k = suc Q} {x = a / suc Q} {y = a + n} (omega arith) .1 (omega (arith, div-add-mod' a (suc Q)))
 
 -- none is inside a part of no bytes
 none-inside : (Q a : ℕ) → multiplesInside Q a 0 ≡ 0
@@ -33,7 +33,7 @@ none-inside Q a = let e : a + (0 - 1) ≡ a = omega arith in rw e (omega arith)
 multiples-few : (Q a n : ℕ) → 1 ≤ Q → multiples Q a n * Q ≤ Q + n
 multiples-few Q a n q =
     let d = multiples Q a n in
-    let e : (a + n) / Q ≡ d + a / Q = omega (arith, later Q a n) in
+    let e : (a + n) / Q ≡ d + a / Q = omega (arith, quotient-grows Q a n) in
     omega (arith, ap (λ (k : ℕ). k * Q) e, add-mul d (a / Q) Q, div-add-mod' a Q, div-add-mod' (a + n) Q, mod-lt a {m = Q} q)
 
 pub counts-multiples : CountsMultiples
@@ -59,7 +59,7 @@ counts-multiples Q a n q = go (ltb (suc r) Q) refl
     go false e =
         let l = mod-lt x {m = Q} q in
         let m = next (suc d) 0 (omega (arith, div-add-mod' x Q, suc-mul d Q, ltb-false (suc r) Q e)) q in
-        rw (m .0, m .1) (omega (arith, later Q a n))
+        rw (m .0, m .1) (omega (arith, quotient-grows Q a n))
 
 -- ── the cuts of one segment's part
 
@@ -116,13 +116,13 @@ segment-many (suc f) M Q a h o (suc n) m le pos = go (ltb l (suc n)) refl (λ x 
     fewer : k ≤ n → y ≤ x
     fewer h =
         let last : a + k + (suc n - k - 1) ≡ a + (suc n - 1) = omega arith in
-        omega (arith, ap (λ (j : ℕ). j / Q) last, later Q a k)
+        omega (arith, ap (λ (j : ℕ). j / Q) last, quotient-grows Q a k)
 
     one-fewer : k ≤ n → 1 ≤ Q → a + k ≡ nextMultiple Q a → 1 + y ≤ x
     one-fewer h q e =
         let last : a + k + (suc n - k - 1) ≡ a + (suc n - 1) = omega arith in
         let at : (a + k) / Q ≡ a / Q + 1 = ap (λ (j : ℕ). j / Q) e ∙ mul-div-cancel (a / Q + 1) q in
-        omega (arith, ap (λ (j : ℕ). j / Q) last, at, later Q (a + k) (suc n - k - 1))
+        omega (arith, ap (λ (j : ℕ). j / Q) last, at, quotient-grows Q (a + k) (suc n - k - 1))
 
     go : (b : Bool) → ltb l (suc n) ≡ b → (suc n - k ≤ f → 1 ≤ suc n - k → length rest * M ≤ (1 + y) * M + (suc n - k)) → suc (length rest) * M ≤ (1 + x) * M + suc n
     go true b ih =
@@ -157,7 +157,7 @@ cuts-bound M Q from to ss m =
     let all : length (cutsOf (upTo M Q) from to ss) ≡ overParts f 0 from to ss = pieces-in (upTo M Q) 0 from to ss ∙ whole-parts f (λ a. refl) from to ss in
     omega (arith, all, parts-most M f (segmentMost Q) (λ a. refl) (pieces-many M Q m) from to ss m (λ a. omega (arith, none-inside Q a)), both-sums touches (multiplesInside Q) 0 from to ss)
 
--- ── how many multiples there are at most
+-- ── how many segments and multiples there are at most
 
 pub few-touched : FewTouched
 few-touched o from to [] = omega arith
@@ -170,7 +170,7 @@ few-touched o from to (s ∷ ss) = go (ltb 0 (partLength o from to s)) (few-touc
 none-crossed : (o from to : ℕ) (ss : List Segment) → crossed 0 o from to ss ≡ 0
 none-crossed o from to [] = refl
 none-crossed o from to (s ∷ ss) =
-    let a = partAt o from s in
+    let a = partAddress o from s in
     rw (div-zero (a + (partLength o from to s - 1)), div-zero a, none-crossed (o + s .len) from to ss)
 
 pub few-crossed : FewCrossed
@@ -179,10 +179,10 @@ few-crossed Q from to ss = go (eqb Q 0) refl
     go : (b : Bool) → eqb Q 0 ≡ b → crossed Q 0 from to ss ≤ cond b 0 (touched 0 from to ss + (to - from) / Q)
     go true e = rw (eqb-true Q 0 e) (omega (arith, none-crossed 0 from to ss))
     go false e =
-        let q : 1 ≤ Q = omega (arith, eqb-false Q 0 e) in
-        parts-most Q (multiplesInside Q) touches (none-inside Q) within from to ss q (λ a. refl)
+        let q = some-boundary Q e in
+        parts-most Q (multiplesInside Q) touches (none-inside Q) (within q) from to ss q (λ a. refl)
       where
-        within : Within Q (multiplesInside Q) touches
-        within a n h =
+        within : 1 ≤ Q → Within Q (multiplesInside Q) touches
+        within q a n h =
             let one : touches a n ≡ 1 = rw (lt-ltb 0 n h) in
-            rw one (omega (arith, one-mul Q, multiples-few Q a (n - 1) (omega (arith, eqb-false Q 0 e))))
+            rw one (omega (arith, one-mul Q, multiples-few Q a (n - 1) q))

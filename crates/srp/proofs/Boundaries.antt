@@ -11,18 +11,18 @@ use lib.Dec.{eqb, ltb}
 use lib.Pow.{pow-pos, mod-mod-pow}
 use borrow.Author.Tests.{eqb-true, eqb-false, eq-eqb, ne-eqb, ltb-true, ltb-false, not-false}
 use Rattle.srp.specs.Limits.{leastExponent, greatestExponent}
-use Rattle.srp.specs.Cutting.{nextMultiple, longestAt, isPower, badBoundary}
+use Rattle.srp.specs.Cutting.{nextMultiple, longestAt, isPower, badBoundary, Power, GoodBoundaries}
 use Rattle.srp.specs.Moves.{CrossesNone}
 use Rattle.srp.specs.declared.Piece.{Piece}
 
 -- ── the next multiple
 
-some-boundary : (Q : ℕ) → eqb Q 0 ≡ false → 1 ≤ Q
+pub some-boundary : (Q : ℕ) → eqb Q 0 ≡ false → 1 ≤ Q
 some-boundary Q e = omega (arith, eqb-false Q 0 e)
 
 module _ (Q a : ℕ) (q : 1 ≤ Q) where
   -- so far away it is
-  pub next-distance : a + (Q - a % Q) ≡ nextMultiple Q a
+  next-distance : a + (Q - a % Q) ≡ nextMultiple Q a
   next-distance = omega (arith, add-mul (a / Q) 1 Q, one-mul Q, div-add-mod' a Q, mod-lt a {m = Q} q)
 
   next-above : a < nextMultiple Q a
@@ -75,6 +75,15 @@ longest-remainder M Q a q =
 pub longest-alone : (M a : ℕ) → longestAt M 0 a ≡ M
 unfolding longestAt
 longest-alone M a = refl
+
+-- of what is left the shorter
+pub longest-least : (M Q a n : ℕ) → longestAt (min M n) Q a ≡ min (longestAt M Q a) n
+unfolding longestAt
+longest-least M Q a n = go (eqb Q 0) (nextMultiple Q a - a)
+  where
+    go : (b : Bool) (d : ℕ) → cond b (min M n) (min (min M n) d) ≡ min (cond b M (min M d)) n
+    go true d = refl
+    go false d = omega arith
 
 module _ (M Q : ℕ) (p : Piece) where
   -- a piece that is no longer crosses no multiple of Q
@@ -136,31 +145,33 @@ is-power k (suc n) j h l = go (ltb k j) refl (λ g. is-power (suc k) n j g (omeg
         let same : j ≡ k = omega (arith, ltb-false k j q) in
         rw (eq-eqb (2 ^ j) (2 ^ k) (ap (λ (i : ℕ). 2 ^ i) same))
 
--- a good Q is 0, or such a power
-pub good-boundary : (Q : ℕ) → badBoundary Q ≡ false → (Q ≡ 0) ⊎ ((k : ℕ) × (leastExponent ≤ k) × (k ≤ greatestExponent) × (Q ≡ 2 ^ k))
-unfolding badBoundary
-good-boundary Q e = go (eqb Q 0) refl (not-false _ e)
-  where
-    go : (b : Bool) → eqb Q 0 ≡ b → (b || isPower leastExponent (suc greatestExponent - leastExponent) Q) ≡ true
-        → (Q ≡ 0) ⊎ ((k : ℕ) × (leastExponent ≤ k) × (k ≤ greatestExponent) × (Q ≡ 2 ^ k))
-    go true q f = inl (eqb-true Q 0 q)
-    go false q f =
-        let r = power-of leastExponent (suc greatestExponent - leastExponent) Q f in
-        inr (r .0, r .1, omega (arith, r .2), r .3)
+abbrev powers : ℕ
+powers = suc greatestExponent - leastExponent
 
 pub zero-good : badBoundary 0 ≡ false
 unfolding badBoundary
 zero-good = refl
 
+-- a good Q is 0 or such a power
+pub good-boundary : (Q : ℕ) → badBoundary Q ≡ false → (Q ≡ 0) ⊎ Power Q
+unfolding badBoundary
+good-boundary Q e = go (eqb Q 0) refl (not-false _ e)
+  where
+    go : (b : Bool) → eqb Q 0 ≡ b → (b || isPower leastExponent powers Q) ≡ true → (Q ≡ 0) ⊎ Power Q
+    go true q f = inl (eqb-true Q 0 q)
+    go false q f = let r = power-of leastExponent powers Q f in inr (r .0, r .1, omega (arith, r .2), r .3)
+
 -- and each of these is good
 pub power-good : (k : ℕ) → leastExponent ≤ k → k ≤ greatestExponent → badBoundary (2 ^ k) ≡ false
 unfolding badBoundary
-power-good k h l = ap not (go (eqb (2 ^ k) 0) (is-power leastExponent (suc greatestExponent - leastExponent) k h (omega arith)))
+power-good k h l = ap not (go (eqb (2 ^ k) 0) (is-power leastExponent powers k h (omega arith)))
   where
-    go : (b : Bool) → isPower leastExponent (suc greatestExponent - leastExponent) (2 ^ k) ≡ true
-        → (b || isPower leastExponent (suc greatestExponent - leastExponent) (2 ^ k)) ≡ true
+    go : (b : Bool) → isPower leastExponent powers (2 ^ k) ≡ true → (b || isPower leastExponent powers (2 ^ k)) ≡ true
     go true f = refl
     go false f = f
+
+pub good-boundaries : GoodBoundaries
+good-boundaries Q = (good-boundary Q, λ x. ⊎-elim (λ (z : Q ≡ 0). rw z zero-good) (λ (r : Power Q). rw (r .3) (power-good (r .0) (r .1) (r .2))) x)
 
 -- ── an address in 64 bits
 
@@ -174,7 +185,7 @@ power-wraps k a h =
 pub longest-wraps : (M Q a : ℕ) → badBoundary Q ≡ false → longestAt M Q (a % 2 ^ 64) ≡ longestAt M Q a
 longest-wraps M Q a e =
     ⊎-elim (λ (z : Q ≡ 0). rw (z, longest-alone M (a % 2 ^ 64), longest-alone M a))
-    (λ (r : (k : ℕ) × (leastExponent ≤ k) × (k ≤ greatestExponent) × (Q ≡ 2 ^ k)).
+    (λ (r : Power Q).
     let q : 1 ≤ Q = omega (arith, r .3, pow-pos (r .0)) in
     let same : a % 2 ^ 64 % Q ≡ a % Q = rw (r .3) (power-wraps (r .0) a (omega (arith, r .2))) in
     longest-remainder M Q (a % 2 ^ 64) q ∙ ap (λ (x : ℕ). min M (Q - x)) same ∙ sym (longest-remainder M Q a q))

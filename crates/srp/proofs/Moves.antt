@@ -1,4 +1,4 @@
--- The cuts of a move: 1 to M long, each inside one segment, consecutive, and together the move's bytes, once; document 01's own list; and h.
+-- The cuts of a move: 1 to M long, crossing no multiple of Q, each inside one segment, consecutive, and together the move's bytes, once; document 01's own list; and h.
 -- Assumes nothing.
 use mathlib.Core.Path.{_≡_, refl, ap, sym, _∙_}
 use mathlib.Core.Logic.{_⊎_, inl, inr, ⊎-elim}
@@ -15,13 +15,13 @@ use borrow.Author.Tests.{lt-ltb, le-ltb, ltb-true, ltb-false}
 use Rattle.srp.specs.Lists.{All, isSome}
 use Rattle.srp.specs.Descriptors.{Segment, sumOf}
 use Rattle.srp.specs.Cutting.{Rule, upTo, bytesIn, highest, trimmed, cutSegment, cutsFrom, cutsOf, cuts}
-use Rattle.srp.specs.Moves.{InSegments, CrossesNone, Consecutive, run, bytesOfSegments, bytesOfPieces, MovesCut, OwnList, EndsAt, HighestIs, HighestOfOwn}
+use Rattle.srp.specs.Moves.{InSegments, CrossesNone, Consecutive, run, bytesOfSegments, bytesOfPieces, MovesCut, NextCrossesNone, OwnList, EndsAt, HighestIs, HighestOfOwn}
 use Rattle.srp.specs.Credit.{ruleOf}
-use Rattle.srp.specs.Calls.{hasPieces, nextIn}
+use Rattle.srp.specs.Calls.{hasPieces, nextIn, wrapped}
 use Rattle.srp.specs.Ranges.{HasPieces}
 use Rattle.srp.specs.declared.Piece.{Piece}
 use Rattle.srp.proofs.ListLaws.{all-weaken}
-use Rattle.srp.proofs.Boundaries.{longest-most, longest-crosses-none}
+use Rattle.srp.proofs.Boundaries.{longest-most, longest-crosses-none, longest-wraps}
 use Rattle.srp.proofs.CutLaws.{Lawful, up-to, done-iff, cutSegment-bytes, next-at, cutsFrom-bytes}
 use Rattle.srp.proofs.Pieces.{piece-fits, as-long}
 
@@ -170,6 +170,13 @@ moves-cut M Q from to ss m h =
       bytes = move-bytes rule from to ss cut h;
       covered = move-covered rule from to ss cut;
     }
+
+pub next-crosses-none : NextCrossesNone
+next-crosses-none M Q from to ss p m e =
+    let r = piece-fits (upTo M Q) 0 from to ss p (up-to M Q m) e .ruled in (
+      longest-crosses-none M Q p (omega (arith, r .1)),
+      λ good. longest-crosses-none M Q (wrapped p) (omega (arith, r .1, longest-wraps M Q (p .address) good)),
+    )
 
 pub own-list : OwnList
 own-list rule R ss =

@@ -1,5 +1,5 @@
--- Sums over the segments' parts of a move: counted on from segment to segment, as the cuts are made, they are those of specs/Fewest.antt; and one that is no more
--- than another and the bytes of each part, is so of the whole move.
+-- Sums over the segments' parts of a move: counted on from segment to segment, as the cuts are made, they are those of specs/Fewest.antt. Where of each part K times
+-- one count is at most K times another and the part's bytes, the one count of the whole move is at most the other and its bytes divided by K.
 -- Assumes nothing.
 use mathlib.Core.Path.{_≡_, refl, ap, sym, _∙_}
 use mathlib.Core.Bool.{Bool, true, false}
@@ -23,6 +23,19 @@ inParts f from to (s ∷ ss) =
 abbrev pub Counts : (ℕ → ℕ → ℕ) → Type 0
 Counts f = (a : ℕ) → f a 0 ≡ 0
 
+-- places counted from the segment's first byte and from the buffer's
+passed-over : (o k n to : ℕ) → n ≤ to - o → k - o - min n (to - o) ≡ k - (o + n)
+passed-over o k n to h = let e : min n (to - o) ≡ n = omega arith in rw e (omega arith)
+
+ends : (o n to : ℕ) → min n (to - o) ≡ min (o + n) to - o
+ends o n to = omega arith
+
+starts : (o from : ℕ) → from - o ≡ max o from - o
+starts o from = omega arith
+
+less : (o x y : ℕ) → o ≤ y → x - y ≡ x - o - (y - o)
+less o x y h = omega arith
+
 module _ (f : ℕ → ℕ → ℕ) (counts : Counts f) where
   none-in : (from : ℕ) (ss : List Segment) → inParts f from 0 ss ≡ 0
   none-in from [] = refl
@@ -30,19 +43,6 @@ module _ (f : ℕ → ℕ → ℕ) (counts : Counts f) where
       let n : min (s .len) 0 ≡ 0 = omega arith in
       let z : 0 - from ≡ 0 = omega arith in
       rw (n, z, counts (s .address + from), none-in (from - 0) ss)
-
-  passed-over : (o k n to : ℕ) → n ≤ to - o → k - o - min n (to - o) ≡ k - (o + n)
-  passed-over o k n to h = let e : min n (to - o) ≡ n = omega arith in rw e (omega arith)
-
-  -- a part's ends counted from the segment's first byte and from the buffer's
-  ends : (o n to : ℕ) → min n (to - o) ≡ min (o + n) to - o
-  ends o n to = omega arith
-
-  starts : (o from : ℕ) → from - o ≡ max o from - o
-  starts o from = omega arith
-
-  less : (o x y : ℕ) → o ≤ y → x - y ≡ x - o - (y - o)
-  less o x y h = omega arith
 
   -- it is the same sum, each part by its own place
   same-parts : (o from to : ℕ) (ss : List Segment) → inParts f (from - o) (to - o) ss ≡ overParts f o from to ss

@@ -16,7 +16,7 @@ use Rattle.srp.specs.Fewest.{touched, crossed}
 use Rattle.srp.specs.Ranges.{mostOperations, OperationsAtMost}
 use Rattle.srp.specs.declared.Descriptor.{Descriptor}
 use Rattle.srp.proofs.FieldLaws.{both}
-use Rattle.srp.proofs.Bound.{later, cuts-bound, few-touched, few-crossed}
+use Rattle.srp.proofs.Bound.{quotient-grows, cuts-bound, few-touched, few-crossed}
 
 pub segments-count : (n : ℕ) (l : List ℕ) → length (segmentsIn n l) ≡ n
 segments-count zero l = refl
@@ -70,7 +70,7 @@ more-slots : (M Q m n : ℕ) → m ≤ n → mostOperations M Q m ≤ mostOperat
 more-slots M Q m n h = go (eqb Q 0)
   where
     d : (K : ℕ) → m / K ≤ n / K
-    d K = let e : n ≡ m + (n - m) = omega arith in rw e (later K m (n - m))
+    d K = let e : n ≡ m + (n - m) = omega arith in rw e (quotient-grows K m (n - m))
 
     go : (b : Bool) → mostCopies + m / M + cond b 0 (mostCopies + m / Q) ≤ mostCopies + n / M + cond b 0 (mostCopies + n / Q)
     go true = omega (arith, d M)

@@ -1,6 +1,6 @@
 -- Document 02, job 6, worked out by hand: which Q is bad, how long a piece may be at an address, and the pieces of a port and of the cut around multiples of Q.
 -- They hold: proofs/BoundaryRows.antt, and of `boundaries`, a part of the table of specs/FurtherRows.antt, proofs/Bench.antt.
-use mathlib.Core.Bool.{Bool, true, false}
+use mathlib.Core.Bool.{true}
 use mathlib.Core.List.{List, [], _∷_, _++_}
 use Prim.Native.Nat.{ℕ}
 use lib.ListN.{replicate}

@@ -1,8 +1,10 @@
 -- Document 01, "Cutting", and document 02, jobs 1 and 6: the pieces of a move in one direction, and the next of them.
+use mathlib.Core.Path.{_≡_}
+use mathlib.Core.Logic.{_⊎_, _↔_}
 use mathlib.Core.Bool.{Bool, false, cond, not, _||_}
 use mathlib.Core.List.{List, [], _∷_, _++_}
 use mathlib.Core.Option.{Option, none, some}
-use Prim.Native.Nat.{ℕ, zero, suc, _+_, _-_, _*_, _/_, _%_, _^_, min, max}
+use Prim.Native.Nat.{ℕ, zero, suc, _+_, _-_, _*_, _/_, _%_, _^_, _≤_, min, max}
 use lib.Dec.{ltb, leb, eqb}
 use lib.ListN.{length}
 use Rattle.srp.specs.Limits.{largestPiece, leastExponent, greatestExponent, longestTable}
@@ -91,7 +93,7 @@ abbrev pub pieces : ℕ → Rule → ℕ → ℕ → List Segment → List Piece
 pieces zero rule from to ss = []
 pieces (suc f) rule from to ss = elim (next rule from to ss) [ none ↦ [] | some p ↦ p ∷ pieces f rule (from + p .len) to ss ]
 
--- ── the cut as C calls it
+-- ── M and Q
 
 -- "M 1 to 1,048,576"
 abbrev pub badMaximum : ℕ → Bool
@@ -105,6 +107,16 @@ isPower k (suc n) x = eqb x (2 ^ k) || isPower (suc k) n x
 -- "0 for none, or a power of two from 512 to 2^32"
 unfoldable pub badBoundary : ℕ → Bool
 badBoundary Q = not (eqb Q 0 || isPower leastExponent (suc greatestExponent - leastExponent) Q)
+
+-- such a power
+abbrev pub Power : ℕ → Type 0
+Power Q = (k : ℕ) × (leastExponent ≤ k) × (k ≤ greatestExponent) × (Q ≡ 2 ^ k)
+
+-- so a Q that is not bad is 0 or such a power, and each of these is not bad: proofs/Boundaries.antt
+abbrev pub GoodBoundaries : Type 0
+GoodBoundaries = (Q : ℕ) → (badBoundary Q ≡ false) ↔ ((Q ≡ 0) ⊎ Power Q)
+
+-- ── the cut as C calls it
 
 -- "2 for M out of range; 11 for a list not a multiple of 16 up to 512 bytes, or more handed out than min(R, B); 10 for a segment
 -- past 2^64 or a sum above 2^32 - 1; the list's 11 before 10, the other after"; "A bad Q draws refusal 2"

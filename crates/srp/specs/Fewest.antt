@@ -37,8 +37,8 @@ RivalsCover = (T : Terms) (from to : ℕ) (ss : List Segment) (ps : List Piece)
 -- segment's part of the move"
 
 -- a segment's part of the bytes from `from` up to `to`, where o bytes come before the segment: the address of its first byte, and how many they are
-abbrev pub partAt : (o from : ℕ) → Segment → ℕ
-partAt o from s = s .address + (from - o)
+abbrev pub partAddress : (o from : ℕ) → Segment → ℕ
+partAddress o from s = s .address + (from - o)
 
 abbrev pub partLength : (o from to : ℕ) → Segment → ℕ
 partLength o from to s = min (o + s .len) to - max o from
@@ -46,7 +46,7 @@ partLength o from to s = min (o + s .len) to - max o from
 -- the sum, over the segments, of what f says of such an address and length
 abbrev pub overParts : (f : ℕ → ℕ → ℕ) (o from to : ℕ) → List Segment → ℕ
 overParts f o from to [] = 0
-overParts f o from to (s ∷ ss) = f (partAt o from s) (partLength o from to s) + overParts f (o + s .len) from to ss
+overParts f o from to (s ∷ ss) = f (partAddress o from s) (partLength o from to s) + overParts f (o + s .len) from to ss
 
 abbrev pub touches : (address n : ℕ) → ℕ
 touches address n = cond (ltb 0 n) 1 0
@@ -85,6 +85,6 @@ CountsMultiples = (Q address n : ℕ) → 1 ≤ Q → multiples Q address (suc n
 abbrev pub FewTouched : Type 0
 FewTouched = (o from to : ℕ) (ss : List Segment) → touched o from to ss ≤ length ss
 
--- and a part of n bytes has at most one multiple of Q inside for each Q bytes, and one more; without boundaries there is none
+-- and no more multiples are inside than there are segments with a byte in it and its bytes divided by Q; without boundaries there are none
 abbrev pub FewCrossed : Type 0
 FewCrossed = (Q from to : ℕ) (ss : List Segment) → crossed Q 0 from to ss ≤ cond (eqb Q 0) 0 (touched 0 from to ss + (to - from) / Q)

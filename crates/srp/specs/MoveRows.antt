@@ -10,8 +10,9 @@ use Rattle.srp.specs.Fewest.{touched, crossed}
 use Rattle.srp.specs.declared.Terms.{Terms}
 use Rattle.srp.specs.declared.Piece.{Piece}
 
--- a move in segments of so many bytes, each at address 1000h; M and Q
+-- a move in segments of so many bytes, each at the same address; M and Q
 pub record Moving : Type 0 where
+  pub address : ℕ
   pub lengths : List ℕ
   pub from : ℕ
   pub to : ℕ
@@ -26,7 +27,7 @@ pub record Counts : Type 0 where
   pub most : ℕ
 
 abbrev pub segmentsOf : Moving → List Segment
-segmentsOf m = map (λ n. record { address = 0x1000; handle = 7; len = n }) (m .lengths)
+segmentsOf m = map (λ n. record { address = m .address; handle = 7; len = n }) (m .lengths)
 
 abbrev pub countsOf : Moving → Counts
 countsOf m =
@@ -39,12 +40,12 @@ countsOf m =
       most = t + (m .to - m .from) / m .maximum + k;
     }
 
-abbrev pub bounded : (lengths : List ℕ) (from to maximum boundary : ℕ) → Moving
-bounded lengths from to maximum boundary = record { lengths = lengths; from = from; to = to; maximum = maximum; boundary = boundary }
+abbrev pub bounded : (address : ℕ) (lengths : List ℕ) (from to maximum boundary : ℕ) → Moving
+bounded address lengths from to maximum boundary = record { address = address; lengths = lengths; from = from; to = to; maximum = maximum; boundary = boundary }
 
 -- without boundaries
 abbrev pub moved : (lengths : List ℕ) (from to maximum : ℕ) → Moving
-moved lengths from to maximum = bounded lengths from to maximum 0
+moved lengths from to maximum = bounded 0x1000 lengths from to maximum 0
 
 abbrev pub crosses : (segments multiples operations most : ℕ) → Counts
 crosses segments multiples operations most = record { segments = segments; multiples = multiples; operations = operations; most = most }
@@ -75,21 +76,26 @@ rows =
     -- the most bytes and segments that a direction can have, with the largest M: the most operations
     ∷ (moved (4294967264 ∷ replicate 31 1) 0 4294967295 1048576, counts 32 4127 4127)
     -- boundaries: a multiple where a part starts or ends is not inside it
-    ∷ (bounded (1300 ∷ []) 0 512 1048576 512, crosses 1 0 1 1)
-    ∷ (bounded (1300 ∷ []) 0 513 1048576 512, crosses 1 1 2 2)
-    ∷ (bounded (1300 ∷ []) 511 513 1048576 512, crosses 1 1 2 2)
-    ∷ (bounded (1300 ∷ []) 512 1024 1048576 512, crosses 1 0 1 1)
-    ∷ (bounded (1300 ∷ []) 0 1300 1048576 512, crosses 1 2 3 3)
+    ∷ (bounded 0x1000 (1300 ∷ []) 0 512 1048576 512, crosses 1 0 1 1)
+    ∷ (bounded 0x1000 (1300 ∷ []) 0 513 1048576 512, crosses 1 1 2 2)
+    ∷ (bounded 0x1000 (1300 ∷ []) 511 513 1048576 512, crosses 1 1 2 2)
+    ∷ (bounded 0x1000 (1300 ∷ []) 512 1024 1048576 512, crosses 1 0 1 1)
+    ∷ (bounded 0x1000 (1300 ∷ []) 0 1300 1048576 512, crosses 1 2 3 3)
     -- M ends pieces too: the bound is met, or not where M ends one at a multiple
-    ∷ (bounded (1300 ∷ []) 100 1300 1000 512, crosses 1 2 3 4)
-    ∷ (bounded (600 ∷ []) 0 600 400 512, crosses 1 1 3 3)
-    ∷ (bounded (1024 ∷ []) 0 1024 512 512, crosses 1 1 2 4)
+    ∷ (bounded 0x1000 (1300 ∷ []) 100 1300 1000 512, crosses 1 2 3 4)
+    ∷ (bounded 0x1000 (600 ∷ []) 0 600 400 512, crosses 1 1 3 3)
+    ∷ (bounded 0x1000 (1024 ∷ []) 0 1024 512 512, crosses 1 1 2 4)
+    -- by the addresses, not by the offsets: 1200h is inside, 1400h and 1600h too
+    ∷ (bounded 0x11ff (2 ∷ []) 0 2 1048576 512, crosses 1 1 2 2)
+    ∷ (bounded 0x1200 (2 ∷ []) 0 2 1048576 512, crosses 1 0 1 1)
+    ∷ (bounded 0x1100 (1300 ∷ []) 0 1300 1048576 512, crosses 1 3 4 4)
     -- each segment's part by its own addresses; a segment without a byte has none
-    ∷ (bounded (600 ∷ 0 ∷ 700 ∷ []) 0 1300 1048576 512, crosses 2 2 4 4)
-    ∷ (bounded (600 ∷ 0 ∷ 700 ∷ []) 600 1300 1048576 512, crosses 1 1 2 2)
-    ∷ (bounded (600 ∷ 700 ∷ []) 300 300 512 512, crosses 0 0 0 0)
+    ∷ (bounded 0x1100 (300 ∷ 300 ∷ []) 100 600 1048576 512, crosses 2 2 4 4)
+    ∷ (bounded 0x1000 (600 ∷ 0 ∷ 700 ∷ []) 0 1300 1048576 512, crosses 2 2 4 4)
+    ∷ (bounded 0x1000 (600 ∷ 0 ∷ 700 ∷ []) 600 1300 1048576 512, crosses 1 1 2 2)
+    ∷ (bounded 0x1000 (600 ∷ 700 ∷ []) 300 300 512 512, crosses 0 0 0 0)
     -- and the largest Q
-    ∷ (bounded (4294967264 ∷ replicate 31 1) 0 4294967295 1048576 4294967296, crosses 32 1 4128 4128)
+    ∷ (bounded 0x1000 (4294967264 ∷ replicate 31 1) 0 4294967295 1048576 4294967296, crosses 32 1 4128 4128)
     ∷ []
 
 -- ── lists for the 700 bytes of two segments that adjoin in memory, with M = 512

@@ -1,13 +1,15 @@
 -- Document 02, jobs 1 and 6: what the cuts of a move are, and what h is. The laws are proofs/Moves.antt.
 use mathlib.Core.Path.{_≡_}
 use mathlib.Core.Logic.{_⊎_}
+use mathlib.Core.Bool.{false}
 use mathlib.Core.List.{List, [], _∷_, _++_}
 use mathlib.Core.Option.{some}
 use Prim.Native.Nat.{ℕ, zero, suc, _+_, _-_, _*_, _≤_, _<_, min}
 use lib.ListN.{take, drop, getElem?}
 use Rattle.srp.specs.Lists.{All}
 use Rattle.srp.specs.Descriptors.{Segment, sumOf}
-use Rattle.srp.specs.Cutting.{Rule, upTo, bytesIn, highest, cutsOf, cuts, trimmed}
+use Rattle.srp.specs.Cutting.{Rule, upTo, bytesIn, highest, cutsOf, cuts, trimmed, next, badBoundary}
+use Rattle.srp.specs.Calls.{wrapped}
 use Rattle.srp.specs.declared.Piece.{Piece}
 
 -- ── pieces and segments
@@ -75,6 +77,11 @@ pub record CutAsMove (M Q from to : ℕ) (ss : List Segment) (ps : List Piece) :
 -- a move ends by min(R, B), so by B
 abbrev pub MovesCut : Type 0
 MovesCut = (M Q from to : ℕ) (ss : List Segment) → 1 ≤ M → to ≤ sumOf ss → CutAsMove M Q from to ss (cutsOf (upTo M Q) from to ss)
+
+-- a piece by itself crosses none, whatever the segments; with a good Q its address in 64 bits, as a call hands it out, does not either
+abbrev pub NextCrossesNone : Type 0
+NextCrossesNone = (M Q from to : ℕ) (ss : List Segment) (p : Piece) → 1 ≤ M → next (upTo M Q) from to ss ≡ some p
+    → CrossesNone Q p × (badBoundary Q ≡ false → CrossesNone Q (wrapped p))
 
 -- document 01's own list is the move that offset 0 and count R name
 abbrev pub OwnList : Type 0

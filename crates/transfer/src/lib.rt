@@ -124,13 +124,13 @@ fn next_for(store: &[u8], place: u8, p: Part, d: Direction, terms: Terms) -> Cut
 {
     let at = place_for(place, d);
     let end = at + (p.segments as usize) * SEGMENT;
-    cut::next_piece(
+    let piece = cut::next_piece(
         &store[at..end],
         terms.maximum,
-        terms.boundary,
         p.transfer.at,
         p.transfer.end,
-    )
+    );
+    cut::end_at_boundary(piece, terms.boundary)
 }
 
 // The next piece of the planned command in slot i, or done.

@@ -108,7 +108,7 @@ shown-ranges l st =
     let n : length (shown l st .held) ≡ headOf l .held = length-map (opens l) (openOf st) ∙ opens-long l in
     record { counts = rw n (F .counts); terms = F .terms }
 
--- the port that any words are is closed, or in document 01's ranges
+-- the port that any words are is closed, or in the papers' ranges
 pub any-words : (l st : List ℕ) → (view l st ≡ closedPort) ⊎ InRanges (view l st)
 any-words l st = go (headOf l .live)
   where

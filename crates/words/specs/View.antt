@@ -53,7 +53,7 @@ view l st = cond (headOf l .live) (shown l st) closedPort
 abbrev pub closedWords : List ℕ
 closedWords = replicate portWords 0
 
--- an open port in document 01's ranges
+-- an open port in the papers' ranges
 pub record InRanges (p : Port) : Type 0 where
   pub counts : CountsFit (length (p .held)) (p .wanted) (p .announced)
   pub terms : TermsFit (p .terms)

@@ -1,6 +1,9 @@
 -- `cut::cut` meets its contract. Assumes nothing.
-use mathlib.Core.Path.{sym, _∙_}
+use mathlib.Core.Path.{sym, ap, _∙_}
 use native.Mathlib.Omega.{arith}
+use Rattle.srp.specs.Descriptors.{segmentsOf}
+use Rattle.cut.specs.Walk.{ended}
+use Rattle.cut.proofs.Pieces.{ended-next}
 use Rattle.cut.proofs.Refusing.{zero-maximum, large-maximum, bad-boundary, boundary-fine, broken-list, long-list, past-the-end, large-total, too-many, next-is}
 use borrow.Author.Needs.{needs}
 use Rattle.cut.proofs.cut.Statement.{statement}
@@ -57,12 +60,15 @@ returns-8 c =
     let a = c .before .before .before .before .before .before .before .before .before .before .before .before .before .before .args in too-many (a .list .now) (a .most) (a .q) (a .required) (a .handed) (c .before .before .before .before .before .before .before .before .before .before .before .before .if1 .left) (c .before .before .before .before .before .before .before .before .before .before .before .if2 .left) (c .before .before .before .before .before .before .before .before .before .before .is-bad .ensures) (c .before .before .before .before .before .before .before .before .before .if3 .left) (c .before .before .before .before .before .before .before .before .if4 .left) (c .before .before .before .before .before .before .before .if5 .left) (sym (c .before .before .before .before .before .before .sum .ensures .0) ∙ c .before .before .before .before .total .given .1) (omega arith) (c .before .least .ensures) (c .if7 .taken)
 
 next-piece-requires : tie.Need-next-piece-requires
-next-piece-requires c κs =
-    let a = c .before .before .before .before .before .before .before .before .before .before .before .before .before .before .args in boundary-fine (a .list .now) (a .most) (a .q) (a .required) (a .handed) (c .before .before .before .before .before .before .before .before .before .before .before .before .if1 .left) (c .before .before .before .before .before .before .before .before .before .before .before .if2 .left) (c .before .before .before .before .before .before .before .before .before .before .is-bad .ensures) (c .before .before .before .before .before .before .before .before .before .if3 .left)
+next-piece-requires c κs = search needs
+
+end-at-boundary-requires : tie.Need-end-at-boundary-requires
+end-at-boundary-requires c κs =
+    let a = c .before .before .before .before .before .before .before .before .before .before .before .before .before .before .before .args in boundary-fine (a .list .now) (a .most) (a .q) (a .required) (a .handed) (c .before .before .before .before .before .before .before .before .before .before .before .before .before .if1 .left) (c .before .before .before .before .before .before .before .before .before .before .before .before .if2 .left) (c .before .before .before .before .before .before .before .before .before .before .before .is-bad .ensures) (c .before .before .before .before .before .before .before .before .before .before .if3 .left)
 
 returns-9 : tie.Need-returns-9
 returns-9 c =
-    let a = c .before .before .before .before .before .before .before .before .before .before .before .before .before .before .before .args in c .next-piece .ensures ∙ next-is (a .list .now) (a .most) (a .q) (a .required) (a .handed) (c .before .before .before .before .before .before .before .before .before .before .before .before .before .if1 .left) (c .before .before .before .before .before .before .before .before .before .before .before .before .if2 .left) (c .before .before .before .before .before .before .before .before .before .before .before .is-bad .ensures) (c .before .before .before .before .before .before .before .before .before .before .if3 .left) (c .before .before .before .before .before .before .before .before .before .if4 .left) (c .before .before .before .before .before .before .before .before .if5 .left) (sym (c .before .before .before .before .before .before .before .sum .ensures .0) ∙ c .before .before .before .before .before .total .given .1) (omega arith) (c .before .before .least .ensures) (c .before .if7 .left)
+    let a = c .before .before .before .before .before .before .before .before .before .before .before .before .before .before .before .before .args in c .end-at-boundary .ensures ∙ ap (ended (a .q)) (c .before .next-piece .ensures) ∙ ended-next (a .most) (a .q) (a .handed) (c .before .before .before .least .result) (segmentsOf (a .list .now)) (boundary-fine (a .list .now) (a .most) (a .q) (a .required) (a .handed) (c .before .before .before .before .before .before .before .before .before .before .before .before .before .before .if1 .left) (c .before .before .before .before .before .before .before .before .before .before .before .before .before .if2 .left) (c .before .before .before .before .before .before .before .before .before .before .before .before .is-bad .ensures) (c .before .before .before .before .before .before .before .before .before .before .before .if3 .left)) ∙ next-is (a .list .now) (a .most) (a .q) (a .required) (a .handed) (c .before .before .before .before .before .before .before .before .before .before .before .before .before .before .if1 .left) (c .before .before .before .before .before .before .before .before .before .before .before .before .before .if2 .left) (c .before .before .before .before .before .before .before .before .before .before .before .before .is-bad .ensures) (c .before .before .before .before .before .before .before .before .before .before .before .if3 .left) (c .before .before .before .before .before .before .before .before .before .before .if4 .left) (c .before .before .before .before .before .before .before .before .before .if5 .left) (sym (c .before .before .before .before .before .before .before .before .sum .ensures .0) ∙ c .before .before .before .before .before .before .total .given .1) (omega arith) (c .before .before .before .least .ensures) (c .before .before .if7 .left)
 
 pub cut-spec : {M : Type 1} → statement M
 cut-spec =
@@ -83,4 +89,5 @@ cut-spec =
     cast-to
     returns-8
     next-piece-requires
+    end-at-boundary-requires
     returns-9)

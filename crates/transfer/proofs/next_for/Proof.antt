@@ -1,6 +1,10 @@
 -- `transfer::next_for` meets its contract. Assumes nothing.
 use mathlib.Core.Path.{_∙_, ap}
-use Rattle.cut.specs.Walk.{nextWrapped}
+use Prim.Native.Nat.{_+_, _-_, _*_}
+use lib.ListN.{take, drop}
+use Rattle.srp.specs.Descriptors.{segmentsOf}
+use Rattle.cut.specs.Walk.{nextWrapped, ended}
+use Rattle.cut.proofs.Pieces.{ended-next}
 use Rattle.transfer.proofs.Pieces.{next-part}
 use borrow.Author.Needs.{needs}
 use Rattle.transfer.proofs.next_for.Statement.{statement}
@@ -30,10 +34,19 @@ part-next-piece-end c = search needs
 next-piece-requires : tie.Need-next-piece-requires
 next-piece-requires c κs = search needs
 
+end-at-boundary-requires : tie.Need-end-at-boundary-requires
+end-at-boundary-requires c κs = search needs
+
 returns : tie.Need-returns
 returns c =
-    let a = c .before .before .before .before .before .args in
-    c .next-piece .ensures ∙ ap nextWrapped (next-part (a .terms) (a .store .now) (a .place) (a .d) (a .p) (c .before .before .before .place-for .ensures .0))
+    let a = c .before .before .before .before .before .before .args in
+    let at = c .before .before .before .before .place-for .result in
+    let T = a .terms in
+    let t = a .p .transfer in
+    c .end-at-boundary .ensures
+    ∙ ap (ended (T .boundary)) (c .before .next-piece .ensures)
+    ∙ ended-next (T .maximum) (T .boundary) (t .at) (t .end) (segmentsOf (take (at + a .p .segments * 16 - at) (drop at (a .store .now)))) (c .before .before .before .before .before .before .pre .1 .1 .1)
+    ∙ ap nextWrapped (next-part T (a .store .now) (a .place) (a .d) (a .p) (c .before .before .before .before .place-for .ensures .0))
 
 pub next-for-spec : {M : Type 1} → statement M
 next-for-spec =
@@ -47,4 +60,5 @@ next-for-spec =
     part-next-piece-start
     part-next-piece-end
     next-piece-requires
+    end-at-boundary-requires
     returns)

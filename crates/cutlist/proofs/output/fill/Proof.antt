@@ -5,7 +5,6 @@ use Prim.Native.Nat.{_-_}
 use native.Mathlib.Omega.{arith}
 use borrow.Author.Needs.{needs}
 use Rattle.srp.specs.Descriptors.{segmentsOf}
-use Rattle.srp.proofs.Boundaries.{zero-good}
 use Rattle.cutlist.proofs.Filling.{Filling, start, filled, there, fits, short, on}
 use Rattle.cutlist.proofs.output.fill.Statement.{statement}
 use Rattle.cutlist.proofs.output.fill.Tie as tie
@@ -36,7 +35,7 @@ returns c =
 
 next-piece-requires : tie.Need-next-piece-requires Inv-loop μ-loop
 next-piece-requires c κs =
-    zero-good
+    search needs
 
 enum-known-p : tie.Need-enum-known-p Inv-loop μ-loop
 enum-known-p c =
