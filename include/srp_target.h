@@ -315,9 +315,9 @@ uint32_t srp_target_plan(uint64_t *port, uint64_t tag, uint32_t r_out, uint32_t 
  *   31  offset above min(R, B)
  *   32  the earlier move of this direction still has pieces
  *
- * After 0 it is the direction's current move, and the number in step's answers starts at 0. Moves may come in any order,
- * overlap, and be repeated; h does not change until a piece is handed out. A count of 0, or an offset of min(R, B),
- * names no bytes and is lawful: step says done.
+ * After 0 it is the direction's current move, and the number in step's answers starts at 0. Moves may come in any
+ * order, overlap, and be repeated; h does not change until a piece is handed out. A count of 0, or an offset of
+ * min(R, B), names no bytes and is lawful: step says done.
  */
 uint32_t srp_target_move(uint64_t *port, uint64_t tag, uint32_t direction, uint32_t offset, uint32_t count);
 

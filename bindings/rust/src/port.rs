@@ -114,9 +114,9 @@ impl Port {
         checked(ffi::plan(&mut self.words, tag, required_out, required_in))
     }
 
-    /// Names a move of an open command: the bytes of a direction that [`Port::step`] hands out next, from `offset` up to
-    /// the smaller of `offset + count`, which does not wrap, and min(R, B). Moves may come in any order, overlap and be
-    /// repeated. With a count of 0, or an offset of min(R, B), a move has no bytes and is lawful. The number of
+    /// Names a move of an open command: the bytes of a direction that [`Port::step`] hands out next, from `offset` up
+    /// to the smaller of `offset + count`, which does not wrap, and min(R, B). Moves may come in any order, overlap and
+    /// be repeated. With a count of 0, or an offset of min(R, B), a move has no bytes and is lawful. The number of
     /// operations handed out starts at 0 with each move; one that is refused leaves it.
     ///
     /// # Errors
@@ -172,8 +172,8 @@ impl Port {
     }
 
     /// Ends an open command, planned or not, with its SCSI status and sense. Returned is the SRP_RSP to be sent, with
-    /// the residual of each direction: R above B is over by R - B; else h below B is under by B - h, h being the highest
-    /// offset handed out + 1, 0 where nothing was.
+    /// the residual of each direction: R above B is over by R - B; else h below B is under by B - h, h being the
+    /// highest offset handed out + 1, 0 where nothing was.
     ///
     /// # Errors
     /// Refused: 1 `buf` under 132 bytes; 21 closed; 11 sense above 96 bytes, or any with a status other than 02h; 24

@@ -81,8 +81,8 @@ pub type Piece = Option<[u64; 4]>;
 pub fn piece(byte: Option<&Byte>, limits: Limits, from: u64, to: u64) -> Piece {
     let length = |byte: &Byte| {
         let most = byte.left.min(limits.m.into()).min(to - from);
-        let walked = if limits.q == 0 { 0..0 } else { 1..most };
-        walked.into_iter().find(|length| is_multiple(byte.address.wrapping_add(*length), limits.q)).unwrap_or(most)
+        let mut behind = if limits.q == 0 { 0..0 } else { 1..most };
+        behind.find(|length| is_multiple(byte.address.wrapping_add(*length), limits.q)).unwrap_or(most)
     };
     byte.filter(|_| from < to).map(|byte| [byte.handle.into(), byte.address, length(byte), from])
 }

@@ -1,7 +1,7 @@
 //! Job 6 of document 02: "a setting Q, 0 for none, or a power of two from 512 to 2^32". "A piece now ends at the
 //! nearest of M, the segment's end, the move's end and the next multiple of Q above its first address." "A bad Q draws
-//! refusal 2." Each power of two and the numbers beside it in a login, in the cut and in a port's words; addresses around
-//! multiples; the end of memory. The pieces are those that `search` finds byte by byte.
+//! refusal 2." Each power of two and the numbers beside it in a login, in the cut and in a port's words; addresses
+//! around multiples; the end of memory. The pieces are those that `search` finds byte by byte.
 
 use srp_tests::calls::{Call as _, Cut, Memory, Placement};
 use srp_tests::generate::list_of;

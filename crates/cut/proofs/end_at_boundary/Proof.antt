@@ -12,7 +12,7 @@ enum-known-c-2 : tie.Need-enum-known-c-2
 enum-known-c-2 c = search needs
 
 longest-at-requires : tie.Need-longest-at-requires
-longest-at-requires c κs = search needs
+longest-at-requires c κs = c .before .before .before .pre
 
 enum-told : tie.Need-enum-told
 enum-told c = search needs

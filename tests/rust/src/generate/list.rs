@@ -29,6 +29,7 @@ pub fn segment(random: &mut Random, length: u32, q: u64, may_pass: bool) -> Memo
     MemoryDescriptor { address: if passes && !may_pass { last } else { address }, handle: handle(random), length }
 }
 
+/// Whether Q is good and not 0.
 pub fn is_boundary(q: u64) -> bool {
     (512..=1 << 32).contains(&q) && q.is_power_of_two()
 }
@@ -40,7 +41,7 @@ fn before_multiple(random: &mut Random, q: u64, length: u32) -> u64 {
     multiple + 1 - random.of(&[0, 1, 2, below, below, below, length, length + 1])
 }
 
-/// Q of a login or of the cut: none, small ones, any power of two that is one, and some that are none.
+/// Q of a login or of the cut: 0 for none, small ones, any good one, and bad ones.
 pub fn boundary(random: &mut Random) -> u64 {
     let any = random.u64();
     match random.below(16) {

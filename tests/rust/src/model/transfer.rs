@@ -83,8 +83,8 @@ impl Port {
     }
 }
 
-/// "An operation is kind, handle, address, length, offset in the buffer." "Step's answers carry the number handed out so
-/// far for the current move, their own piece included": done's too.
+/// "An operation is kind, handle, address, length, offset in the buffer." "Step's answers carry the number handed out
+/// so far for the current move, their own piece included": done's too.
 fn hand_out(transfer: &mut Transfer, operation: u64, limits: Limits, answer: &mut Answer) {
     let current = &mut transfer.current;
     if let Some(piece) = next_piece(&transfer.segments, limits, current.start, current.end) {

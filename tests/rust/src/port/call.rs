@@ -30,7 +30,8 @@ pub struct Outcome {
     pub records: Vec<u64>,
 }
 
-/// What the answer words hold before a call: each must be written, but by plan, move, add and withdraw, which have none.
+/// What the answer words hold before a call: each must be written, but by plan, move, add and withdraw, which have
+/// none.
 pub const UNWRITTEN: Answer = [0xa5a5_a5a5_a5a5_a5a5; 8];
 
 /// Something that has a port: the library or the model.

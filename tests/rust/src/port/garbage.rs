@@ -12,9 +12,9 @@ use crate::model;
 use crate::random::Random;
 use crate::tally::Tally;
 
-/// The word of a port that has Q, as itself; and numbers there that are read as none.
+/// The word of a port that has Q, as itself; and bad ones for it, which are read as 0.
 pub const BOUNDARY_WORD: usize = 10;
-const NO_BOUNDARIES: [u64; 10] = [1, 2, 255, 256, 511, 513, 768, (1 << 32) + 512, 1 << 33, u64::MAX];
+const BAD_BOUNDARIES: [u64; 10] = [1, 2, 255, 256, 511, 513, 768, (1 << 32) + 512, 1 << 33, u64::MAX];
 
 /// A target whose memory can be overwritten.
 pub trait InMemory: Target {
@@ -92,7 +92,7 @@ impl<T: InMemory> Garbage<T> {
             }
         }
         if random.one_in(2) {
-            memory.words[BOUNDARY_WORD] = if random.one_in(2) { boundary(random) } else { random.of(&NO_BOUNDARIES) };
+            memory.words[BOUNDARY_WORD] = if random.one_in(2) { boundary(random) } else { random.of(&BAD_BOUNDARIES) };
         }
         if random.one_in(3) {
             memory.store = random.bytes(memory.store.len());

@@ -59,8 +59,8 @@ fn close(target: &mut impl Target) -> Result<(), String> {
     }
 }
 
-/// Makes a row's call and compares; the call, and what it returned. Below level 4 the rows know no number of a step, and
-/// below level 5 no order of a listing's records.
+/// Makes a row's call and compares; the call, and what it returned. Below level 4 the rows know no number of a step,
+/// and below level 5 no order of a listing's records.
 fn judge(target: &mut impl Target, words: &[&str], level: u32) -> Result<(Call, u32), String> {
     let equals = words.iter().position(|&word| word == "=").expect("an answer");
     let (call, answer) = (read_call(&words[..equals]), &words[equals + 1..]);

@@ -6,9 +6,9 @@ use crate::limits::Limits;
 use crate::port::generate::{self, Data};
 use crate::port::plain;
 
-/// Boundaries, 0 for none, and some that are none.
+/// Q of a login: good ones, 0 for none among them; and bad ones.
 const BOUNDARIES: [u64; 10] = [0, 0, 0, 512, 512, 1024, 4096, 1 << 16, 1 << 31, 1 << 32];
-const NO_BOUNDARIES: [u64; 9] = [1, 256, 511, 513, 768, 1 << 33, (1 << 32) + 512, 1 << 63, u64::MAX];
+const BAD_BOUNDARIES: [u64; 9] = [1, 256, 511, 513, 768, 1 << 33, (1 << 32) + 512, 1 << 63, u64::MAX];
 
 impl<T: Target> Machine<T> {
     /// A login that is accepted, perhaps after one with a bad Q, which draws 2 and makes no port.
@@ -16,7 +16,7 @@ impl<T: Target> Machine<T> {
         let random = &mut self.random;
         let n = random.of(&[1, 2, 3, 4, 8, 16, 16, 16]);
         let m = random.of(&[1, 16, 512, 512, 4096, 1_048_576]);
-        let (q, bad) = (random.of(&BOUNDARIES), random.of(&NO_BOUNDARIES));
+        let (q, bad) = (random.of(&BOUNDARIES), random.of(&BAD_BOUNDARIES));
         let agreed = random.of(&[64, 200, 600, 1364, 1364, 1364]);
         let formats = random.of(&[0, 2, 4, 6, 6, 6, 6, 6]);
         let login = plain::login(random, n, Limits { m, q }, agreed, formats);

@@ -14,7 +14,8 @@ fn buffer(random: &mut Random) -> Vec<u8> {
     vec![0x5b; if random.one_in(2) { 132 } else { length }]
 }
 
-/// Of an SRP_RSP each way: "18 flags; .. 20-23 out residual; 24-27 in residual", "2 DOOVER, 3 DOUNDER, 4 DIOVER, 5 DIUNDER".
+/// Of an SRP_RSP each way: "18 flags; .. 20-23 out residual; 24-27 in residual", "2 DOOVER, 3 DOUNDER, 4 DIOVER, 5
+/// DIUNDER".
 fn residuals_in(message: &[u8]) -> [(u8, u64); 2] {
     let count = |at: usize| message[at..at + 4].iter().fold(0, |count, &byte| count << 8 | u64::from(byte));
     [(message[18] >> 2 & 0b11, count(20)), (message[18] >> 4 & 0b11, count(24))]
