@@ -76,7 +76,7 @@ extern "C" {
  * srp_target_step, where version 2 has 0; all else is as in version 2. Version 5 promises that the open commands are
  * listed oldest first, where version 4 promises no order; their libraries are the same. Version 6 has address
  * boundaries: srp_target_login and srp_cut take one argument more, and where it is 0 all else is as in version 5. But
- * for versions 4 and 5, the words that a library of one version made are not a port of another. */
+ * for versions 4 and 5, the words that a library of one version made are not promised to be a port of another. */
 #define SRP_TARGET_VERSION 6
 
 /* Refusals: from the message or the caller. */

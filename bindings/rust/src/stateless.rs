@@ -74,7 +74,8 @@ pub fn look(msg: &[u8], agreed: u32, formats: u32) -> Result<Fetches, Refusal> {
 
 /// The piece of a buffer that the next RDMA operation moves, or none: done. `list` has the buffer's memory descriptors,
 /// 16 bytes each, `m` is M, `q` is Q, `r` is R, and `handed` counts the bytes already handed out. The piece ends at the
-/// nearest of M bytes, its segment's end, R and, where Q is not 0, the next multiple of Q above its first address.
+/// nearest of M bytes, its segment's end, the smaller of R and the sum of lengths and, where Q is not 0, the next
+/// multiple of Q above its first address.
 ///
 /// # Errors
 /// Refused: 2 `m` outside 1 to 1,048,576, or `q` neither 0 nor a power of two from 512 to 2^32; 11 `list` not a

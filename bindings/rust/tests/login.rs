@@ -41,6 +41,7 @@ fn settings_arrive_each_in_its_place() {
         Settings { boundary: 511, ..SETTINGS },
         Settings { boundary: 256, ..SETTINGS },
         Settings { boundary: 768, ..SETTINGS },
+        Settings { boundary: (1 << 31) + 1, ..SETTINGS },
         Settings { boundary: 1 << 33, ..SETTINGS },
         Settings { boundary: u64::MAX, ..SETTINGS },
     ];

@@ -90,7 +90,7 @@ fn cut_refused() {
     let past = memory(u64::MAX, 7, 2);
     assert_eq!(cut(&past[..15], 0, 0, 2, 3), Err(Refusal::Setting));
     assert_eq!(cut(&past[..15], 1_048_577, 0, 2, 3), Err(Refusal::Setting));
-    for q in [1, 256, 511, 513, 768, 1 << 33, u64::MAX] {
+    for q in [1, 256, 511, 513, 768, (1 << 31) + 1, 1 << 33, u64::MAX] {
         assert_eq!(cut(&past[..15], 1, q, 2, 3), Err(Refusal::Setting), "Q {q}");
     }
     assert_eq!(cut(&past[..15], 1, 1 << 32, 2, 3), Err(Refusal::Argument));
