@@ -8,7 +8,7 @@ use srp::Settings;
 use words::PORT;
 use words::STORE;
 ghost use mathlib.Core.Path.{_≡_};
-ghost use Prim.Native.Nat.{ℕ, _+_, _*_, _≤_};
+ghost use Prim.Native.Nat.{_+_, _*_, _≤_};
 ghost use lib.ListN.{length, take};
 ghost use lib.Seq.{paste};
 ghost use Rattle.srp.specs.Limits.{mostBuffers};

@@ -35,7 +35,7 @@ next-piece-requires : tie.Need-next-piece-requires
 next-piece-requires c κs = search needs
 
 end-at-boundary-requires : tie.Need-end-at-boundary-requires
-end-at-boundary-requires c κs = search needs
+end-at-boundary-requires c κs = c .before .before .before .before .before .pre .1 .1 .1
 
 returns : tie.Need-returns
 returns c =
