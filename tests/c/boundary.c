@@ -96,7 +96,8 @@ static void judged(const struct row *r)
 static void refused(void)
 {
     static const uint64_t bad[] = {1, 256, 511, 513, 1023, 3 * 512, 0x80000001, UINT32_MAX,
-                                   SRP_GREATEST_BOUNDARY + 512, 2 * SRP_GREATEST_BOUNDARY, (uint64_t)1 << 63, UINT64_MAX};
+                                   SRP_GREATEST_BOUNDARY + 512, 2 * SRP_GREATEST_BOUNDARY, (uint64_t)1 << 63,
+                                   UINT64_MAX};
     static const struct after closed = {CLOSED, {0}, NULL};
     unsigned i;
     for (i = 0; i < sizeof bad / sizeof bad[0]; i++) {

@@ -9,8 +9,8 @@
 //! each move of its data, and [`Port::finish`]. A refusal of [`Port::take`] that comes with a message carries it: see
 //! [`TakeRefusal`]. A [`Step`], and [`Pieces::number`], tell the operations handed out for a move, each of which needs
 //! an adapter slot while it is under way; [`Settings::boundary`] is for adapters that fail an operation across a
-//! multiple of a power of two. [`cut`] is the cut alone, without a port; [`trace`] writes any message, of either end, as
-//! a line for a terminal.
+//! multiple of a power of two. [`cut`] is the cut alone, without a port; [`trace`] writes any message, of either end,
+//! as a line for a terminal.
 //!
 //! A login; then a command that reads 1,300 bytes to address 1000h, handle 7, in RDMA operations of up to 512 bytes:
 //!
