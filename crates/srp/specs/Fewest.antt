@@ -48,6 +48,7 @@ abbrev pub overParts : (f : ℕ → ℕ → ℕ) (o from to : ℕ) → List Segm
 overParts f o from to [] = 0
 overParts f o from to (s ∷ ss) = f (partAddress o from s) (partLength o from to s) + overParts f (o + s .len) from to ss
 
+-- a part with a byte counts one
 abbrev pub touches : (address n : ℕ) → ℕ
 touches address n = cond (ltb 0 n) 1 0
 
