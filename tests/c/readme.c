@@ -50,7 +50,7 @@ static void owner(const uint8_t own[16], const uint8_t *login, size_t login_len,
     /* README.md: */
     static uint64_t port[SRP_PORT_WORDS]; static uint8_t store[SRP_STORE_BYTES]; uint64_t a[8];
     uint8_t buf[SRP_MESSAGE_BYTES], named[SRP_ANSWER_BYTES] = {0}, out[SRP_TABLE_BYTES], in[SRP_TABLE_BYTES];
-    if (srp_target_login(port, settings, 0, own, login, login_len, buf, sizeof buf, a) != 0) return; /* Q is 0: no boundaries */
+    if (srp_target_login(port, settings, 0, own, login, login_len, buf, sizeof buf, a) != 0) return; /* Q = 0: none */
     send(buf, a[0]);
     if (a[1] != 0) return;                           /* rejected: make no connection */
     srp_look(msg, msg_len, agreed, formats, named, sizeof named);       /* of the login: its bytes 16-19 and 24-25 */
