@@ -86,6 +86,10 @@ pieces-in rule o from to (s ∷ ss) =
     length-append (cutSegment k rule (s .address + from) (s .handle) (o + from) k) (cutsFrom rule (o + n) (from - n) (to - n) ss)
     ∙ (λ i. same-length k rule (s .address + from) (s .handle) 0 (o + from) 0 k i + pieces-in rule (o + n) (from - n) (to - n) ss i)
 
+-- a part with a byte counts one
+one-touched : (a n : ℕ) → 1 ≤ n → touches a n ≡ 1
+one-touched a n h = rw (lt-ltb 0 n h)
+
 -- one piece, and one more for each multiple of Q inside
 abbrev segmentMost : (Q address n : ℕ) → ℕ
 segmentMost Q a n = touches a n + multiplesInside Q a n
@@ -141,8 +145,7 @@ segment-many (suc f) M Q a h o (suc n) m le pos = go (ltb l (suc n)) refl (λ x 
 
 pieces-many : (M Q : ℕ) → 1 ≤ M → Within M (piecesOf (upTo M Q)) (segmentMost Q)
 pieces-many M Q m a n h =
-    let one : touches a n ≡ 1 = rw (lt-ltb 0 n h) in
-    rw one (segment-many n M Q a 0 0 n m (omega arith) h)
+    rw (one-touched a n h) (segment-many n M Q a 0 0 n m (omega arith) h)
 
 -- ── the cuts of a move
 
@@ -184,5 +187,4 @@ few-crossed Q from to ss = go (eqb Q 0) refl
       where
         within : 1 ≤ Q → Within Q (multiplesInside Q) touches
         within q a n h =
-            let one : touches a n ≡ 1 = rw (lt-ltb 0 n h) in
-            rw one (omega (arith, one-mul Q, multiples-few Q a (n - 1) q))
+            rw (one-touched a n h) (omega (arith, one-mul Q, multiples-few Q a (n - 1) q))

@@ -21,7 +21,7 @@ pub some-boundary : (Q : ℕ) → eqb Q 0 ≡ false → 1 ≤ Q
 some-boundary Q e = omega (arith, eqb-false Q 0 e)
 
 module _ (Q a : ℕ) (q : 1 ≤ Q) where
-  -- so far away it is
+  -- how far it is from the address
   next-distance : a + (Q - a % Q) ≡ nextMultiple Q a
   next-distance = omega (arith, add-mul (a / Q) 1 Q, one-mul Q, div-add-mod' a Q, mod-lt a {m = Q} q)
 
@@ -76,7 +76,7 @@ pub longest-alone : (M a : ℕ) → longestAt M 0 a ≡ M
 unfolding longestAt
 longest-alone M a = refl
 
--- of what is left the shorter
+-- the shorter of M and n may be taken before the multiple, or after it
 pub longest-least : (M Q a n : ℕ) → longestAt (min M n) Q a ≡ min (longestAt M Q a) n
 unfolding longestAt
 longest-least M Q a n = go (eqb Q 0) (nextMultiple Q a - a)
@@ -118,6 +118,11 @@ no-boundary p k h = absurd (omega (arith, mul-zero k))
 
 -- ── which Q is good
 
+-- a test that the second of two makes true
+or-second : (a b : Bool) → b ≡ true → (a || b) ≡ true
+or-second true b e = refl
+or-second false b e = e
+
 -- one of these powers
 power-of : (k n x : ℕ) → isPower k n x ≡ true → (j : ℕ) × (k ≤ j) × (j < k + n) × (x ≡ 2 ^ j)
 power-of k zero x e = absurd (true≢false (sym e))
@@ -136,11 +141,7 @@ is-power k zero j h l = absurd (omega arith)
 is-power k (suc n) j h l = go (ltb k j) refl (λ g. is-power (suc k) n j g (omega arith))
   where
     go : (b : Bool) → ltb k j ≡ b → (suc k ≤ j → isPower (suc k) n (2 ^ j) ≡ true) → (eqb (2 ^ j) (2 ^ k) || isPower (suc k) n (2 ^ j)) ≡ true
-    go true q ih = either (eqb (2 ^ j) (2 ^ k)) (ih (ltb-true k j q))
-      where
-        either : (c : Bool) → isPower (suc k) n (2 ^ j) ≡ true → (c || isPower (suc k) n (2 ^ j)) ≡ true
-        either true f = refl
-        either false f = f
+    go true q ih = or-second (eqb (2 ^ j) (2 ^ k)) (isPower (suc k) n (2 ^ j)) (ih (ltb-true k j q))
     go false q ih =
         let same : j ≡ k = omega (arith, ltb-false k j q) in
         rw (eq-eqb (2 ^ j) (2 ^ k) (ap (λ (i : ℕ). 2 ^ i) same))
@@ -164,11 +165,7 @@ good-boundary Q e = go (eqb Q 0) refl (not-false _ e)
 -- and each of these is good
 pub power-good : (k : ℕ) → leastExponent ≤ k → k ≤ greatestExponent → badBoundary (2 ^ k) ≡ false
 unfolding badBoundary
-power-good k h l = ap not (go (eqb (2 ^ k) 0) (is-power leastExponent powers k h (omega arith)))
-  where
-    go : (b : Bool) → isPower leastExponent powers (2 ^ k) ≡ true → (b || isPower leastExponent powers (2 ^ k)) ≡ true
-    go true f = refl
-    go false f = f
+power-good k h l = ap not (or-second (eqb (2 ^ k) 0) (isPower leastExponent powers (2 ^ k)) (is-power leastExponent powers k h (omega arith)))
 
 pub good-boundaries : GoodBoundaries
 good-boundaries Q = (good-boundary Q, λ x. ⊎-elim (λ (z : Q ≡ 0). rw z zero-good) (λ (r : Power Q). rw (r .3) (power-good (r .0) (r .1) (r .2))) x)
