@@ -14,11 +14,10 @@ use words::Part;
 use words::STORE;
 use words::commands;
 ghost use mathlib.Core.Path.{_≡_};
-ghost use mathlib.Core.Bool.{true, false};
+ghost use mathlib.Core.Bool.{true};
 ghost use Prim.Native.Nat.{_≤_, _<_, _+_, max};
 ghost use lib.ListN.{length, getD};
 ghost use Rattle.srp.specs.Limits.{mostCopies};
-ghost use Rattle.srp.specs.Cutting.{badBoundary};
 ghost use Rattle.srp.specs.Calls.{nextIn, kindOf};
 ghost use Rattle.cut.specs.Walk.{nextWrapped};
 ghost use Rattle.words.specs.Sizes.{portWords, storeSize, mostSlots, listSize};
@@ -115,11 +114,12 @@ fn larger(a: u32, b: u32) -> u32
 }
 
 // The next piece of a direction's current move, or done.
-fn next_for(store: &[u8], place: u8, p: Part, d: Direction, terms: Terms) -> Cut
+fn next_for(s: &[u64], store: &[u8], place: u8, p: Part, d: Direction, terms: Terms) -> Cut
+    requires { ⌜ length (now s) ≡ portWords ⌝ }
     requires { ⌜ length (now store) ≡ storeSize ⌝ }
     requires { ⌜ place < mostSlots ⌝ }
     requires { ⌜ p .segments ≤ mostCopies ⌝ }
-    requires { ⌜ badBoundary (terms .boundary) ≡ false ⌝ }
+    requires { ⌜ terms ≡ headOf (now s) .terms ⌝ }
     ensures { λ r. ⌜ r ≡ nextWrapped (nextIn terms (sideOf (now (store .entry)) (placeAt d place) p)) ⌝ }
 {
     let at = place_for(place, d);
@@ -130,7 +130,7 @@ fn next_for(store: &[u8], place: u8, p: Part, d: Direction, terms: Terms) -> Cut
         p.transfer.at,
         p.transfer.end,
     );
-    cut::end_at_boundary(piece, terms.boundary)
+    cut::end_at_boundary(piece, words::load_boundary(s))
 }
 
 // The next piece of the planned command in slot i, or done.
@@ -144,7 +144,7 @@ fn hand_out(s: &mut [u64], store: &[u8], tag: u64, i: usize, d: Direction, terms
 {
     let p = commands::load_part(s, i, d);
     let place = commands::load_place(s, i);
-    match next_for(store, place, p, d, terms) {
+    match next_for(s, store, place, p, d, terms) {
         // next_piece refuses nothing: this arm is shown not to be reached
         Cut::CutRefused(f) => Reply::Refused(f),
         Cut::CutDone => Reply::Done(p.transfer.number),

@@ -8,11 +8,13 @@ use srp::Terms;
 use srp::Transfer;
 use srp::limits;
 ghost use mathlib.Core.Path.{_≡_};
+ghost use mathlib.Core.Bool.{false};
 ghost use Prim.Native.Nat.{_+_, _≤_};
 ghost use lib.ListN.{length};
 ghost use lib.Seq.{paste};
+ghost use Rattle.srp.specs.Cutting.{badBoundary};
 ghost use Rattle.words.specs.Sizes.{portWords};
-ghost use Rattle.words.specs.Head.{boundaryIn, termsIn, headWords, HeadIs, HeadFits, HeadChanged, CountsFit, countedOf};
+ghost use Rattle.words.specs.Head.{termsIn, headWords, HeadIs, HeadFits, HeadChanged, CountsFit, countedOf};
 ghost use Rattle.words.specs.View.{closedWords};
 
 // Commands that can be open at once, and places of the store.
@@ -93,9 +95,11 @@ pub fn put_words(to: &mut [u64], at: usize, from: &[u64])
 }
 
 // Q, where a bad one is read as none.
-fn boundary_of(word: u64) -> u64
-    ensures { λ q. ⌜ q ≡ boundaryIn word ⌝ }
+pub fn load_boundary(s: &[u64]) -> u64
+    requires { ⌜ length (now s) ≡ portWords ⌝ }
+    ensures { λ q. ⌜ (q ≡ termsIn (now (s .entry)) .boundary) × (badBoundary q ≡ false) ⌝ }
 {
+    let word = s[TERMS + 5];
     if boundary::is_bad(word) { 0 } else { word }
 }
 
@@ -106,7 +110,7 @@ fn terms_of(s: &[u64]) -> Terms
 {
     Terms {
         maximum: (s[TERMS] % LARGEST_PIECE + 1) as u32,
-        boundary: boundary_of(s[TERMS + 5]),
+        boundary: load_boundary(s),
         agreed: (s[TERMS + 1] % AGREED_LENGTHS + SHORTEST_AGREED) as u32,
         formats: (s[TERMS + 2] % 4 * 2) as u32,
         crsolnt: s[TERMS + 3] % 2 == 1,

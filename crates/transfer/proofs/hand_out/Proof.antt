@@ -6,7 +6,6 @@ use lib.ListN.{getD}
 use Rattle.srp.specs.Calls.{nextIn}
 use Rattle.words.specs.Slots.{slots, noSlot, placeAt}
 use Rattle.words.specs.View.{sideOf}
-use Rattle.words.proofs.Ports.{head-fits}
 use Rattle.transfer.proofs.Pieces.{no-refusal, next-fits, handed-open}
 use Rattle.transfer.proofs.Handing.{none-left, one-handed}
 use borrow.Author.Needs.{needs}
@@ -21,9 +20,8 @@ load-place-requires c κs = search needs
 
 next-for-requires : tie.Need-next-for-requires
 next-for-requires c κs =
-    let a = c .before .before .before .before .before .before .args in
-    let p = c .before .before .before .before .before .before .pre in
-    (p .1 .0, (search needs, (search needs, rw (p .1 .1 .1 .1) (head-fits (a .s .now) .terms .boundary))))
+    let p = c .before .before .before .before .before .before .before .pre in
+    (p .0, (p .1 .0, (search needs, (search needs, p .1 .1 .1 .1))))
 
 enum-known-f : tie.Need-enum-known-f
 enum-known-f c = search needs
@@ -36,9 +34,9 @@ enum-known-piece c = search needs
 
 add-next : tie.Need-add-next
 add-next c =
-    let a = c .before .before .before .before .before .before .before .before .before .before .before .before .args in
-    let q = c .before .before .before .before .before .before .before .before .load-part .result in
-    let f = next-fits (a .s .now) (a .store .now) (a .terms) (placeAt (a .d) (c .before .before .before .before .before .before .load-place .result)) q (c .before .before .before .piece .given .0 .0) (c .before .before .before .before .before .before .before .before .before .before .before .before .pre .1 .1 .1 .1) (c .before .before .before .before .before .before .before .before .load-part .ensures .fits) (search needs) (c .before .before .before .before .before .next-for .ensures) (c .before .before .before .piece .given .1) in
+    let a = c .before .before .before .before .before .before .before .before .before .before .before .before .before .args in
+    let q = c .before .before .before .before .before .before .before .before .before .load-part .result in
+    let f = next-fits (a .s .now) (a .store .now) (a .terms) (placeAt (a .d) (c .before .before .before .before .before .before .before .load-place .result)) q (c .before .before .before .piece .given .0 .0) (c .before .before .before .before .before .before .before .before .before .before .before .before .before .pre .1 .1 .1 .1) (c .before .before .before .before .before .before .before .before .before .load-part .ensures .fits) (search needs) (c .before .before .before .before .before .next-for .ensures) (c .before .before .before .piece .given .1) in
     record { fits = f .0 }
 
 larger-requires : tie.Need-larger-requires
@@ -46,17 +44,17 @@ larger-requires c κs = search needs
 
 add-number : tie.Need-add-number
 add-number c =
-    let a = c .before .before .before .before .before .before .before .before .before .before .before .before .before .before .args in
-    let q = c .before .before .before .before .before .before .before .before .before .before .load-part .result in
-    let f = next-fits (a .s .now) (a .store .now) (a .terms) (placeAt (a .d) (c .before .before .before .before .before .before .before .before .load-place .result)) q (c .before .before .before .before .before .piece .given .0 .0) (c .before .before .before .before .before .before .before .before .before .before .before .before .before .before .pre .1 .1 .1 .1) (c .before .before .before .before .before .before .before .before .before .before .load-part .ensures .fits) (search needs) (c .before .before .before .before .before .before .before .next-for .ensures) (c .before .before .before .before .before .piece .given .1) in
+    let a = c .before .before .before .before .before .before .before .before .before .before .before .before .before .before .before .args in
+    let q = c .before .before .before .before .before .before .before .before .before .before .before .load-part .result in
+    let f = next-fits (a .s .now) (a .store .now) (a .terms) (placeAt (a .d) (c .before .before .before .before .before .before .before .before .before .load-place .result)) q (c .before .before .before .before .before .piece .given .0 .0) (c .before .before .before .before .before .before .before .before .before .before .before .before .before .before .before .pre .1 .1 .1 .1) (c .before .before .before .before .before .before .before .before .before .before .before .load-part .ensures .fits) (search needs) (c .before .before .before .before .before .before .before .next-for .ensures) (c .before .before .before .before .before .piece .given .1) in
     record { fits = omega (arith, f) }
 
 set-move-requires : tie.Need-set-move-requires
 set-move-requires c κs =
-    let a = c .before .before .before .before .before .before .before .before .before .before .before .before .before .before .before .args in
-    let q = c .before .before .before .before .before .before .before .before .before .before .before .load-part .result in
-    let f = next-fits (a .s .now) (a .store .now) (a .terms) (placeAt (a .d) (c .before .before .before .before .before .before .before .before .before .load-place .result)) q (c .before .before .before .before .before .before .piece .given .0 .0) (c .before .before .before .before .before .before .before .before .before .before .before .before .before .before .before .pre .1 .1 .1 .1) (c .before .before .before .before .before .before .before .before .before .before .before .load-part .ensures .fits) (search needs) (c .before .before .before .before .before .before .before .before .next-for .ensures) (c .before .before .before .before .before .before .piece .given .1) in
-    (c .before .before .before .before .before .before .before .before .before .before .before .before .before .before .before .pre .0, (c .before .before .before .before .before .before .before .before .before .before .before .before .before .before .before .pre .1 .1 .1 .0 .small, f .1))
+    let a = c .before .before .before .before .before .before .before .before .before .before .before .before .before .before .before .before .args in
+    let q = c .before .before .before .before .before .before .before .before .before .before .before .before .load-part .result in
+    let f = next-fits (a .s .now) (a .store .now) (a .terms) (placeAt (a .d) (c .before .before .before .before .before .before .before .before .before .before .load-place .result)) q (c .before .before .before .before .before .before .piece .given .0 .0) (c .before .before .before .before .before .before .before .before .before .before .before .before .before .before .before .before .pre .1 .1 .1 .1) (c .before .before .before .before .before .before .before .before .before .before .before .before .load-part .ensures .fits) (search needs) (c .before .before .before .before .before .before .before .before .next-for .ensures) (c .before .before .before .before .before .before .piece .given .1) in
+    (c .before .before .before .before .before .before .before .before .before .before .before .before .before .before .before .before .pre .0, (c .before .before .before .before .before .before .before .before .before .before .before .before .before .before .before .before .pre .1 .1 .1 .0 .small, f .1))
 
 kind-for-requires : tie.Need-kind-for-requires
 kind-for-requires c κs = search needs
@@ -66,29 +64,29 @@ same-length c = search needs
 
 returns : tie.Need-returns
 returns c =
-    let a = c .before .before .before .before .before .before .before .before .before .before .args in
-    absurd (no-refusal (nextIn (a .terms) (sideOf (a .store .now) (placeAt (a .d) (c .before .before .before .before .load-place .result)) (c .before .before .before .before .before .before .load-part .result))) (c .before .before .before .next-for .ensures) (c .before .f .given .1))
+    let a = c .before .before .before .before .before .before .before .before .before .before .before .args in
+    absurd (no-refusal (nextIn (a .terms) (sideOf (a .store .now) (placeAt (a .d) (c .before .before .before .before .before .load-place .result)) (c .before .before .before .before .before .before .before .load-part .result))) (c .before .before .before .next-for .ensures) (c .before .f .given .1))
 
 same-length-2 : tie.Need-same-length-2
 same-length-2 c = search needs
 
 returns-2 : tie.Need-returns-2
 returns-2 c =
-    let a = c .before .before .before .before .before .before .before .before .before .args in
-    let p = c .before .before .before .before .before .before .before .before .before .pre in
-    none-left (p .1 .1 .1 .0) (p .1 .1 .0) (a .store .now) (a .terms) (a .d) (p .1 .1 .1 .1) (c .before .before .before .before .before .load-part .ensures) (c .before .before .before .load-place .ensures .0) (c .before .before .next-for .ensures) (c .enum-told .given .1)
+    let a = c .before .before .before .before .before .before .before .before .before .before .args in
+    let p = c .before .before .before .before .before .before .before .before .before .before .pre in
+    none-left (p .1 .1 .1 .0) (p .1 .1 .0) (a .store .now) (a .terms) (a .d) (p .1 .1 .1 .1) (c .before .before .before .before .before .before .load-part .ensures) (c .before .before .before .before .load-place .ensures .0) (c .before .before .next-for .ensures) (c .enum-told .given .1)
 
 same-length-3 : tie.Need-same-length-3
 same-length-3 c = search needs
 
 returns-3 : tie.Need-returns-3
 returns-3 c =
-    let a = c .before .before .before .before .before .before .before .before .before .before .before .before .before .before .before .before .before .before .before .args in
-    let p = c .before .before .before .before .before .before .before .before .before .before .before .before .before .before .before .before .before .before .before .pre in
-    let q = c .before .before .before .before .before .before .before .before .before .before .before .before .before .before .before .load-part .result in
+    let a = c .before .before .before .before .before .before .before .before .before .before .before .before .before .before .before .before .before .before .before .before .args in
+    let p = c .before .before .before .before .before .before .before .before .before .before .before .before .before .before .before .before .before .before .before .before .pre in
+    let q = c .before .before .before .before .before .before .before .before .before .before .before .before .before .before .before .before .load-part .result in
     let m = c .before .before .before .before .before .before .before .before .before .before .piece .given .0 .0 in
-    one-handed (p .1 .1 .1 .0) (p .1 .1 .0) (a .store .now) (a .terms) (a .d) (p .1 .1 .1 .1) (c .before .before .before .before .before .before .before .before .before .before .before .before .before .before .before .load-part .ensures) (c .before .before .before .before .before .before .before .before .before .before .before .before .before .load-place .ensures .0) (c .before .before .before .before .before .before .before .before .before .before .before .before .next-for .ensures) (c .before .before .before .before .before .before .larger .result) (q .transfer .at + m .len) m (c .before .before .before .before .before .before .before .before .before .before .piece .given .1) (c .kind-for .ensures) (c .before .before .before .set-move .ensures)
-    (handed-open (a .store .now) (getD (slots (a .s .now)) (a .i) noSlot) (a .d) (c .before .before .before .before .before .before .before .before .before .before .before .before .before .before .before .load-part .ensures .whole) (m .len) refl (c .before .before .before .before .before .before .larger .ensures))
+    one-handed (p .1 .1 .1 .0) (p .1 .1 .0) (a .store .now) (a .terms) (a .d) (p .1 .1 .1 .1) (c .before .before .before .before .before .before .before .before .before .before .before .before .before .before .before .before .load-part .ensures) (c .before .before .before .before .before .before .before .before .before .before .before .before .before .before .load-place .ensures .0) (c .before .before .before .before .before .before .before .before .before .before .before .before .next-for .ensures) (c .before .before .before .before .before .before .larger .result) (q .transfer .at + m .len) m (c .before .before .before .before .before .before .before .before .before .before .piece .given .1) (c .kind-for .ensures) (c .before .before .before .set-move .ensures)
+    (handed-open (a .store .now) (getD (slots (a .s .now)) (a .i) noSlot) (a .d) (c .before .before .before .before .before .before .before .before .before .before .before .before .before .before .before .before .load-part .ensures .whole) (m .len) refl (c .before .before .before .before .before .before .larger .ensures))
 
 pub hand-out-spec : {M : Type 1} → statement M
 hand-out-spec =

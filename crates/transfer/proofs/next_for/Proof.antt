@@ -1,8 +1,11 @@
 -- `transfer::next_for` meets its contract. Assumes nothing.
-use mathlib.Core.Path.{_∙_, ap}
-use Prim.Native.Nat.{_+_, _-_, _*_}
+use mathlib.Core.Path.{sym, _∙_, ap}
+use mathlib.Core.List.{List}
+use Prim.Native.Nat.{ℕ, _+_, _-_, _*_}
 use lib.ListN.{take, drop}
-use Rattle.srp.specs.Descriptors.{segmentsOf}
+use Rattle.srp.specs.Descriptors.{Segment, segmentsOf}
+use Rattle.srp.specs.Cutting.{upTo, next}
+use Rattle.srp.specs.declared.Terms.{Terms}
 use Rattle.cut.specs.Walk.{nextWrapped, ended}
 use Rattle.cut.proofs.Pieces.{ended-next}
 use Rattle.transfer.proofs.Pieces.{next-part}
@@ -34,19 +37,26 @@ part-next-piece-end c = search needs
 next-piece-requires : tie.Need-next-piece-requires
 next-piece-requires c κs = search needs
 
+load-boundary-requires : tie.Need-load-boundary-requires
+load-boundary-requires c κs = search needs
+
 end-at-boundary-requires : tie.Need-end-at-boundary-requires
-end-at-boundary-requires c κs = c .before .before .before .before .before .pre .1 .1 .1
+end-at-boundary-requires c κs =
+    c .load-boundary .ensures .1
 
 returns : tie.Need-returns
 returns c =
-    let a = c .before .before .before .before .before .before .args in
-    let at = c .before .before .before .before .place-for .result in
+    let a = c .before .before .before .before .before .before .before .before .args in
+    let at = c .before .before .before .before .before .place-for .result in
+    let q = c .before .load-boundary .result in
     let T = a .terms in
     let t = a .p .transfer in
+    let ss : List Segment = segmentsOf (take (at + a .p .segments * 16 - at) (drop at (a .store .now))) in
     c .end-at-boundary .ensures
-    ∙ ap (ended (T .boundary)) (c .before .next-piece .ensures)
-    ∙ ended-next (T .maximum) (T .boundary) (t .at) (t .end) (segmentsOf (take (at + a .p .segments * 16 - at) (drop at (a .store .now)))) (c .before .before .before .before .before .before .pre .1 .1 .1)
-    ∙ ap nextWrapped (next-part T (a .store .now) (a .place) (a .d) (a .p) (c .before .before .before .before .place-for .ensures .0))
+    ∙ ap (ended q) (c .before .before .next-piece .ensures)
+    ∙ ended-next (T .maximum) q (t .at) (t .end) ss (c .before .load-boundary .ensures .1)
+    ∙ ap (λ (k : ℕ). nextWrapped (next (upTo (T .maximum) k) (t .at) (t .end) ss)) (c .before .load-boundary .ensures .0 ∙ sym (ap (λ (x : Terms). x .boundary) (c .before .before .before .before .before .before .before .before .pre .1 .1 .1 .1)))
+    ∙ ap nextWrapped (next-part T (a .store .now) (a .place) (a .d) (a .p) (c .before .before .before .before .before .place-for .ensures .0))
 
 pub next-for-spec : {M : Type 1} → statement M
 next-for-spec =
@@ -60,5 +70,6 @@ next-for-spec =
     part-next-piece-start
     part-next-piece-end
     next-piece-requires
+    load-boundary-requires
     end-at-boundary-requires
     returns)

@@ -12,69 +12,60 @@ add-t5 c = search needs
 cast-t6 : tie.Need-cast-t6
 cast-t6 c = search needs
 
-add-boundary-of : tie.Need-add-boundary-of
-add-boundary-of c = search needs
+load-boundary-requires : tie.Need-load-boundary-requires
+load-boundary-requires c κs = search needs
 
-mul-boundary-of : tie.Need-mul-boundary-of
-mul-boundary-of c = search needs
+add-t8 : tie.Need-add-t8
+add-t8 c = search needs
 
-shared-slice-read-boundary-of : tie.Need-shared-slice-read-boundary-of
-shared-slice-read-boundary-of c = search needs
+mul-t9 : tie.Need-mul-t9
+mul-t9 c = search needs
 
-boundary-of-requires : tie.Need-boundary-of-requires
-boundary-of-requires c κs = search needs
+shared-slice-read-t11 : tie.Need-shared-slice-read-t11
+shared-slice-read-t11 c = search needs
 
-add-t12 : tie.Need-add-t12
-add-t12 c = search needs
+add-t13 : tie.Need-add-t13
+add-t13 c = search needs
 
-mul-t13 : tie.Need-mul-t13
-mul-t13 c = search needs
+cast-t14 : tie.Need-cast-t14
+cast-t14 c = search needs
 
-shared-slice-read-t15 : tie.Need-shared-slice-read-t15
-shared-slice-read-t15 c = search needs
+add-t15 : tie.Need-add-t15
+add-t15 c = search needs
 
-add-t17 : tie.Need-add-t17
-add-t17 c = search needs
+mul-t16 : tie.Need-mul-t16
+mul-t16 c = search needs
 
-cast-t18 : tie.Need-cast-t18
-cast-t18 c = search needs
-
-add-t19 : tie.Need-add-t19
-add-t19 c = search needs
+shared-slice-read-t18 : tie.Need-shared-slice-read-t18
+shared-slice-read-t18 c = search needs
 
 mul-t20 : tie.Need-mul-t20
 mul-t20 c = search needs
 
-shared-slice-read-t22 : tie.Need-shared-slice-read-t22
-shared-slice-read-t22 c = search needs
+cast-t21 : tie.Need-cast-t21
+cast-t21 c = search needs
 
-mul-t24 : tie.Need-mul-t24
-mul-t24 c = search needs
+add-t22 : tie.Need-add-t22
+add-t22 c = search needs
 
-cast-t25 : tie.Need-cast-t25
-cast-t25 c = search needs
+mul-t23 : tie.Need-mul-t23
+mul-t23 c = search needs
 
-add-t26 : tie.Need-add-t26
-add-t26 c = search needs
+shared-slice-read-t25 : tie.Need-shared-slice-read-t25
+shared-slice-read-t25 c = search needs
 
-mul-t27 : tie.Need-mul-t27
-mul-t27 c = search needs
+add-t28 : tie.Need-add-t28
+add-t28 c = search needs
 
-shared-slice-read-t29 : tie.Need-shared-slice-read-t29
-shared-slice-read-t29 c = search needs
+mul-t29 : tie.Need-mul-t29
+mul-t29 c = search needs
 
-add-t32 : tie.Need-add-t32
-add-t32 c = search needs
-
-mul-t33 : tie.Need-mul-t33
-mul-t33 c = search needs
-
-shared-slice-read-t35 : tie.Need-shared-slice-read-t35
-shared-slice-read-t35 c = search needs
+shared-slice-read-t31 : tie.Need-shared-slice-read-t31
+shared-slice-read-t31 c = search needs
 
 returns : tie.Need-returns
 returns c =
-    rw (c .before .before .before .before .boundary-of .ensures)
+    rw (c .before .before .before .before .load-boundary .ensures .0)
 
 pub terms-of-spec : {M : Type 1} → statement M
 terms-of-spec =
@@ -83,24 +74,21 @@ terms-of-spec =
     shared-slice-read-t3
     add-t5
     cast-t6
-    add-boundary-of
-    mul-boundary-of
-    shared-slice-read-boundary-of
-    boundary-of-requires
-    add-t12
-    mul-t13
-    shared-slice-read-t15
-    add-t17
-    cast-t18
-    add-t19
+    load-boundary-requires
+    add-t8
+    mul-t9
+    shared-slice-read-t11
+    add-t13
+    cast-t14
+    add-t15
+    mul-t16
+    shared-slice-read-t18
     mul-t20
-    shared-slice-read-t22
-    mul-t24
-    cast-t25
-    add-t26
-    mul-t27
-    shared-slice-read-t29
-    add-t32
-    mul-t33
-    shared-slice-read-t35
+    cast-t21
+    add-t22
+    mul-t23
+    shared-slice-read-t25
+    add-t28
+    mul-t29
+    shared-slice-read-t31
     returns)
