@@ -4,7 +4,7 @@ use mathlib.Core.Path.{_≡_, refl, ap, sym, _∙_, subst}
 use mathlib.Core.Bool.{false}
 use mathlib.Core.List.{List, [], _∷_, _++_, append-nil}
 use mathlib.Core.Option.{Option, none, some}
-use Prim.Native.Nat.{ℕ, _+_, _-_}
+use Prim.Native.Nat.{ℕ, _+_}
 use native.Mathlib.Omega.{arith}
 use lib.ListN.{length, drop, length-append, length-take, length-drop}
 use lib.Seq.{take-all}
@@ -12,7 +12,6 @@ use borrow.Author.Tests.{ltb-false}
 use Rattle.srp.specs.Cutting.{cutsOf}
 use Rattle.srp.specs.Credit.{ruleOf}
 use Rattle.srp.specs.Moves.{CrossesNone}
-use Rattle.srp.specs.Fewest.{touched, crossed}
 use Rattle.srp.specs.Calls.{kindOf}
 use Rattle.srp.specs.declared.Terms.{Terms}
 use Rattle.srp.specs.declared.Direction.{Direction}
@@ -22,7 +21,6 @@ use Rattle.machine.specs.Machine.{Move, Progress, soFar, withOperation}
 use Rattle.machine.specs.Operations.{cutsOfAll, wholeOf, piecesLeft, saidOf, Finished, CurrentFinished, Right}
 use Rattle.srp.proofs.CutLaws.{Lawful, some-maximum, stops, some-below, none-above}
 use Rattle.srp.proofs.Moves.{next-crosses-none}
-use Rattle.srp.proofs.Bound.{few-touched, few-crossed}
 use Rattle.srp.proofs.Segments.{slots-enough}
 use Rattle.srp.proofs.Fewest.{fewest}
 use Rattle.machine.proofs.Moves.{toOf, endOf, atOf, leftOf, Steady, ends-by, coming, turn, step-steady}
@@ -45,9 +43,7 @@ all-counted T cut g s e m f =
     let parts : handed ≡ cuts = sym (append-nil handed) ∙ (rw left at (c .parts)) in
     let n : length cuts ≡ soFar g = sym (ap {B = ℕ} length parts) ∙ length-drop (g .earlier) (g .operations) in
     let least = fewest T (m .from) (m .to) (g .segs) (some-maximum (T .maximum) (T .boundary) cut) (c .forward) (omega (arith, ap toOf f, ends-by T cut g s)) in
-    let t = touched 0 (m .from) (m .to) (g .segs) in
-    let k = crossed (T .boundary) 0 (m .from) (m .to) (g .segs) in
-    let slots = slots-enough (T .maximum) (T .boundary) (m .to - m .from) t k (omega (arith, few-touched 0 (m .from) (m .to) (g .segs), s .few)) (few-crossed (T .boundary) (m .from) (m .to) (g .segs)) in
+    let slots = slots-enough (T .maximum) (T .boundary) (m .from) (m .to) (g .segs) (s .few) in
     subst (Finished T (g .segs) m) n (record { fewest = least; slots = omega (arith, least .bound, slots) })
 
 -- and where a step hands out the last piece, they are its cuts with it

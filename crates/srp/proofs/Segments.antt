@@ -9,7 +9,7 @@ use lib.Dec.{leb, eqb}
 use lib.ListN.{length, take, drop, length-take}
 use borrow.Author.Tests.{leb-true, eqb-true}
 use Rattle.srp.specs.Limits.{mostCopies, longestTable}
-use Rattle.srp.specs.Descriptors.{segmentsIn, goodTable, whole, fetched, copies, segmentBytes, segments, goodIndirect, goodFormat}
+use Rattle.srp.specs.Descriptors.{Segment, segmentsIn, goodTable, whole, fetched, copies, segmentBytes, segments, goodIndirect, goodFormat}
 use Rattle.srp.specs.Cutting.{cutsOf}
 use Rattle.srp.specs.Credit.{ruleOf}
 use Rattle.srp.specs.Fewest.{touched, crossed}
@@ -57,13 +57,20 @@ few-segments d s table good e =
 
 -- ── a move's operations
 
--- so many segments with a byte in a move and so many multiples of Q inside are within the bound
-pub slots-enough : (M Q bytes t k : ℕ) → t ≤ mostCopies → k ≤ cond (eqb Q 0) 0 (t + bytes / Q) → t + bytes / M + k ≤ mostOperations M Q bytes
-slots-enough M Q bytes t k h = go (eqb Q 0)
+-- of at most 32 segments, those with a byte in a move, its bytes divided by M and the multiples of Q inside are within the bound
+pub slots-enough : (M Q from to : ℕ) (ss : List Segment) → length ss ≤ mostCopies
+    → touched 0 from to ss + (to - from) / M + crossed Q 0 from to ss ≤ mostOperations M Q (to - from)
+slots-enough M Q from to ss few = go (eqb Q 0) (few-crossed Q from to ss)
   where
-    go : (b : Bool) → k ≤ cond b 0 (t + bytes / Q) → t + bytes / M + k ≤ mostCopies + bytes / M + cond b 0 (mostCopies + bytes / Q)
-    go true e = omega arith
-    go false e = omega arith
+    t : ℕ
+    t = touched 0 from to ss
+
+    k : ℕ
+    k = crossed Q 0 from to ss
+
+    go : (b : Bool) → k ≤ cond b 0 (t + (to - from) / Q) → t + (to - from) / M + k ≤ mostCopies + (to - from) / M + cond b 0 (mostCopies + (to - from) / Q)
+    go true e = omega (arith, few-touched 0 from to ss)
+    go false e = omega (arith, few-touched 0 from to ss)
 
 -- more bytes have no fewer
 more-slots : (M Q m n : ℕ) → m ≤ n → mostOperations M Q m ≤ mostOperations M Q n
@@ -81,8 +88,5 @@ operations-at-most T s from to m r h =
     let M = T .maximum in
     let Q = T .boundary in
     let ss = s .extent .segs in
-    let bytes = to - from in
-    let few = few-touched 0 from to ss in
-    let n = slots-enough M Q bytes (touched 0 from to ss) (crossed Q 0 from to ss) (omega (arith, few, r .extent .few)) (few-crossed Q from to ss) in
-    let k : length (cutsOf (ruleOf T) from to ss) ≤ mostOperations M Q bytes = omega (arith, cuts-bound M Q from to ss m, n) in
-    (k, omega (arith, k, more-slots M Q bytes (2 ^ 32 - 1) (omega (arith, r .extent .small))))
+    let n : length (cutsOf (ruleOf T) from to ss) ≤ mostOperations M Q (to - from) = omega (arith, cuts-bound M Q from to ss m, slots-enough M Q from to ss (r .extent .few)) in
+    (n, omega (arith, n, more-slots M Q (to - from) (2 ^ 32 - 1) (omega (arith, r .extent .small))))
