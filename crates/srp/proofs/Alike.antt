@@ -14,16 +14,17 @@ use Rattle.srp.specs.Bytes.{Field, get, put, gets, kind, typeOf, inside,
 use Rattle.srp.specs.Messages.{tag, lun, ucsolnt, scsolnt, outFormat, inFormat, outCount, inCount, additional, taskFunction, taskTag, formatBits, requestedLength, loginCrsolnt, loginLosolnt, channelAction, tskMgmt, cmd, iLogout, credRsp}
 use Rattle.srp.specs.Lists.{All, without}
 use Rattle.srp.specs.Refusals.{Conduct, hangsUp, answered, stays, altersNothing, conductOf, Check, firstOf}
-use Rattle.srp.specs.Descriptors.{descriptorSize, descriptorOf, fetchOf, segments, goodFields}
+use Rattle.srp.specs.Descriptors.{descriptorSize, descriptorOf, fetchOf, given}
 use Rattle.srp.specs.Requests.{outAt, inAt, outDescriptor, inDescriptor, commandOf, commandChecks, taskOf, unlessBad, sized, lengthChecks, readMessage, lookDef}
 use Rattle.srp.specs.Credit.{Open, Port}
-use Rattle.srp.specs.Take.{Tables, aborted, laterChecks, accepted, requestIn, conducted, takeBy, takeChecks, takeRead, takeDef}
+use Rattle.srp.specs.Take.{givenIn, aborted, laterChecks, accepted, requestIn, conducted, takeBy, takeChecks, takeRead, takeDef}
 use Rattle.srp.specs.Login.{loginDef}
 use Rattle.srp.specs.declared.Settings.{Settings}
 use Rattle.srp.specs.Unread.{also, changed, ChangeOf}
 use Rattle.srp.specs.declared.Refusal.{Refusal}
 use Rattle.srp.specs.declared.Refusal.the-variants.{Length, OtherType}
 use Rattle.srp.specs.declared.Descriptor.{Descriptor}
+use Rattle.srp.specs.declared.Command.{Command}
 use Rattle.srp.specs.declared.Message.{Message}
 use Rattle.srp.specs.declared.Message.the-variants.{Bad, Cmd, TskMgmt, CredRsp, ILogout}
 use Rattle.srp.proofs.FieldLaws.{both, ends, length-put, drop-put}
@@ -119,11 +120,8 @@ module _ (s s′ : List ℕ) (far : drop (outAt s′) s ≡ drop (outAt s′) s�
       size false e = refl
 
   module _ (d : Descriptor) (h : outAt s′ ≤ d .at) where
-    segments-same : (table : List ℕ) → segments d s table ≡ segments d s′ table
-    segments-same table = rw (farther (d .at) h, farther (d .at + 20) (omega arith))
-
-    fields-same : (table : List ℕ) → goodFields d s table ≡ goodFields d s′ table
-    fields-same table = rw (segments-same table, farther (d .at + 20) (omega arith))
+    given-same : given d s ≡ given d s′
+    given-same = rw (farther (d .at) h, farther (d .at + 20) (omega arith))
 
     fetch-same : fetchOf d s ≡ fetchOf d s′
     fetch-same = rw (farther (d .at + 0) (omega arith), farther (d .at + 8) (omega arith))
@@ -162,11 +160,11 @@ readAs b₁ b₂ b₃ b₄ formats s =
     pick b₁ b₂ b₃ b₄ (unlessBad (firstOf (commandChecks formats s)) (Cmd (commandOf s))) (sized 48 s (TskMgmt (taskOf s))) (sized 16 s ILogout)
     (sized 16 s (CredRsp (get tag s))) (Bad OtherType)
 
-module _ (p : Port) (t : Tables) (s s′ : List ℕ) where
+module _ (p : Port) (s s′ : List ℕ) where
   -- what is read of s and what is read of s′ are treated alike
   record Same (m m′ : Message) : Type 0 where
-    checks : laterChecks p s t m ≡ laterChecks p s′ t m′
-    done : accepted p s t m ≡ accepted p s′ t m′
+    checks : laterChecks p s m ≡ laterChecks p s′ m′
+    done : accepted p s m ≡ accepted p s′ m′
     request : requestIn m ≡ requestIn m′
 
   same-bad : (r : Refusal) → Same (Bad r) (Bad r)
@@ -185,11 +183,10 @@ module _ (p : Port) (t : Tables) (s s′ : List ℕ) where
 
   same-command : Alike (commandReadsIn s′) (outAt s′) s s′ → Same (Cmd (commandOf s)) (Cmd (commandOf s′))
   same-command a =
-      let o = fields-same s s′ (a .far) (outDescriptor s′) (omega arith) (t .out) in
-      let i = fields-same s s′ (a .far) (inDescriptor s′) (omega arith) (t .inn) in
-      let o′ = segments-same s s′ (a .far) (outDescriptor s′) (omega arith) (t .out) in
-      let i′ = segments-same s s′ (a .far) (inDescriptor s′) (omega arith) (t .inn) in
+      let o = given-same s s′ (a .far) (outDescriptor s′) (omega arith) in
+      let i = given-same s s′ (a .far) (inDescriptor s′) (omega arith) in
       let e = commands s s′ a .command in
+      let g : givenIn (commandOf s) s ≡ givenIn (commandOf s′) s′ = ap (λ (c : Command). givenIn c s) e ∙ (λ j. record { out = o j; inn = i j }) in
       record { checks = cc; done = cc; request = cc }
 
   same-task : gets (taskReads (eqb (get taskFunction s′) 1)) s ≡ gets (taskReads (eqb (get taskFunction s′) 1)) s′ → Same (TskMgmt (taskOf s)) (TskMgmt (taskOf s′))
@@ -213,8 +210,8 @@ module _ (p : Port) (t : Tables) (s s′ : List ℕ) where
   same-as false false false true formats a = rw (a .long) (same-sized (eqb (length s′) 16) (record { checks = cc; done = refl; request = refl }))
   same-as false false false false formats a = same-bad OtherType
 
-  same-take : (room : ℕ) (m m′ : Message) → Same m m′ → takeRead p room s t m ≡ takeRead p room s′ t m′
-  same-take room m m′ h = cc (by (firstOf (takeChecks p room s′ t m′)))
+  same-take : (room : ℕ) (m m′ : Message) → Same m m′ → takeRead p room s m ≡ takeRead p room s′ m′
+  same-take room m m′ h = cc (by (firstOf (takeChecks p room s′ m′)))
     where
       refused : (c : Conduct) (r : Refusal) → conducted c p m r ≡ conducted c p m′ r
       refused (hangsUp reason) r = refl
@@ -222,12 +219,12 @@ module _ (p : Port) (t : Tables) (s s′ : List ℕ) where
       refused stays r = refl
       refused altersNothing r = refl
 
-      by : (o : Option Refusal) → takeBy o p s t m ≡ takeBy o p s′ t m′
+      by : (o : Option Refusal) → takeBy o p s m ≡ takeBy o p s′ m′
       by none = h .done
       by (some r) = refused (conductOf r) r
 
   -- take's outcome is the same for two messages alike in what is read of their type
-  pub take-alike : (room : ℕ) → Alike (readsIn s′) (outAt s′) s s′ → takeDef p room s t ≡ takeDef p room s′ t
+  pub take-alike : (room : ℕ) → Alike (readsIn s′) (outAt s′) s s′ → takeDef p room s ≡ takeDef p room s′
   unfolding readMessage
   take-alike room a = same-take room (readMessage (p .terms .agreed) (p .terms .formats) s) (readMessage (p .terms .agreed) (p .terms .formats) s′)
       (same-unless (lengthChecks (p .terms .agreed) s) (lengthChecks (p .terms .agreed) s′) (cc) (rw (a .code) (ofType same-as (typeOf s′) (p .terms .formats) a)))

@@ -22,6 +22,7 @@ pub mod Listing
 pub mod Owed
 pub mod Opened
 pub mod Segments
+pub mod Given
 pub mod Ranges
 pub mod Sent
 pub mod Received

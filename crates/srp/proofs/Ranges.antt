@@ -2,115 +2,40 @@
 -- Assumes nothing.
 use mathlib.Core.Path.{_≡_, refl, ap, sym, _∙_}
 use mathlib.Core.Logic.{inl, inr, ⊎-elim}
-use mathlib.Core.Bool.{Bool, true, false, cond, not, _&&_, _||_, true≢false}
+use mathlib.Core.Bool.{Bool, true, false, cond, true≢false}
 use mathlib.Core.List.{List, [], _∷_, _++_}
 use mathlib.Core.Option.{Option, none, some, Option·none-ne-some}
-use Prim.Native.Nat.{ℕ, zero, suc, _+_, _-_, _/_, _^_, _≤_, _<_}
+use Prim.Native.Nat.{ℕ, _+_, _-_, _^_, _≤_, _<_}
 use native.Mathlib.Omega.{arith}
-use lib.Dec.{ltb, eqb}
-use lib.ListN.{length, take, drop, length-append, length-take}
-use borrow.Author.Tests.{ltb-false, leb-false, eqb-true, eqb-false}
-use Rattle.srp.specs.Bytes.{bytes, number, get}
-use Rattle.srp.specs.Messages.{tag, outFormat, inFormat, outCount, inCount, segmentLength}
-use Rattle.srp.specs.Lists.{find, change, without, All}
+use lib.Dec.{ltb}
+use lib.ListN.{length, length-append}
+use borrow.Author.Tests.{ltb-false, leb-false, eqb-false, not-false}
+use Rattle.srp.specs.Lists.{find, change, without, isSome, All}
 use Rattle.srp.specs.Limits.{bufferSize}
 use Rattle.srp.specs.Refusals.{Conduct, hangsUp, answered, stays, altersNothing, conductOf, firstOf}
-use Rattle.srp.specs.Descriptors.{segmentsIn, segmentsOf, segments, sumOf, reachable, descriptorOf, goodTable, fetched, copiesAgree, goodFields}
-use Rattle.srp.specs.Requests.{outAt, inAt, outDescriptor, inDescriptor, commandOf, readMessage}
-use Rattle.srp.specs.Both.{of}
+use Rattle.srp.specs.Descriptors.{Given}
+use Rattle.srp.specs.Requests.{readMessage}
+use Rattle.srp.specs.Both.{Both, of}
 use Rattle.srp.specs.Credit.{Side, movable, onSide, Open, ruleOf, Port, closedPort, due, withHeld, withWanted, withUnanswered}
 use Rattle.srp.specs.Take.{Outcome, conducted, Tables, tablesFit, fieldsFit, newSide, newOpen, aborted, takeChecks, accepted, takeBy, takeDef, hasTag}
+use Rattle.srp.specs.Tables.{badLengths, badTables, tablesChecks, broughtTo, brought as withTables, tablesRefused, tablesBy, tablesDef}
 use Rattle.srp.specs.Calls.{unless, planned as withPlan, planChecks, planDef, moving, moveChecks, moveDef, requiring, handing, nextIn, nextOf, numberIn, wrapped, handOut, stepChecks, stepDef, finishChecks, finishDef, addChecks, addDef, withdrawChecks, withdrawDef, grantChecks, grantDef, closeDef, closeChecks}
 use Rattle.srp.specs.declared.Refusal.{Refusal}
 use Rattle.srp.specs.declared.Refusal.the-variants.{ShortBuffer, Closed}
-use Rattle.srp.specs.declared.Descriptor.{Descriptor}
 use Rattle.srp.specs.declared.Message.{Message}
 use Rattle.srp.specs.declared.Message.the-variants.{Bad, Cmd, TskMgmt, CredRsp, ILogout}
 use Rattle.srp.specs.declared.Direction.{Direction}
 use Rattle.srp.specs.declared.Piece.{Piece}
 use Rattle.srp.specs.Bytes.{Bytes}
-use Rattle.srp.specs.Ranges.{SideRanges, OpenRanges, Ranges, Reached, logged-in, took, planned, moved, stepped, finished, added, withdrew, granted, hung-up, Ranged}
-use Rattle.srp.proofs.FieldLaws.{both, get-below}
-use Rattle.srp.proofs.ListLaws.{all-take, all-drop, all-snoc, all-without, all-find, all-change, length-change, length-without}
+use Rattle.srp.specs.Ranges.{SideRanges, OpenRanges, Ranges, Reached, logged-in, took, brought, planned, moved, stepped, finished, added, withdrew, granted, hung-up, Ranged}
+use Rattle.srp.proofs.ListLaws.{all-snoc, all-without, all-find, all-change, length-change, length-without}
 use Rattle.srp.proofs.BothLaws.{each-of, each-altered}
 use Rattle.srp.proofs.Opened.{login-kept}
 use Rattle.srp.proofs.Checks.{passes}
-use Rattle.srp.proofs.Reading.{read-has}
+use Rattle.srp.proofs.Given.{ready-ranges, Sane, read-sane}
 use Rattle.srp.proofs.Refusing.{passed}
 use Rattle.srp.proofs.CutLaws.{Lawful, up-to}
 use Rattle.srp.proofs.Pieces.{piece-fits, wrapped-same}
-use Rattle.srp.proofs.Segments.{few-segments}
-
--- ── a message's segments
-
-one-segment : (k : ℕ) (l : List ℕ) → k ≤ 1 → Bytes l → sumOf (segmentsIn k l) < 2 ^ 32
-one-segment zero l h a = omega arith
-one-segment (suc zero) l h a = omega (arith, get-below segmentLength l a)
-one-segment (suc (suc k)) l h a = absurd (omega arith)
-
-module _ (f count at : ℕ) (s table : List ℕ) (b : Bytes s) where
-  abbrev desc : Descriptor
-  desc = descriptorOf f count at s
-
-  abbrev B : ℕ
-  B = sumOf (segments desc s table)
-
-  -- what goodFields asks besides the segments' ends, where `two` says that the format is 2
-  abbrev tests : Bool → Bool
-  tests two = not two || (goodTable (desc .len) && (copiesAgree desc s table && eqb (desc .total) B))
-
-  -- below 2^32: the length field of the one segment, or equal to the field total length
-  small : tests (eqb f 2) ≡ true → B < 2 ^ 32
-  small h = go (eqb f 2) refl h
-    where
-      total-small : (y : Bool) → cond y (number 0 (take 4 (drop (at + 16) s))) 0 < 2 ^ 32
-      total-small true = get-below (bytes (at + 16) 4) s b
-      total-small false = omega arith
-
-      first : List ℕ
-      first = take 16 (drop at s)
-
-      one : (x : Bool) → sumOf (segmentsOf (cond x first [])) < 2 ^ 32
-      one true =
-          one-segment (length first / 16) first (omega (arith, length-take 16 (drop at s)))
-          (all-take (λ b. b < 256) 16 (drop at s) (all-drop (λ b. b < 256) at s b))
-      one false = omega arith
-
-      go : (y : Bool) → eqb f 2 ≡ y → tests y ≡ true → B < 2 ^ 32
-      go true e h =
-          let sums = both (copiesAgree desc s table) (eqb (desc .total) B) (both (goodTable (desc .len)) _ h .1) .1 in
-          omega (arith, eqb-true (desc .total) B sums, total-small (eqb f 2))
-      go false e h = rw e (one (eqb f 1))
-
-  new-ranges : length table ≡ fetched desc → goodFields desc s table ≡ true → SideRanges (newSide (segments desc s table))
-  new-ranges whole good =
-      let g = both (tests (eqb f 2)) (reachable (segments desc s table)) good in
-      record { extent = record { few = few-segments desc s table (g .0) whole; reach = g .1; sum = refl; small = small (g .0) }; highest = omega arith; at = omega arith; end = omega arith; number = omega arith; required = omega arith }
-
--- a command that a message of bytes is read as has such segments, where its tables fit and its fields are good
-abbrev Sane : List ℕ → Tables → Message → Type 0
-Sane s t (Bad r) = Unit {0}
-Sane s t (Cmd c) = tablesFit c t ≡ true → fieldsFit c s t ≡ true → OpenRanges (newOpen c s t)
-Sane s t (TskMgmt k) = Unit {0}
-Sane s t (CredRsp g) = Unit {0}
-Sane s t ILogout = Unit {0}
-
-module _ (s : List ℕ) (t : Tables) (b : Bytes s) where
-  command-sane : Sane s t (Cmd (commandOf s))
-  command-sane f e =
-      let l = both (eqb (length (t .out)) (fetched (outDescriptor s))) (eqb (length (t .inn)) (fetched (inDescriptor s))) f in
-      let g = both (goodFields (outDescriptor s) s (t .out)) (goodFields (inDescriptor s) s (t .inn)) e in
-      record {
-        tag = get-below tag s b;
-        sides = (
-          new-ranges (get outFormat s) (get outCount s) (outAt s) s (t .out) b (eqb-true _ _ (l .0)) (g .0),
-          new-ranges (get inFormat s) (get inCount s) (inAt s) s (t .inn) b (eqb-true _ _ (l .1)) (g .1),
-        );
-        unplanned = λ _. (refl, refl);
-      }
-
-  read-sane : (agreed formats : ℕ) → Sane s t (readMessage agreed formats s)
-  read-sane = read-has (Sane s t) (λ _. tt) s command-sane tt tt tt
 
 -- ── each call on a port that has them
 
@@ -150,8 +75,8 @@ module _ {p : Port} (v : Ranges p) where
   shorter a f h = fewer v a (without f (p .held)) (omega (arith, v .room, length-without f (p .held))) (all-without OpenRanges f (p .held) (v .commands))
 
 module _ {p : Port} (v : Ranges p) where
-  take-kept : (room : ℕ) (s : List ℕ) (t : Tables) → Bytes s → Ranged (takeDef p room s t .port)
-  take-kept room s t b = go (readMessage (p .terms .agreed) (p .terms .formats) s) (read-sane s t b (p .terms .agreed) (p .terms .formats))
+  take-kept : (room : ℕ) (s : List ℕ) → Bytes s → Ranged (takeDef p room s .port)
+  take-kept room s b = go (readMessage (p .terms .agreed) (p .terms .formats) s) (read-sane s b (p .terms .agreed) (p .terms .formats))
     where
       by : (c : Conduct) (m : Message) (r : Refusal) → Ranged (conducted c p m r .port)
       by (hangsUp reason) m r = inl refl
@@ -159,36 +84,62 @@ module _ {p : Port} (v : Ranges p) where
       by stays m r = inr v
       by altersNothing m r = inr v
 
-      accept : (m : Message) → Sane s t m → firstOf (takeChecks p room s t m) ≡ none → Ranged (accepted p s t m .port)
+      accept : (m : Message) → Sane s m → firstOf (takeChecks p room s m) ≡ none → Ranged (accepted p s m .port)
       accept (Bad r) k e = by (conductOf r) (Bad r) r
       accept (Cmd c) k e =
-          let q = passed p room s t c e in
+          let q = passed p room s c e in
           inr
-          (fewer v (p .announced - 1) (p .held ++ (newOpen c s t ∷ []))
-          (omega (arith, v .room, length-append (p .held) (newOpen c s t ∷ []), eqb-false (p .announced) 0 (q .credit)))
-          (all-snoc OpenRanges (p .held) (newOpen c s t) (v .commands) (k (q .tables) (q .fields))))
+          (fewer v (p .announced - 1) (p .held ++ (newOpen c s ∷ []))
+          (omega (arith, v .room, length-append (p .held) (newOpen c s ∷ []), eqb-false (p .announced) 0 (q .credit)))
+          (all-snoc OpenRanges (p .held) (newOpen c s) (v .commands) (k (q .fields))))
       accept (TskMgmt k) a e = inr (paid (shorter v (p .announced - 1) (aborted k) (omega arith)))
       accept (CredRsp g) k e = inr (asking v false)
       accept ILogout k e = inl refl
 
-      end : (r : Option Refusal) (m : Message) → Sane s t m → firstOf (takeChecks p room s t m) ≡ r → Ranged (takeBy r p s t m .port)
+      end : (r : Option Refusal) (m : Message) → Sane s m → firstOf (takeChecks p room s m) ≡ r → Ranged (takeBy r p s m .port)
       end none m k e = accept m k e
       end (some r) m k e = by (conductOf r) m r
 
-      go : (m : Message) → Sane s t m → Ranged (takeBy (firstOf (takeChecks p room s t m)) p s t m .port)
-      go m k = end (firstOf (takeChecks p room s t m)) m k refl
+      go : (m : Message) → Sane s m → Ranged (takeBy (firstOf (takeChecks p room s m)) p s m .port)
+      go m k = end (firstOf (takeChecks p room s m)) m k refl
+
+  tables-kept : (room tag : ℕ) (t : Tables) → Ranged (tablesDef p room tag t .port)
+  tables-kept room tag t = go (firstOf (tablesChecks p room tag t)) refl
+    where
+      by : (c : Conduct) (r : Refusal) → Ranged (tablesRefused c p tag r .port)
+      by (hangsUp reason) r = inr v
+      by answered r = inr (paid (shorter v (p .announced) (hasTag tag) (omega arith)))
+      by stays r = inr v
+      by altersNothing r = inr v
+
+      ready-now : (c : Open) → OpenRanges c → badLengths (c .awaits) t ≡ false → badTables (c .awaits) t ≡ false
+          → (x : Option (Both Given)) → c .awaits ≡ x → OpenRanges (broughtTo x newSide t c)
+      ready-now c r l e none f = r
+      ready-now c r l e (some g) f =
+          ready-ranges (c .request) g t (r .tag) (r .awaited g f .0) (not-false (tablesFit g t) (rw f at l)) (not-false (fieldsFit g t) (rw f at e))
+
+      go : (r : Option Refusal) → firstOf (tablesChecks p room tag t) ≡ r → Ranged (tablesBy r p tag t .port)
+      go none e =
+          let q = passes (tablesChecks p room tag t) e .1 .1 .1 .1 in
+          changed v (hasTag tag) (withTables newSide t) λ c f r. ready-now c r (rw f at (q .0)) (rw f at (q .1 .0)) (c .awaits) refl
+      go (some r) e = by (conductOf r) r
 
   plan-kept : (tag out inn : ℕ) → out < 2 ^ 32 → inn < 2 ^ 32 → Ranged (planDef p tag out inn .port)
   plan-kept tag out inn ho hi =
       unless-kept v (firstOf (planChecks p tag)) _ λ e.
       changed v (hasTag tag) (withPlan out inn) λ c f r.
-      let u = r .unplanned (rw f at (passes (planChecks p tag) e .1 .1 .0)) in
+      let u = r .unplanned (rw f at (passes (planChecks p tag) e .1 .1 .1 .0)) in
       record {
         tag = r .tag;
+        awaited = λ g z. absurd (Option·none-ne-some g (sym (waits-none (c .awaits) (rw f at (passes (planChecks p tag) e .1 .1 .0))) ∙ z));
         sides = (requires (c .sides .out) out (r .sides .0) (u .0) ho, requires (c .sides .inn) inn (r .sides .1) (u .1) hi);
         unplanned = λ z. absurd (true≢false z);
       }
     where
+      waits-none : (x : Option (Both Given)) → isSome x ≡ false → x ≡ none
+      waits-none none h = refl
+      waits-none (some g) h = absurd (true≢false h)
+
       requires : (s : Side) (n : ℕ) → SideRanges s → s .transfer .required ≡ 0 → n < 2 ^ 32 → SideRanges (requiring n s)
       requires s n r z h = record { extent = r .extent; highest = omega (arith, r .highest); at = r .at; end = omega (arith, r .end); number = r .number; required = h }
 
@@ -202,6 +153,7 @@ module _ {p : Port} (v : Ranges p) where
   side-kept d f c r h e =
       record {
         tag = r .tag;
+        awaited = r .awaited;
         sides = each-altered SideRanges d (c .sides) f (r .sides) (h (each-of SideRanges d (c .sides) (r .sides)));
         unplanned = λ u. each-altered Nothing d (c .sides) f (r .unplanned u) (e ∙ each-of Nothing d (c .sides) (r .unplanned u));
       }
@@ -210,7 +162,7 @@ module _ {p : Port} (v : Ranges p) where
   move-kept tag d offset count =
       unless-kept v (firstOf (moveChecks p tag d offset)) _ λ e.
       changed v (hasTag tag) (onSide d (moving offset count)) λ c f r.
-      let low = ltb-false (movable (of d (c .sides))) offset (rw f at (passes (moveChecks p tag d offset) e .1 .1 .1 .0)) in
+      let low = ltb-false (movable (of d (c .sides))) offset (rw f at (passes (moveChecks p tag d offset) e .1 .1 .1 .1 .0)) in
       side-kept d (moving offset count) c r
       (λ x. record { extent = x .extent; highest = x .highest; at = omega arith; end = omega arith; number = omega arith; required = x .required })
       refl
@@ -254,9 +206,13 @@ carry : {p : Port} (f : Port → Port) → f closedPort ≡ closedPort → (Rang
 carry f z g k = ⊎-elim (λ e. inl (ap f e ∙ z)) g k
 
 -- the closed port stays, whatever the room
-take-shut : (b : Bool) (s : List ℕ) (t : Tables) (m : Message) → takeBy (cond b (some ShortBuffer) (some Closed)) closedPort s t m .port ≡ closedPort
-take-shut true s t m = refl
-take-shut false s t m = refl
+take-shut : (b : Bool) (s : List ℕ) (m : Message) → takeBy (cond b (some ShortBuffer) (some Closed)) closedPort s m .port ≡ closedPort
+take-shut true s m = refl
+take-shut false s m = refl
+
+tables-shut : (b : Bool) (tag : ℕ) (t : Tables) → tablesBy (cond b (some ShortBuffer) (some Closed)) closedPort tag t .port ≡ closedPort
+tables-shut true tag t = refl
+tables-shut false tag t = refl
 
 unless-shut : (b : Bool) (o : Outcome) → unless (cond b (some ShortBuffer) (some Closed)) closedPort o .port ≡ closedPort
 unless-shut true o = refl
@@ -265,7 +221,8 @@ unless-shut false o = refl
 -- every port that a login made and calls changed is closed, as the one value closedPort, or has the ranges
 pub reached : {p : Port} → Reached p → Ranged p
 reached (logged-in c own room s) = login-kept c own room s
-reached (took r room s t b) = carry (λ p. takeDef p room s t .port) (take-shut (ltb room bufferSize) s t _) (λ v. take-kept v room s t b) (reached r)
+reached (took r room s b) = carry (λ p. takeDef p room s .port) (take-shut (ltb room bufferSize) s _) (λ v. take-kept v room s b) (reached r)
+reached (brought r room tag t) = carry (λ p. tablesDef p room tag t .port) (tables-shut (ltb room bufferSize) tag t) (λ v. tables-kept v room tag t) (reached r)
 reached (planned r tag out inn ho hi) = carry (λ p. planDef p tag out inn .port) refl (λ v. plan-kept v tag out inn ho hi) (reached r)
 reached (moved r tag d offset count) = carry (λ p. moveDef p tag d offset count .port) refl (λ v. move-kept v tag d offset count) (reached r)
 reached (stepped r tag d) = carry (λ p. stepDef p tag d .port) refl (λ v. step-kept v tag d) (reached r)

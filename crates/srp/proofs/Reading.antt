@@ -15,6 +15,7 @@ use Rattle.srp.specs.Messages.{tag}
 use Rattle.srp.specs.Refusals.{hangsUp, numberOf, conductOf, firstOf}
 use Rattle.srp.specs.Requests.{isRequest, exactLength, commandOf, commandChecks, taskOf, unlessBad, sized, lengthChecks, byType, readMessage, OfType, ReadAs}
 use Rattle.srp.specs.declared.Refusal.{Refusal}
+use Rattle.srp.specs.declared.Refusal.the-variants.{Length, OtherType}
 use Rattle.srp.specs.declared.Message.{Message}
 use Rattle.srp.specs.declared.Message.the-variants.{Bad, Cmd, TskMgmt, CredRsp, ILogout}
 use Rattle.srp.proofs.Checks.{passes, hit}
@@ -64,15 +65,22 @@ module _ (agreed formats : ℕ) (s : List ℕ) where
 
 -- so it is one of five, and has what each of them has
 module _ (P : Message → Type 0) (bad : (r : Refusal) → P (Bad r)) (s : List ℕ) where
+  sizes-has : (n : ℕ) (m : Message) → P m → P (sized n s m)
+  sizes-has n m a = either P (eqb (length s) n) m _ (λ _. a) (λ _. bad Length)
+
+  -- a command where it passes its checks
+  pub read-checked : (agreed formats : ℕ) → (firstOf (commandChecks formats s) ≡ none → P (Cmd (commandOf s))) → P (TskMgmt (taskOf s)) → P ILogout
+      → P (CredRsp (get tag s)) → P (readMessage agreed formats s)
+  unfolding readMessage
+  read-checked agreed formats command task logout credit =
+      unless-bad P (firstOf (lengthChecks agreed s)) (byType (typeOf s) formats s) (λ r _. bad r) λ _.
+      either P (eqb (typeOf s) 0x02) _ _ (λ _. unless-bad P (firstOf (commandChecks formats s)) (Cmd (commandOf s)) (λ r _. bad r) command) λ _.
+      either P (eqb (typeOf s) 0x01) _ _ (λ _. sizes-has 48 (TskMgmt (taskOf s)) task) λ _.
+      either P (eqb (typeOf s) 0x03) _ _ (λ _. sizes-has 16 ILogout logout) λ _.
+      either P (eqb (typeOf s) 0x41) _ _ (λ _. sizes-has 16 (CredRsp (get tag s)) credit) (λ _. bad OtherType)
+
   pub read-has : P (Cmd (commandOf s)) → P (TskMgmt (taskOf s)) → P ILogout → P (CredRsp (get tag s)) → (agreed formats : ℕ) → P (readMessage agreed formats s)
-  read-has command task logout credit agreed formats = go (readMessage agreed formats s) (read-as agreed formats s)
-    where
-      go : (m : Message) → ReadAs agreed s m → P m
-      go (Bad r) a = bad r
-      go (Cmd c) a = rw (a .2) command
-      go (TskMgmt k) a = rw (a .1) task
-      go (CredRsp g) a = rw (a .1) credit
-      go ILogout a = logout
+  read-has command task logout credit agreed formats = read-checked agreed formats (λ _. command) task logout credit
 
 -- ── by its type
 

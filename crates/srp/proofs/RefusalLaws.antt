@@ -6,7 +6,7 @@ use Prim.Native.Nat.{ℕ, _<_}
 use native.Mathlib.Omega.{arith}
 use Rattle.srp.specs.Refusals.{numberOf, refusalNumbered}
 use Rattle.srp.specs.declared.Refusal.{Refusal}
-use Rattle.srp.specs.declared.Refusal.the-variants.{ShortBuffer, Setting, Length, OtherType, OutFormat, InFormat, OutCount, InCount, TableLength, Fields, Argument, Closed, NoCredit, TagOpen, TagNotOpen, CreditResponse, Unanswered, NotOwed, Wanted, Unplanned, Planned, Offset, Unfinished}
+use Rattle.srp.specs.declared.Refusal.the-variants.{ShortBuffer, Setting, Length, OtherType, OutFormat, InFormat, OutCount, InCount, TableLength, Fields, Argument, Closed, NoCredit, TagOpen, TagNotOpen, CreditResponse, Unanswered, NotOwed, Wanted, Unplanned, Planned, Offset, Unfinished, Waiting}
 
 -- each has at most three digits and is not 0, which says that nothing is refused
 pub number-range : (r : Refusal) → (0 < numberOf r) × (numberOf r < 1000)
@@ -33,6 +33,7 @@ number-range Unplanned = omega arith
 number-range Planned = omega arith
 number-range Offset = omega arith
 number-range Unfinished = omega arith
+number-range Waiting = omega arith
 
 -- each is found by its number, so no two have the same
 pub numbered : (r : Refusal) → refusalNumbered (numberOf r) ≡ some r
@@ -59,6 +60,7 @@ numbered Unplanned = refl
 numbered Planned = refl
 numbered Offset = refl
 numbered Unfinished = refl
+numbered Waiting = refl
 
 pub number-injective : (r s : Refusal) → numberOf r ≡ numberOf s → r ≡ s
 number-injective r s e = Option·some-injective r s (sym (numbered r) ∙ ap refusalNumbered e ∙ numbered s)

@@ -1,19 +1,19 @@
 -- A command that was taken has at most 32 segments each way; so how many operations one of its moves has at most.
 -- Assumes nothing.
-use mathlib.Core.Path.{_≡_, refl, ap, sym}
-use mathlib.Core.Bool.{Bool, true, false, cond, not, _&&_, _||_, true≢false}
-use mathlib.Core.List.{List, []}
+use mathlib.Core.Path.{_≡_, refl, ap}
+use mathlib.Core.Bool.{Bool, true, false, cond, not, _&&_}
+use mathlib.Core.List.{List}
 use Prim.Native.Nat.{ℕ, zero, suc, _+_, _-_, _*_, _/_, _^_, _≤_}
 use native.Mathlib.Omega.{arith}
 use lib.Dec.{leb, eqb}
-use lib.ListN.{length, take, drop, length-take}
-use borrow.Author.Tests.{leb-true, eqb-true}
+use lib.ListN.{length, drop}
+use borrow.Author.Tests.{leb-true}
 use Rattle.srp.specs.Limits.{mostCopies, longestTable}
-use Rattle.srp.specs.Descriptors.{Segment, segmentsIn, goodTable, whole, fetched, copies, segmentBytes, segments, goodIndirect, goodFormat}
+use Rattle.srp.specs.Descriptors.{Segment, segmentsIn, goodTable, whole, fetched, Given, chosen, segments}
 use Rattle.srp.specs.Cutting.{cutsOf}
 use Rattle.srp.specs.Credit.{ruleOf}
 use Rattle.srp.specs.Fewest.{touched, crossed}
-use Rattle.srp.specs.Ranges.{mostOperations, OperationsAtMost}
+use Rattle.srp.specs.Ranges.{mostOperations, OperationsAtMost, GivenRanges}
 use Rattle.srp.specs.declared.Descriptor.{Descriptor}
 use Rattle.srp.proofs.FieldLaws.{both}
 use Rattle.srp.proofs.Bound.{quotient-grows, cuts-bound, few-touched, few-crossed}
@@ -22,38 +22,33 @@ pub segments-count : (n : ℕ) (l : List ℕ) → length (segmentsIn n l) ≡ n
 segments-count zero l = refl
 segments-count (suc n) l = ap suc (segments-count n (drop 16 l))
 
--- the bytes of a direction's segments, by its format and whether the copies are the whole table
-short-bytes : (x y w : Bool) (first copied table : List ℕ) → length first ≤ longestTable → (y ≡ true → w ≡ true → length copied ≤ longestTable)
-    → (y ≡ true → w ≡ false → length table ≤ longestTable) → length (cond x first (cond y (cond w copied table) [])) ≤ longestTable
-short-bytes true y w first copied table a b c = a
-short-bytes false true true first copied table a b c = b refl refl
-short-bytes false true false first copied table a b c = c refl refl
-short-bytes false false w first copied table a b c = omega arith
-
--- where an indirect table has a good length and the lent one is as long as was fetched
-pub few-segments : (d : Descriptor) (s table : List ℕ) → goodFormat d s table ≡ true → length table ≡ fetched d
-    → length (segments d s table) ≤ mostCopies
-few-segments d s table good e =
-    let n = length (segmentBytes d s table) in
-    omega (arith, segments-count (n / 16) (segmentBytes d s table), short-bytes (eqb (d .format) 1) (eqb (d .format) 2) (whole d) (take 16 (drop (d .at) s)) (copies d s) table (omega (arith, length-take 16 (drop (d .at) s))) in-message fetched-whole)
+-- F is at most 512
+fetched-short : (d : Descriptor) → fetched d ≤ longestTable
+fetched-short d = go (eqb (d .format) 2 && (goodTable (d .len) && not (whole d))) refl
   where
-    good-table : (y : Bool) → y ≡ true → (not y || goodIndirect d s table) ≡ true → goodTable (d .len) ≡ true
-    good-table true f h = both (goodTable (d .len)) _ h .0
-    good-table false f h = absurd (true≢false (sym f))
+    go : (b : Bool) → (eqb (d .format) 2 && (goodTable (d .len) && not (whole d))) ≡ b → cond b (d .len) 0 ≤ longestTable
+    go true e =
+        let good = both (goodTable (d .len)) (not (whole d)) (both (eqb (d .format) 2) _ e .1) .0 in
+        leb-true (d .len) longestTable (both (leb (d .len) longestTable) _ (both (leb 16 (d .len)) _ good .1) .0)
+    go false e = omega arith
 
-    a-table : eqb (d .format) 2 ≡ true → goodTable (d .len) ≡ true
-    a-table f = good-table (eqb (d .format) 2) f good
+-- what stands in a message of a direction is at most 512 bytes
+given-short : (g : Given) → GivenRanges g → length (g .bytes) ≤ longestTable
+given-short g r = go (eqb (g .descriptor .format) 1) (eqb (g .descriptor .format) 2) (r .size)
+  where
+    go : (x y : Bool) → length (g .bytes) ≡ cond x 16 (cond y (16 * g .descriptor .count) 0) → length (g .bytes) ≤ longestTable
+    go true y e = omega arith
+    go false true e = omega (arith, r .count)
+    go false false e = omega arith
 
-    at-most : eqb (d .format) 2 ≡ true → d .len ≤ longestTable
-    at-most f = leb-true (d .len) longestTable (both (leb (d .len) longestTable) _ (both (leb 16 (d .len)) _ (a-table f) .1) .0)
-
-    in-message : eqb (d .format) 2 ≡ true → whole d ≡ true → length (copies d s) ≤ longestTable
-    in-message f w = omega (arith, at-most f, eqb-true (d .len) (16 * d .count) w, length-take (16 * d .count) (drop (d .at + 20) s))
-
-    fetched-whole : eqb (d .format) 2 ≡ true → whole d ≡ false → length table ≤ longestTable
-    fetched-whole f w =
-        let n : fetched d ≡ d .len = λ i. cond (f i && (a-table f i && not (w i))) (d .len) 0 in
-        omega (arith, at-most f, e, n)
+-- so a direction has at most 32 segments, where the lent table is as long as was fetched
+pub few-segments : (g : Given) (table : List ℕ) → GivenRanges g → length table ≡ fetched (g .descriptor) → length (segments g table) ≤ mostCopies
+few-segments g table r e = omega (arith, segments-count (length (chosen g table) / 16) (chosen g table), short (eqb (g .descriptor .format) 2) (whole (g .descriptor)))
+  where
+    short : (y w : Bool) → length (cond y (cond w (g .bytes) table) (g .bytes)) ≤ longestTable
+    short true true = given-short g r
+    short true false = omega (arith, e, fetched-short (g .descriptor))
+    short false w = given-short g r
 
 -- ── a move's operations
 

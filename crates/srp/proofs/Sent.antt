@@ -22,7 +22,8 @@ use Rattle.srp.specs.Credit.{Side, Open, Port, due, withHeld}
 use Rattle.srp.specs.declared.Residual.{Residual}
 use Rattle.srp.specs.declared.Residual.the-variants.{Even, Over, Under}
 use Rattle.srp.specs.Writing.{residualOf, amount, isOver, isUnder, Response, responseBytes, responseValues, response, answer, targetLogout, solicited}
-use Rattle.srp.specs.Take.{Outcome, hasTag, Tables, aborted, wholeLun, taskCode, requestIn, conducted, takeChecks, takeBy, takeDef}
+use Rattle.srp.specs.Take.{Outcome, hasTag, isOpen, Tables, aborted, wholeLun, taskCode, requestIn, conducted, takeChecks, takeBy, takeDef}
+use Rattle.srp.specs.Tables.{tablesChecks, badResponse, tablesRefused, tablesBy, tablesDef}
 use Rattle.srp.specs.Calls.{unless, finalResponse, finishChecks, finishDef, grantChecks, grantDef, closeDef, closeChecks}
 use Rattle.srp.specs.Login.{badSettings, loginChecks, supported, rejections, judged, loginBy, loginDef}
 use Rattle.srp.specs.declared.Settings.{Settings}
@@ -38,7 +39,7 @@ use Rattle.srp.proofs.Commands.{there, beyond}
 use Rattle.srp.proofs.ListLaws.{all-find}
 use Rattle.srp.proofs.Checks.{passes, hit, both-false}
 use Rattle.srp.proofs.Reading.{ByType, read-has, read-by-type}
-use Rattle.srp.proofs.Refusing.{Suits, drawn}
+use Rattle.srp.proofs.Refusing.{answered-open, Suits, drawn}
 use Rattle.srp.proofs.Ranges.{reached}
 use Rattle.srp.specs.Ranges.{SideRanges, OpenRanges, Reached}
 
@@ -171,32 +172,51 @@ module _ (p : Port) (w : p .wanted ≤ 16) (o : All OpenRanges (p .held)) where
   due-small : (a : ℕ) (cs : List Open) → due (withHeld p a cs) ≤ 16
   due-small a cs = omega arith
 
-  take-sent : (room : ℕ) (s : List ℕ) (t : Tables) → Bytes s → All Sent (takeDef p room s t .wrote)
-  take-sent room s t b =
+  take-sent : (room : ℕ) (s : List ℕ) → Bytes s → All Sent (takeDef p room s .wrote)
+  take-sent room s b =
       go (readMessage (p .terms .agreed) (p .terms .formats) s) (read-by-type (p .terms .agreed) (p .terms .formats) s)
       (read-has (λ m. requestIn m .tag < 2 ^ 64) (λ r. omega arith) s small small (omega arith) (omega arith) (p .terms .agreed) (p .terms .formats))
     where
       small : get tag s < 2 ^ 64
       small = get-below tag s b
 
-      by : (c : Conduct) → Suits p room s t (isRequest s) c → (m : Message) (r : Refusal) → requestIn m .tag < 2 ^ 64 → All Sent (conducted c p m r .wrote)
+      by : (c : Conduct) → Suits p room s (isRequest s) c → (m : Message) (r : Refusal) → requestIn m .tag < 2 ^ 64 → All Sent (conducted c p m r .wrote)
       by (hangsUp reason) y m r k = (logout-sent (p .terms .losolnt) reason y, tt)
       by answered y m r k = (answer-sent (requestIn m .ucsolnt) (requestIn m .tag) 2 _ (due-small (p .announced - 1) (p .held)) k (inr (inl refl)), tt)
       by stays y m r k = tt
       by altersNothing y m r k = tt
 
-      end : (r : Option Refusal) (m : Message) → ByType (isRequest s) m → firstOf (takeChecks p room s t m) ≡ r → requestIn m .tag < 2 ^ 64 → All Sent (takeBy r p s t m .wrote)
-      end none (Bad r) y e k = absurd (true≢false (passes (takeChecks p room s t (Bad r)) e .1 .1 .0))
+      end : (r : Option Refusal) (m : Message) → ByType (isRequest s) m → firstOf (takeChecks p room s m) ≡ r → requestIn m .tag < 2 ^ 64 → All Sent (takeBy r p s m .wrote)
+      end none (Bad r) y e k = absurd (true≢false (passes (takeChecks p room s (Bad r)) e .1 .1 .0))
       end none (Cmd c) y e k = tt
       end none (TskMgmt j) y e k =
           let d = due-small (p .announced - 1) (without (aborted j) (p .held)) in
           (answer-sent (solicited (j .request) (taskCode (j .function))) (j .request .tag) (taskCode (j .function)) _ d k (task-code (j .function)), tt)
       end none (CredRsp g) y e k = tt
       end none ILogout y e k = tt
-      end (some r) m y e k = by (conductOf r) (drawn p room s t (isRequest s) m y r e .suits) m r k
+      end (some r) m y e k = by (conductOf r) (drawn p room s (isRequest s) m y r e .suits) m r k
 
-      go : (m : Message) → ByType (isRequest s) m → requestIn m .tag < 2 ^ 64 → All Sent (takeBy (firstOf (takeChecks p room s t m)) p s t m .wrote)
-      go m y k = end (firstOf (takeChecks p room s t m)) m y refl k
+      go : (m : Message) → ByType (isRequest s) m → requestIn m .tag < 2 ^ 64 → All Sent (takeBy (firstOf (takeChecks p room s m)) p s m .wrote)
+      go m y k = end (firstOf (takeChecks p room s m)) m y refl k
+
+  tables-sent : (room tag : ℕ) (t : Tables) → All Sent (tablesDef p room tag t .wrote)
+  tables-sent room tag t = go (firstOf (tablesChecks p room tag t)) refl
+    where
+      answers : (x : Option Open) → find (hasTag tag) (p .held) ≡ x → isSome x ≡ true → Sent (badResponse x (due (withHeld p (p .announced) (without (hasTag tag) (p .held)))))
+      answers none f e = absurd (true≢false (sym e))
+      answers (some c) f e =
+          answer-sent (c .request .ucsolnt) (c .request .tag) 2 _ (due-small (p .announced) (without (hasTag tag) (p .held)))
+          (all-find OpenRanges (hasTag tag) (p .held) c o f .tag) (inr (inl refl))
+
+      by : (c : Conduct) (r : Refusal) → (c ≡ answered → isOpen p tag ≡ true) → All Sent (tablesRefused c p tag r .wrote)
+      by (hangsUp reason) r e = tt
+      by answered r e = (answers (find (hasTag tag) (p .held)) refl (e refl), tt)
+      by stays r e = tt
+      by altersNothing r e = tt
+
+      go : (r : Option Refusal) → firstOf (tablesChecks p room tag t) ≡ r → All Sent (tablesBy r p tag t .wrote)
+      go none e = tt
+      go (some r) e = by (conductOf r) r (answered-open p tag room t r e)
 
   unless-sent : (r : Option Refusal) (x : Outcome) → (r ≡ none → All Sent (x .wrote)) → All Sent (unless r p x .wrote)
   unless-sent none x f = f refl
@@ -230,6 +250,7 @@ every-write {p} r =
     let o : All OpenRanges (p .held) = ⊎-elim (λ e. rw e tt) (λ v. v .commands) (reached r) in
     record {
       taking = take-sent p w o;
+      bringing = tables-sent p w o;
       finishing = finish-sent p w o;
       granting = grant-sent p w o;
       closing = close-sent p w o;

@@ -15,7 +15,7 @@ use Rattle.srp.specs.Messages.{tag, targetIdentifier, outFormat, inForma
 use Rattle.srp.specs.Lists.{All}
 use Rattle.srp.specs.Requests.{outAt, lookDef}
 use Rattle.srp.specs.Credit.{Port}
-use Rattle.srp.specs.Take.{Tables, takeDef}
+use Rattle.srp.specs.Take.{takeDef}
 use Rattle.srp.specs.Login.{loginDef}
 use Rattle.srp.specs.declared.Settings.{Settings}
 use Rattle.srp.specs.Unread.{unreadCommand, unreadTask, unreadLogout, unreadCredit, unreadLogin, unreadCommandBy, unreadCommandIn, unreadTaskBy, unreadIn, changed, ChangeOf}
@@ -59,11 +59,11 @@ nothing-else = ((refl, refl), (refl, refl), (refl, refl), (refl, refl), (refl, r
 -- ── any changes where nothing is read
 
 -- take's outcome, the same with any changes where the message leaves it unread
-pub take-unread : (p : Port) (room : ℕ) (s : List ℕ) (t : Tables) (cs : List (Field × ℕ)) → All (ChangeOf (unreadIn s) (length s)) cs
-    → takeDef p room (changed cs s) t ≡ takeDef p room s t
-take-unread p room s t cs w =
+pub take-unread : (p : Port) (room : ℕ) (s : List ℕ) (cs : List (Field × ℕ)) → All (ChangeOf (unreadIn s) (length s)) cs
+    → takeDef p room (changed cs s) ≡ takeDef p room s
+take-unread p room s cs w =
     let e = ofType all-clear (typeOf s) (eqb (get outFormat s) 2) (eqb (get inFormat s) 2) (eqb (get taskFunction s) 1) in
-    take-alike p t (changed cs s) s room (alike (readsIn s) (unreadIn s) (outAt s) s e (omega arith) cs w)
+    take-alike p (changed cs s) s room (alike (readsIn s) (unreadIn s) (outAt s) s e (omega arith) cs w)
 
 -- look's outcome, the same with any changes where a command leaves it unread
 pub look-unread : (agreed formats : ℕ) (s : List ℕ) (cs : List (Field × ℕ)) → All (ChangeOf (unreadCommandIn s) (length s)) cs
@@ -108,10 +108,10 @@ module _ (s s′ : List ℕ) (l : length s ≡ length s′) (e : take 32 s ≡ t
           inr (record { long = l; code = cc; same = cc; far = f })
 
   -- take's outcome is the same for two commands that differ in the CDB alone
-  pub take-cdb : (p : Port) (room : ℕ) (t : Tables) → typeOf s′ ≡ cmd .code → takeDef p room s t ≡ takeDef p room s′ t
-  take-cdb p room t k = ⊎-elim
-      (λ q. ap (λ (x : List ℕ). takeDef p room x t) q)
-      (λ a. take-alike p t s s′ room (rw k a))
+  pub take-cdb : (p : Port) (room : ℕ) → typeOf s′ ≡ cmd .code → takeDef p room s ≡ takeDef p room s′
+  take-cdb p room k = ⊎-elim
+      (λ q. ap (λ (x : List ℕ). takeDef p room x) q)
+      (λ a. take-alike p s s′ room (rw k a))
       cdb-alike
 
   -- and so is look's

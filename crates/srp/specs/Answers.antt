@@ -5,6 +5,7 @@ use mathlib.Core.Option.{Option, none, some}
 use Prim.Native.Nat.{ℕ}
 use lib.IntN.{ℤ, pos}
 use lib.ListN.{length}
+use Rattle.srp.specs.Bytes.{bit}
 use Rattle.srp.specs.Messages.{cmd}
 use Rattle.srp.specs.Refusals.{numberOf}
 use Rattle.srp.specs.Take.{Outcome}
@@ -33,8 +34,8 @@ saying vs = record { refusal = none; operation = none; values = vs }
 abbrev pub saidBy : Reply → Said
 saidBy (Refused r) = record { refusal = some r; operation = none; values = [] }
 saidBy Performed = saying []
--- tag, LUN, the CDB's place in the message and its length
-saidBy (NewCommand tag lun cdb) = saying (pos tag ∷ pos lun ∷ pos (cmd .size) ∷ pos cdb ∷ [])
+-- tag, LUN, the CDB's place in the message and its length, 1 where it waits for its tables
+saidBy (NewCommand tag lun cdb waits) = saying (pos tag ∷ pos lun ∷ pos (cmd .size) ∷ pos cdb ∷ pos (bit waits) ∷ [])
 saidBy (TaskAnswered tag lun) = saying (pos tag ∷ pos lun ∷ [])
 saidBy CreditSettled = saying []
 saidBy LoggedOut = saying []

@@ -1,7 +1,7 @@
--- Document 01, and document 02, jobs 1, 4 and 5: the other calls on a port. "Other calls: 1, 21, 11, 24, 30, 29, 26, 27, 28, those that apply"; a refusal
--- alters nothing.
+-- Document 01, and document 02, jobs 1, 4, 5 and 7: the other calls on a port. "Other calls: 1, 21, 11, 24, 30, 29, 26, 27, 28, those that apply"; a
+-- refusal alters nothing.
 use mathlib.Core.Bool.{Bool, true, false, not, _&&_, _||_}
-use mathlib.Core.List.{List, [], _∷_, map}
+use mathlib.Core.List.{List, [], _∷_, _++_, map}
 use mathlib.Core.Option.{Option, none, some}
 use Prim.Native.Nat.{ℕ, _+_, _-_, _%_, _^_, max}
 use lib.Dec.{ltb, leb, eqb}
@@ -15,8 +15,9 @@ use Rattle.srp.specs.Credit.{Side, withTransfer, withRequired, withCurre
 use Rattle.srp.specs.declared.Terms.{Terms}
 use Rattle.srp.specs.Writing.{residualOf, Response, response, creditRequest, targetLogout, solicited}
 use Rattle.srp.specs.Take.{Outcome, silent, answering, closed, hasTag, isOpen}
+use Rattle.srp.specs.Tables.{isWaiting}
 use Rattle.srp.specs.declared.Refusal.{Refusal}
-use Rattle.srp.specs.declared.Refusal.the-variants.{Argument, TagNotOpen, Unanswered, NotOwed, Wanted, Unplanned, Planned, Offset, Unfinished}
+use Rattle.srp.specs.declared.Refusal.the-variants.{Argument, TagNotOpen, Unanswered, NotOwed, Wanted, Unplanned, Planned, Offset, Unfinished, Waiting}
 use Rattle.srp.specs.declared.Direction.{Direction}
 use Rattle.srp.specs.declared.Direction.the-variants.{Out, In}
 use Rattle.srp.specs.declared.Kind.{Kind}
@@ -31,6 +32,10 @@ abbrev pub unless : Option Refusal → Port → Outcome → Outcome
 unless none p o = o
 unless (some r) p o = silent p (Refused r)
 
+-- "33 plan, move, step or finish on a waiting command .. directly after 24"
+abbrev pub openChecks : Port → ℕ → List Check
+openChecks p tag = (not (isOpen p tag), TagNotOpen) ∷ (isWaiting (find (hasTag tag) (p .held)), Waiting) ∷ []
+
 -- ── plan
 
 abbrev pub isPlanned : {S : Type 0} → Option (Held S) → Bool
@@ -44,7 +49,7 @@ abbrev pub planned : ℕ → ℕ → Open → Open
 planned out inn c = withSides c true (along requiring (record { out = out; inn = inn }) (c .sides))
 
 abbrev pub planChecks : Port → ℕ → List Check
-planChecks p tag = closed p ∷ (not (isOpen p tag), TagNotOpen) ∷ (isPlanned (find (hasTag tag) (p .held)), Planned) ∷ []
+planChecks p tag = closed p ∷ openChecks p tag ++ ((isPlanned (find (hasTag tag) (p .held)), Planned) ∷ [])
 
 -- "Plan states once per command, for each direction, R"
 abbrev pub planOutcome : Port → ℕ → ℕ → ℕ → Outcome
@@ -75,12 +80,8 @@ unfinished d (some c) = hasPieces (of d (c .sides))
 -- "both after 29, which moves draw too"
 abbrev pub moveChecks : Port → ℕ → Direction → ℕ → List Check
 moveChecks p tag d offset =
-    closed p
-    ∷ (not (isOpen p tag), TagNotOpen)
-    ∷ (not (isPlanned (find (hasTag tag) (p .held))), Unplanned)
-    ∷ (beyond d offset (find (hasTag tag) (p .held)), Offset)
-    ∷ (unfinished d (find (hasTag tag) (p .held)), Unfinished)
-    ∷ []
+    let c : Option Open = find (hasTag tag) (p .held) in
+    closed p ∷ openChecks p tag ++ ((not (isPlanned c), Unplanned) ∷ (beyond d offset c, Offset) ∷ (unfinished d c, Unfinished) ∷ [])
 
 -- "After plan, the owner names a move: direction, offset, count"
 abbrev pub moveOutcome : Port → ℕ → Direction → ℕ → ℕ → Outcome
@@ -127,7 +128,7 @@ handOut p tag d n (some o) =
     silent (withHeld p (p .announced) (change (hasTag tag) (onSide d (handing (o .len))) (p .held))) (Operation (kindOf d) (wrapped o) (n + 1))
 
 abbrev pub stepChecks : Port → ℕ → List Check
-stepChecks p tag = closed p ∷ (not (isOpen p tag), TagNotOpen) ∷ (not (isPlanned (find (hasTag tag) (p .held))), Unplanned) ∷ []
+stepChecks p tag = closed p ∷ openChecks p tag ++ ((not (isPlanned (find (hasTag tag) (p .held))), Unplanned) ∷ [])
 
 -- "Step names a tag and a direction and hands out the next piece there, or says done"; "step serves the pieces of that direction's current move"
 abbrev pub stepOutcome : Port → ℕ → Direction → Outcome
@@ -164,7 +165,7 @@ finalResponse none status sense delta = []
 finalResponse (some c) status sense delta = response (finalOf c status sense delta)
 
 abbrev pub finishChecks : Port → ℕ → ℕ → ℕ → List ℕ → List Check
-finishChecks p room tag status sense = short room ∷ closed p ∷ (badSense status sense, Argument) ∷ (not (isOpen p tag), TagNotOpen) ∷ []
+finishChecks p room tag status sense = short room ∷ closed p ∷ (badSense status sense, Argument) ∷ openChecks p tag
 
 abbrev pub finishOutcome : Port → ℕ → ℕ → List ℕ → Outcome
 finishOutcome p tag status sense =

@@ -1,11 +1,12 @@
--- Document 01, "Credit", and document 02, jobs 1, 4 and 6: the state of one channel, W, A, H and D, and what moves of its commands' data.
+-- Document 01, "Credit", and document 02, jobs 1, 4, 6 and 7: the state of one channel, W, A, H and D, and what moves of its commands' data.
 use mathlib.Core.Bool.{Bool, false}
 use mathlib.Core.List.{List, []}
+use mathlib.Core.Option.{Option}
 use Prim.Native.Nat.{ℕ, _+_, _-_, min}
 use lib.IntN.{ℤ, subℕ}
 use lib.ListN.{length}
 use Rattle.srp.specs.Both.{Both, alter}
-use Rattle.srp.specs.Descriptors.{Segment}
+use Rattle.srp.specs.Descriptors.{Segment, Given}
 use Rattle.srp.specs.Cutting.{Rule, upTo}
 use Rattle.srp.specs.declared.Request.{Request}
 use Rattle.srp.specs.declared.Terms.{Terms}
@@ -41,15 +42,16 @@ withCurrent highest at end number t = record { required = t .required; highest =
 abbrev pub movable : Side → ℕ
 movable s = min (s .transfer .required) (s .extent .total)
 
--- a command that was taken and has not ended, with S for each direction
+-- a command that was taken and has not ended, with S for each direction; `awaits`: what its tables will be judged by, while it waits for them
 pub record Held (S : Type 0) : Type 0 where
   pub request : Request
+  pub awaits : Option (Both Given)
   pub planned : Bool
   pub sides : Both S
 
 -- with another state of its plan and its directions
 abbrev pub withSides : {S U : Type 0} → Held S → Bool → Both U → Held U
-withSides c planned sides = record { request = c .request; planned = planned; sides = sides }
+withSides c planned sides = record { request = c .request; awaits = c .awaits; planned = planned; sides = sides }
 
 -- with one direction changed
 abbrev pub onSide : {S : Type 0} → Direction → (S → S) → Held S → Held S

@@ -76,15 +76,34 @@ fetchOf d s =
 abbrev pub copies : Descriptor → List ℕ → List ℕ
 copies d s = take (16 * d .count) (drop (d .at + 20) s)
 
--- "The segments are the message's copies when they are the whole table, and otherwise the fetched table": as bytes,
--- a part of the message s or of the table
-abbrev pub segmentBytes : Descriptor → List ℕ → List ℕ → List ℕ
-segmentBytes d s table =
-    cond (eqb (d .format) 1) (take 16 (drop (d .at) s))
-    (cond (eqb (d .format) 2) (cond (whole d) (copies d s) table) [])
+-- ── a direction as the message gives it
 
-abbrev pub segments : Descriptor → List ℕ → List ℕ → List Segment
-segments d s table = segmentsOf (segmentBytes d s table)
+-- the memory descriptors that stand in the message: a direct descriptor, or the copies
+abbrev pub standing : Descriptor → List ℕ → List ℕ
+standing d s = cond (eqb (d .format) 1) (take 16 (drop (d .at) s)) (cond (eqb (d .format) 2) (copies d s) [])
+
+-- so many they are, where the message has its exact length
+abbrev pub standingSize : Descriptor → ℕ
+standingSize d = cond (eqb (d .format) 1) 16 (cond (eqb (d .format) 2) (16 * d .count) 0)
+
+-- a descriptor, wherever it stood, and those bytes: all that its table is judged by
+pub record Given : Type 0 where
+  pub descriptor : Descriptor
+  pub bytes : List ℕ
+
+abbrev pub given : Descriptor → List ℕ → Given
+given d s = record { descriptor = record { format = d .format; count = d .count; at = 0; len = d .len; total = d .total }; bytes = standing d s }
+
+-- "The segments are the message's copies when they are the whole table, and otherwise the fetched table": as bytes,
+-- a part of the message or of the table
+abbrev pub chosen : Given → List ℕ → List ℕ
+chosen g table = cond (eqb (g .descriptor .format) 2) (cond (whole (g .descriptor)) (g .bytes) table) (g .bytes)
+
+abbrev pub segmentBytes : Descriptor → List ℕ → List ℕ → List ℕ
+segmentBytes d s table = chosen (given d s) table
+
+abbrev pub segments : Given → List ℕ → List Segment
+segments g table = segmentsOf (chosen g table)
 
 abbrev pub sameBytes : List ℕ → List ℕ → Bool
 sameBytes [] [] = true
@@ -92,8 +111,8 @@ sameBytes [] (y ∷ ys) = false
 sameBytes (x ∷ xs) [] = false
 sameBytes (x ∷ xs) (y ∷ ys) = eqb x y && sameBytes xs ys
 
-abbrev pub copiesAgree : Descriptor → List ℕ → List ℕ → Bool
-copiesAgree d s table = whole d || sameBytes (copies d s) (take (16 * d .count) table)
+abbrev pub copiesAgree : Given → List ℕ → Bool
+copiesAgree g table = whole (g .descriptor) || sameBytes (g .bytes) (take (16 * g .descriptor .count) table)
 
 -- no segment has address + length above 2^64 (equal is fine)
 abbrev pub reachable : List Segment → Bool
@@ -101,12 +120,12 @@ reachable [] = true
 reachable (s ∷ ss) = leb (s .address + s .len) (2 ^ 64) && reachable ss
 
 -- a table's length, the copies in the message, and the total
-abbrev pub goodIndirect : Descriptor → List ℕ → List ℕ → Bool
-goodIndirect d s table = goodTable (d .len) && (copiesAgree d s table && eqb (d .total) (sumOf (segments d s table)))
+abbrev pub goodIndirect : Given → List ℕ → Bool
+goodIndirect g table = goodTable (g .descriptor .len) && (copiesAgree g table && eqb (g .descriptor .total) (sumOf (segments g table)))
 
-abbrev pub goodFormat : Descriptor → List ℕ → List ℕ → Bool
-goodFormat d s table = not (eqb (d .format) 2) || goodIndirect d s table
+abbrev pub goodFormat : Given → List ℕ → Bool
+goodFormat g table = not (eqb (g .descriptor .format) 2) || goodIndirect g table
 
 -- no bad field (refusal 10)
-abbrev pub goodFields : Descriptor → List ℕ → List ℕ → Bool
-goodFields d s table = goodFormat d s table && reachable (segments d s table)
+abbrev pub goodFields : Given → List ℕ → Bool
+goodFields g table = goodFormat g table && reachable (segments g table)

@@ -10,6 +10,7 @@ use Rattle.srp.specs.declared.Direction.the-variants.{Out, In}
 use Rattle.srp.specs.Cutting.{piece}
 use Rattle.srp.specs.Rows.{parts, Row, Seen, accepted, t-logout, cdbs, cmd-bytes, command, counters, counts, cuts, done, listed, lists, login-req, logs-in, looks, message, no-data, logs-in-with, own, performed, prints, refused, rejected, login-rej, segment, settings, takes-in, text, tsk-mgmt, login-rsp}
 use Rattle.srp.specs.BoundaryRows.{boundaries}
+use Rattle.srp.specs.WaitingRows.{waitings}
 use Rattle.srp.specs.Table.{on-port, from-closed, direct-in, entries, table, two-entries, bench, tasks, fields, hang-ups, calls}
 
 -- ── logins
@@ -121,4 +122,4 @@ outside =
 -- ── the table
 
 abbrev pub rows : List Row
-rows = bench ++ tasks ++ fields ++ hang-ups ++ calls ++ logins ++ outside ++ boundaries
+rows = bench ++ tasks ++ fields ++ hang-ups ++ calls ++ logins ++ outside ++ boundaries ++ waitings

@@ -7,7 +7,7 @@ use lib.ListN.{length, take, drop}
 use Rattle.srp.specs.Limits.{mostCopies}
 use Rattle.srp.specs.Bytes.{bit, get, behind, gets, puts, zeros, typeOf, write, InRange}
 use Rattle.srp.specs.Messages.{cmd, address, handle, memoryDescriptor, tableDescriptor}
-use Rattle.srp.specs.Descriptors.{descriptorOf, copies, segmentBytes, segments}
+use Rattle.srp.specs.Descriptors.{descriptorOf, copies, given, segmentBytes, segments}
 use Rattle.srp.specs.Requests.{cdbLength, exactLength, commandOf}
 use Rattle.srp.specs.declared.Request.{Request}
 use Rattle.srp.specs.declared.Descriptor.{Descriptor}
@@ -85,7 +85,7 @@ pub record Table (a h n t : ℕ) (w : List ℕ) (d : Descriptor) (s : List ℕ) 
 -- the descriptor d of the message s says the buffer
 abbrev pub Says : Buffer → Descriptor → List ℕ → Type 0
 Says noData d s = (table : List ℕ) → segmentBytes d s table ≡ []
-Says (direct a h n) d s = (table : List ℕ) → segments d s table ≡ record { address = a; handle = h; len = n } ∷ []
+Says (direct a h n) d s = (table : List ℕ) → segments (given d s) table ≡ record { address = a; handle = h; len = n } ∷ []
 Says (indirect a h n t w) d s = Table a h n t w d s
 
 -- the command c, its descriptors in the message s

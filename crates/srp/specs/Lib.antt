@@ -16,6 +16,7 @@ pub mod Writing
 pub mod Answers
 pub mod Take
 pub mod Order
+pub mod Tables
 pub mod Calls
 pub mod Login
 pub mod Ranges
@@ -25,6 +26,7 @@ pub mod Initiator
 pub mod Rows
 pub mod Table
 pub mod BoundaryRows
+pub mod WaitingRows
 pub mod FurtherRows
 pub mod Written
 pub mod MoveRows

@@ -1,6 +1,7 @@
 -- Document 01, and document 02, job 5, worked out by hand: the lent list after a listing. The rows hold: proofs/ListRows.antt.
 use mathlib.Core.Bool.{true, false}
 use mathlib.Core.List.{List, [], _∷_}
+use mathlib.Core.Option.{none}
 use Prim.Native.Nat.{ℕ}
 use lib.ListN.{replicate}
 use Rattle.srp.specs.Credit.{Side, Open, Port, closedPort, noTerms}
@@ -16,6 +17,7 @@ abbrev pub opened : ℕ → ℕ → ℕ → ℕ → Open
 opened tag lun out inn =
     record {
       request = record { tag = tag; lun = lun; ucsolnt = false; scsolnt = false };
+      awaits = none;
       planned = true;
       sides = record { out = reached out; inn = reached inn };
     }

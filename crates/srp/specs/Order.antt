@@ -1,6 +1,6 @@
 -- Document 01: "Take checks 1, 21, 3 (16 and agreed length), 4, 3 (48 for a command), 5, 6, 3 (exact), 7, 8, 22, 23, 9, 10; 5 to 10 are for
--- commands alone, 22 and 23 for requests; SRP_CRED_RSP has 25 after its 3", as one list. That take refuses by the first of it that hits, and
--- only so, is shown in proofs/Refusing.antt.
+-- commands alone, 22 and 23 for requests; SRP_CRED_RSP has 25 after its 3", as one list. Of a command with a fetch named, "Refusals 9 and 10 are made
+-- there", in tables (document 02, job 7). That take refuses by the first of it that hits, and only so, is shown in proofs/Refusing.antt.
 use mathlib.Core.Bool.{Bool, cond, not, _&&_, _||_}
 use mathlib.Core.List.{List, [], _∷_}
 use Prim.Native.Nat.{ℕ}
@@ -13,8 +13,8 @@ use Rattle.srp.specs.Refusals.{Check, short}
 use Rattle.srp.specs.Descriptors.{agrees, badCount}
 use Rattle.srp.specs.Requests.{isRequestType, exactLength, outDescriptor, inDescriptor, commandOf}
 use Rattle.srp.specs.Credit.{Port}
-use Rattle.srp.specs.Take.{Tables, closed, isOpen, tablesFit, fieldsFit}
-use Rattle.srp.specs.declared.Refusal.the-variants.{Length, OtherType, OutFormat, InFormat, OutCount, InCount, TableLength, Fields, NoCredit, TagOpen, CreditResponse}
+use Rattle.srp.specs.Take.{noTables, closed, isOpen, givenIn, waits, fieldsFit}
+use Rattle.srp.specs.declared.Refusal.the-variants.{Length, OtherType, OutFormat, InFormat, OutCount, InCount, Fields, NoCredit, TagOpen, CreditResponse}
 
 abbrev pub isCommand : ℕ → Bool
 isCommand k = eqb k (cmd .code)
@@ -31,8 +31,8 @@ typeLength k s =
     (cond (eqb k (iLogout .code)) (iLogout .size) (credRsp .size)))
 
 -- for a message s of type k
-abbrev pub orderOf : ℕ → Port → ℕ → List ℕ → Tables → List Check
-orderOf k p room s t =
+abbrev pub orderOf : ℕ → Port → ℕ → List ℕ → List Check
+orderOf k p room s =
     short room
     ∷ closed p
     ∷ (ltb (length s) shortestMessage, Length)
@@ -46,10 +46,9 @@ orderOf k p room s t =
     ∷ (isCommand k && badCount (inDescriptor s), InCount)
     ∷ (isRequestType k && eqb (p .announced) 0, NoCredit)
     ∷ (isRequestType k && isOpen p (get tag s), TagOpen)
-    ∷ (isCommand k && not (tablesFit (commandOf s) t), TableLength)
-    ∷ (isCommand k && not (fieldsFit (commandOf s) s t), Fields)
+    ∷ (isCommand k && (not (waits (commandOf s)) && not (fieldsFit (givenIn (commandOf s) s) noTables)), Fields)
     ∷ (eqb k (credRsp .code) && not (p .unanswered && eqb (get tag s) creditTag), CreditResponse)
     ∷ []
 
-abbrev pub takeOrder : Port → ℕ → List ℕ → Tables → List Check
-takeOrder p room s t = orderOf (typeOf s) p room s t
+abbrev pub takeOrder : Port → ℕ → List ℕ → List Check
+takeOrder p room s = orderOf (typeOf s) p room s

@@ -8,11 +8,11 @@ use Rattle.srp.specs.Limits.{answerSize, longestAgreed, bothFormats}
 use Rattle.srp.specs.Bytes.{bytesOf, puts, zeros}
 use Rattle.srp.specs.Messages.{memoryDescriptor}
 use Rattle.srp.specs.Refusals.{numberOf, firstOf}
-use Rattle.srp.specs.Descriptors.{Segment, segments, sumOf, fetched}
+use Rattle.srp.specs.Descriptors.{Segment, given, segments, sumOf}
 use Rattle.srp.specs.Requests.{lookChecks, lookDef, commandOf}
 use Rattle.srp.specs.Cutting.{upTo, cuts, cutDef}
 use Rattle.srp.specs.Calls.{kindOf}
-use Rattle.srp.specs.Take.{Tables, fieldsFit}
+use Rattle.srp.specs.Take.{noTables, givenIn, waits, fieldsFit}
 use Rattle.srp.specs.declared.Refusal.{Refusal}
 use Rattle.srp.specs.declared.Refusal.the-variants.{ShortBuffer, Fields}
 use Rattle.srp.specs.declared.Direction.the-variants.{Out, In}
@@ -105,9 +105,6 @@ refusedLine r = 0x72 ∷ 0x65 ∷ 0x66 ∷ 0x75 ∷ 0x73 ∷ 0x65 ∷ 0x64 ∷ 0
 abbrev pub fetchLine : List ℕ
 fetchLine = 0x66 ∷ 0x65 ∷ 0x74 ∷ 0x63 ∷ 0x68 ∷ 0x0a ∷ []
 
-abbrev pub noTables : Tables
-noTables = record { out = []; inn = [] }
-
 -- "M = 512, R = B"; "one move each way, offset 0, count R"; of Q, "cutlist's is 0"
 abbrev pub wholeCuts : List Segment → List Piece
 wholeCuts ss = cuts (upTo 512 0) (sumOf ss) ss
@@ -115,9 +112,9 @@ wholeCuts ss = cuts (upTo 512 0) (sumOf ss) ss
 -- a command that look takes: ""fetch" only, ahead of 10"
 abbrev pub cutlistOf : Command → List ℕ → List ℕ
 cutlistOf c s =
-    cond (not (eqb (fetched (c .out)) 0) || not (eqb (fetched (c .inn)) 0)) fetchLine
-    (cond (not (fieldsFit c s noTables)) (refusedLine Fields)
-    (operationLines (kindOf Out) (wholeCuts (segments (c .out) s [])) ++ operationLines (kindOf In) (wholeCuts (segments (c .inn) s []))))
+    cond (waits c) fetchLine
+    (cond (not (fieldsFit (givenIn c s) noTables)) (refusedLine Fields)
+    (operationLines (kindOf Out) (wholeCuts (segments (given (c .out) s) [])) ++ operationLines (kindOf In) (wholeCuts (segments (given (c .inn) s) []))))
 
 -- what cutlist prints for the message s: "both formats agreed, X = 1,364"
 abbrev pub cutlist : List ℕ → List ℕ

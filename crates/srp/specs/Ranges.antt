@@ -4,17 +4,19 @@ use mathlib.Core.Path.{_≡_}
 use mathlib.Core.Logic.{_⊎_}
 use mathlib.Core.Bool.{true, false, cond}
 use mathlib.Core.List.{List}
+use mathlib.Core.Option.{some}
 use Prim.Native.Nat.{ℕ, _+_, _-_, _/_, _^_, _≤_, _<_}
 use lib.Dec.{eqb}
 use lib.ListN.{length}
 use Rattle.srp.specs.Limits.{mostBuffers, largestPiece, mostCopies}
 use Rattle.srp.specs.Messages.{tag}
 use Rattle.srp.specs.Lists.{All, isSome}
-use Rattle.srp.specs.Descriptors.{sumOf, reachable}
+use Rattle.srp.specs.Descriptors.{standingSize, Given, sumOf, reachable}
 use Rattle.srp.specs.Cutting.{cutsOf, badBoundary}
-use Rattle.srp.specs.Both.{Each}
+use Rattle.srp.specs.Both.{Both, Each}
 use Rattle.srp.specs.Credit.{Extent, Side, movable, Open, ruleOf, Port, closedPort}
 use Rattle.srp.specs.Take.{Tables, takeDef}
+use Rattle.srp.specs.Tables.{tablesDef}
 use Rattle.srp.specs.Calls.{hasPieces, nextIn, planDef, moveDef, stepDef, finishDef, addDef, withdrawDef, grantDef, closeDef}
 use Rattle.srp.specs.Login.{loginDef}
 use Rattle.srp.specs.declared.Settings.{Settings}
@@ -53,9 +55,19 @@ OperationsAtMost = (T : Terms) (s : Side) (from to : ℕ) → 1 ≤ T .maximum �
     let most : ℕ → ℕ = mostOperations (T .maximum) (T .boundary) in
     (n ≤ most (to - from)) × (n ≤ most (2 ^ 32 - 1))
 
--- an open command: its tag has 8 bytes, and R is 0 until it is planned
+-- a direction as a message gave it: an agreed format, at most 32 copies, and as many bytes as its descriptor says
+pub record GivenRanges (g : Given) : Type 0 where
+  pub format : g .descriptor .format ≤ 2
+  pub count : g .descriptor .count ≤ mostCopies
+  pub len : g .descriptor .len < 2 ^ 32
+  pub total : g .descriptor .total < 2 ^ 32
+  pub bytes : Bytes (g .bytes)
+  pub size : length (g .bytes) ≡ standingSize (g .descriptor)
+
+-- an open command: its tag has 8 bytes, it is not planned while it waits for its tables, and R is 0 until it is planned
 pub record OpenRanges (c : Open) : Type 0 where
   pub tag : c .request .tag < 2 ^ 64
+  pub awaited : (g : Both Given) → c .awaits ≡ some g → Each GivenRanges g × (c .planned ≡ false)
   pub sides : Each SideRanges (c .sides)
   pub unplanned : c .planned ≡ false → Each (λ s. s .transfer .required ≡ 0) (c .sides)
 
@@ -73,7 +85,8 @@ pub record Ranges (p : Port) : Type 0 where
 -- the ports that a login made, accepted or not, and calls changed, whatever they answered; a message is bytes, and R below 2^32
 pub data Reached : Port → Type 0 where
   logged-in : (c : Settings) (own : List ℕ) (room : ℕ) (s : List ℕ) → Reached (loginDef c own room s .port)
-  took : {p : Port} → Reached p → (room : ℕ) (s : List ℕ) (t : Tables) → Bytes s → Reached (takeDef p room s t .port)
+  took : {p : Port} → Reached p → (room : ℕ) (s : List ℕ) → Bytes s → Reached (takeDef p room s .port)
+  brought : {p : Port} → Reached p → (room tag : ℕ) (t : Tables) → Reached (tablesDef p room tag t .port)
   planned : {p : Port} → Reached p → (tag out inn : ℕ) → out < 2 ^ 32 → inn < 2 ^ 32 → Reached (planDef p tag out inn .port)
   moved : {p : Port} → Reached p → (tag : ℕ) (d : Direction) (offset count : ℕ) → Reached (moveDef p tag d offset count .port)
   stepped : {p : Port} → Reached p → (tag : ℕ) (d : Direction) → Reached (stepDef p tag d .port)

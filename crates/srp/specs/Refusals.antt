@@ -1,4 +1,4 @@
--- Document 01, "From the message or the caller" and "From what went before", and document 02, job 1: the refusals' numbers, what take does at each, and
+-- Document 01, "From the message or the caller" and "From what went before", and document 02, jobs 1 and 7: the refusals' numbers, what take does at each, and
 -- which check comes first.
 use mathlib.Core.Bool.{Bool, cond}
 use mathlib.Core.List.{List, [], _∷_}
@@ -8,9 +8,9 @@ use lib.Dec.{ltb, eqb}
 use Rattle.srp.specs.Lists.{find}
 use Rattle.srp.specs.Limits.{bufferSize}
 use Rattle.srp.specs.declared.Refusal.{Refusal}
-use Rattle.srp.specs.declared.Refusal.the-variants.{ShortBuffer, Setting, Length, OtherType, OutFormat, InFormat, OutCount, InCount, TableLength, Fields, Argument, Closed, NoCredit, TagOpen, TagNotOpen, CreditResponse, Unanswered, NotOwed, Wanted, Unplanned, Planned, Offset, Unfinished}
+use Rattle.srp.specs.declared.Refusal.the-variants.{ShortBuffer, Setting, Length, OtherType, OutFormat, InFormat, OutCount, InCount, TableLength, Fields, Argument, Closed, NoCredit, TagOpen, TagNotOpen, CreditResponse, Unanswered, NotOwed, Wanted, Unplanned, Planned, Offset, Unfinished, Waiting}
 
--- what a take that draws a refusal does
+-- what a take that draws a refusal does; of the other calls, tables too answers the command that draws 10, and else a refusal alters nothing
 pub data Conduct : Type 0 where
   -- "write SRP_T_LOGOUT, drop all commands and close"
   hangsUp : (reason : ℕ) → Conduct
@@ -22,7 +22,8 @@ pub data Conduct : Type 0 where
   altersNothing : Conduct
 
 -- each refusal's number, and what a take that draws it does: "Take's 3 to 8, 22, 23 and 25 write SRP_T_LOGOUT ..; reasons 0, but 6, 7, 8, 9 for
--- 5, 6, 7, 8. Refusal 10 is taken and answered"; "On refusals 1 and 9 the message stays there, else it leaves"
+-- 5, 6, 7, 8. Refusal 10 is taken and answered"; "On refusals 1 and 9 the message stays there, else it leaves", of which take draws 1 alone, since
+-- "Refusals 9 and 10 are made there", in tables (document 02, job 7)
 abbrev pub entry : Refusal → ℕ × Conduct
 -- from the message or the caller
 entry ShortBuffer = (1, stays)
@@ -34,7 +35,7 @@ entry OutFormat = (5, hangsUp 6)
 entry InFormat = (6, hangsUp 7)
 entry OutCount = (7, hangsUp 8)
 entry InCount = (8, hangsUp 9)
-entry TableLength = (9, stays)
+entry TableLength = (9, altersNothing)
 entry Fields = (10, answered)
 -- from what went before
 entry Closed = (21, altersNothing)
@@ -50,6 +51,7 @@ entry Planned = (30, altersNothing)
 -- from document 02
 entry Offset = (31, altersNothing)
 entry Unfinished = (32, altersNothing)
+entry Waiting = (33, altersNothing)
 
 abbrev pub numberOf : Refusal → ℕ
 numberOf r = entry r .0
@@ -62,7 +64,7 @@ abbrev pub refusals : List Refusal
 refusals =
     ShortBuffer ∷ Setting ∷ Length ∷ OtherType ∷ OutFormat ∷ InFormat ∷ OutCount ∷ InCount ∷ TableLength ∷ Fields ∷ Argument
     ∷ Closed ∷ NoCredit ∷ TagOpen ∷ TagNotOpen ∷ CreditResponse ∷ Unanswered ∷ NotOwed ∷ Wanted ∷ Unplanned ∷ Planned
-    ∷ Offset ∷ Unfinished ∷ []
+    ∷ Offset ∷ Unfinished ∷ Waiting ∷ []
 
 abbrev pub refusalNumbered : ℕ → Option Refusal
 refusalNumbered n = find (λ (r : Refusal). eqb n (numberOf r)) refusals

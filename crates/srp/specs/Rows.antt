@@ -10,10 +10,11 @@ use Rattle.srp.specs.Refusals.{numberOf}
 use Rattle.srp.specs.Requests.{cdbDef, segmentsDef}
 use Rattle.srp.specs.Credit.{Port, closedPort}
 use Rattle.srp.specs.Take.{Outcome, Tables, takeDef}
+use Rattle.srp.specs.Tables.{tablesDef}
 use Rattle.srp.specs.Calls.{planDef, moveDef, stepDef, finishDef, addDef, withdrawDef, grantDef, closeDef, countersDef, listDef, listing}
 use Rattle.srp.specs.Login.{loginDef}
 use Rattle.srp.specs.declared.Settings.{Settings}
-use Rattle.srp.specs.Outside.{CReturn, lookInC, cutInC, cutlist, noTables}
+use Rattle.srp.specs.Outside.{CReturn, lookInC, cutInC, cutlist}
 use Rattle.srp.specs.declared.Direction.{Direction}
 use Rattle.srp.specs.declared.Direction.the-variants.{Out, In}
 use Rattle.srp.specs.declared.Kind.{Kind}
@@ -27,7 +28,8 @@ use Rattle.srp.specs.declared.Reply.the-variants.{Refused, Performed, Ne
 
 pub data Act : Type 0 where
   logs-in : Settings → ℕ → List ℕ → Act
-  takes : ℕ → List ℕ → Tables → Act
+  takes : ℕ → List ℕ → Act
+  brings : ℕ → ℕ → Tables → Act
   plans : ℕ → ℕ → ℕ → Act
   names : ℕ → Direction → ℕ → ℕ → Act
   steps : ℕ → Direction → Act
@@ -50,6 +52,7 @@ pub data Seen : Type 0 where
   refused : ℕ → Seen
   performed : Seen
   command : (tag lun cdb : ℕ) → Seen
+  waiting : (tag lun cdb : ℕ) → Seen
   task : (tag lun : ℕ) → Seen
   settled : Seen
   logged-out : Seen
@@ -73,7 +76,7 @@ row r = r .tag ∷ r .lun ∷ r .out ∷ r .inn ∷ []
 abbrev pub seenOf : Port → Reply → Seen
 seenOf p (Refused r) = refused (numberOf r)
 seenOf p Performed = performed
-seenOf p (NewCommand tag lun cdb) = command tag lun cdb
+seenOf p (NewCommand tag lun cdb waits) = cond waits (waiting tag lun cdb) (command tag lun cdb)
 seenOf p (TaskAnswered tag lun) = task tag lun
 seenOf p CreditSettled = settled
 seenOf p LoggedOut = logged-out
@@ -103,7 +106,8 @@ own = replicate 15 7 ++ (8 ∷ [])
 
 abbrev pub act : Port → Act → Outcome × Seen
 act p (logs-in c room s) = called (loginDef c own room s)
-act p (takes room s t) = called (takeDef p room s t)
+act p (takes room s) = called (takeDef p room s)
+act p (brings room tag t) = called (tablesDef p room tag t)
 act p (plans tag out inn) = called (planDef p tag out inn)
 act p (names tag d offset count) = called (moveDef p tag d offset count)
 act p (steps tag d) = called (stepDef p tag d)
@@ -195,10 +199,11 @@ abbrev pub listed : List (List ℕ) → Seen
 listed rs = records (length rs) rs
 
 abbrev pub takes-in : List ℕ → Act
-takes-in s = takes 132 s noTables
+takes-in s = takes 132 s
 
-abbrev pub with-table : List ℕ → List ℕ → Act
-with-table s table = takes 132 s (record { out = []; inn = table })
+-- the tables of command 9
+abbrev pub brings-in : List ℕ → Act
+brings-in table = brings 132 9 (record { out = []; inn = table })
 
 abbrev pub finish : ℕ → Act
 finish tag = finishes 132 tag 0 []

@@ -15,6 +15,7 @@ use Rattle.srp.specs.Lists.{All}
 use Rattle.srp.specs.Credit.{Port}
 use Rattle.srp.specs.Writing.{Response, responseBytes, responseValues, response}
 use Rattle.srp.specs.Take.{Tables, takeDef}
+use Rattle.srp.specs.Tables.{tablesDef}
 use Rattle.srp.specs.Calls.{finishDef, grantDef, closeDef}
 
 -- what the bytes s of the response r are read as
@@ -65,7 +66,8 @@ pub data Sent : List ℕ → Type 0 where
 
 -- what the calls on the port p write; messages are bytes, a status has 8 bits, a reason 32
 pub record Writes (p : Port) : Type 0 where
-  pub taking : (room : ℕ) (s : List ℕ) (t : Tables) → Bytes s → All Sent (takeDef p room s t .wrote)
+  pub taking : (room : ℕ) (s : List ℕ) → Bytes s → All Sent (takeDef p room s .wrote)
+  pub bringing : (room tag : ℕ) (t : Tables) → All Sent (tablesDef p room tag t .wrote)
   pub finishing : (room tag status : ℕ) (sense : List ℕ) → status < 256 → All Sent (finishDef p room tag status sense .wrote)
   pub granting : (room : ℕ) → All Sent (grantDef p room .wrote)
   pub closing : (room reason : ℕ) → reason < 2 ^ 32 → All Sent (closeDef p room reason .wrote)

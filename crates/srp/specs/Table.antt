@@ -8,8 +8,8 @@ use lib.ListN.{take, replicate}
 use Rattle.srp.specs.Bytes.{bytesOf}
 use Rattle.srp.specs.declared.Direction.the-variants.{Out, In}
 use Rattle.srp.specs.Cutting.{piece}
-use Rattle.srp.specs.Outside.{noTables}
-use Rattle.srp.specs.Rows.{Act, Row, Seen, accepted, adds, cred-req, tag-only, t-logout, closes, cmd-bytes, rsp-code, command, counters, counts, done, finish, finishes, rsp-good, grants, listed, lists, logged-out, login-req, logs-in, message, names, no-data, logs-in-with, own, performed, plans, plans-in, reads, refused, rsp-bytes, segment, settings, settled, steps, steps-in, takes, takes-in, task, tsk-mgmt, login-rsp, with-table, withdraws, writes}
+use Rattle.srp.specs.Take.{noTables}
+use Rattle.srp.specs.Rows.{Act, Row, Seen, accepted, adds, brings, brings-in, cred-req, tag-only, t-logout, closes, cmd-bytes, rsp-code, command, counters, counts, done, finish, finishes, rsp-good, grants, listed, lists, logged-out, login-req, logs-in, message, names, no-data, logs-in-with, own, performed, plans, plans-in, reads, refused, rsp-bytes, segment, settings, settled, steps, steps-in, takes, takes-in, task, tsk-mgmt, login-rsp, waiting, withdraws, writes}
 
 -- a row on a port that a login with 4 buffers opened
 abbrev pub on-port : List Act → List Seen → Row
@@ -64,9 +64,9 @@ bench =
     ∷ on-message (cmd-bytes 0 0 0 0 9 0 7 (replicate 4 0)) (command 9 0 20 ∷ [])
     ∷ on-message (cmd-bytes 0 0 0 0 9 0 7 []) (refused 3 ∷ t-logout 0 0 ∷ [])
     -- P7
-    ∷ on-port (with-table (table 0 32 300 []) two-entries ∷ plans-in 300 ++ steps-in 3)
-    (command 9 0 16 ∷ performed ∷ performed ∷ performed ∷ writes 7 0x2000 100 0 1 ∷ writes 7 0x4000 200 100 2 ∷ done 2 ∷ [])
-    ∷ on-port (with-table (table 2 32 300 two-entries) [] ∷ plans-in 300 ++ steps-in 3)
+    ∷ on-port (takes-in (table 0 32 300 []) ∷ brings-in two-entries ∷ plans-in 300 ++ steps-in 3)
+    (waiting 9 0 16 ∷ performed ∷ performed ∷ performed ∷ performed ∷ writes 7 0x2000 100 0 1 ∷ writes 7 0x4000 200 100 2 ∷ done 2 ∷ [])
+    ∷ on-port (takes-in (table 2 32 300 two-entries) ∷ plans-in 300 ++ steps-in 3)
     (command 9 0 16 ∷ performed ∷ performed ∷ performed ∷ writes 7 0x2000 100 0 1 ∷ writes 7 0x4000 200 100 2 ∷ done 2 ∷ [])
     -- P8, P9, P10
     ∷ on-port (takes-in (no-data 1) ∷ takes-in (no-data 2) ∷ withdraws 3 ∷ counts ∷ finish 1 ∷ finish 2 ∷ counts
@@ -121,39 +121,41 @@ tasks =
 -- ── descriptors and segments
 
 -- a command that draws 10, and the port after it
-abbrev pub bad-fields : List ℕ → List ℕ → Row
-bad-fields s entries-in =
-    on-port (with-table s entries-in ∷ lists 16 ∷ counts ∷ []) (refused 10 ∷ rsp-code 0 1 9 2 ∷ listed [] ∷ counters 4 4 0 (pos 0) ∷ [])
+abbrev pub bad-fields : List ℕ → Row
+bad-fields s = on-port (takes-in s ∷ lists 16 ∷ counts ∷ []) (refused 10 ∷ rsp-code 0 1 9 2 ∷ listed [] ∷ counters 4 4 0 (pos 0) ∷ [])
+
+-- one that waits, and whose tables draw 10; it is held until then
+abbrev pub bad-tables : List ℕ → List ℕ → Row
+bad-tables s entries-in =
+    on-port (takes-in s ∷ lists 16 ∷ counts ∷ brings-in entries-in ∷ lists 16 ∷ counts ∷ brings-in entries-in ∷ [])
+    (waiting 9 0 16 ∷ listed ((9 ∷ 0 ∷ 0 ∷ 0 ∷ []) ∷ []) ∷ counters 4 3 1 (pos 0) ∷ refused 10 ∷ rsp-code 0 1 9 2 ∷ listed [] ∷ counters 4 4 0 (pos 0) ∷ refused 24 ∷ [])
 
 abbrev pub fields : List Row
 fields =
     -- both directions: out direct, by RDMA Reads; in from the fetched table, by RDMA Writes
-    on-port (takes 132 (cmd-bytes 0 0x12 0 1 9 0 0 (segment 0x1000 7 700 ++ (segment 0x9000 5 32 ++ bytesOf 4 300 ++ take 16 two-entries)))
-    (record { out = []; inn = two-entries }) ∷ plans 9 700 250 ∷ names 9 Out 0 700 ∷ names 9 In 0 250 ∷ steps 9 Out ∷ steps 9 In ∷ steps 9 Out ∷ steps 9 In
+    on-port (takes-in (cmd-bytes 0 0x12 0 1 9 0 0 (segment 0x1000 7 700 ++ (segment 0x9000 5 32 ++ bytesOf 4 300 ++ take 16 two-entries)))
+    ∷ brings-in two-entries ∷ plans 9 700 250 ∷ names 9 Out 0 700 ∷ names 9 In 0 250 ∷ steps 9 Out ∷ steps 9 In ∷ steps 9 Out ∷ steps 9 In
     ∷ steps 9 Out ∷ lists 16 ∷ finish 9 ∷ [])
-    (command 9 0 16 ∷ performed ∷ performed ∷ performed ∷ reads 7 0x1000 512 0 1 ∷ writes 7 0x2000 100 0 1 ∷ reads 7 0x1200 188 512 2 ∷ writes 7 0x4000 150 100 2 ∷ done 2
+    (waiting 9 0 16 ∷ performed ∷ performed ∷ performed ∷ performed ∷ reads 7 0x1000 512 0 1 ∷ writes 7 0x2000 100 0 1 ∷ reads 7 0x1200 188 512 2 ∷ writes 7 0x4000 150 100 2 ∷ done 2
     ∷ listed ((9 ∷ 0 ∷ 700 ∷ 250 ∷ []) ∷ []) ∷ performed ∷ rsp-good 1 9 0x20 0 50 ∷ [])
     -- a last piece of one byte
     ∷ on-port (takes-in (cmd-bytes 0 1 0 0 9 0 0 (segment 0x1000 7 513)) ∷ plans-in 513 ++ steps-in 3)
     (command 9 0 16 ∷ performed ∷ performed ∷ performed ∷ writes 7 0x1000 512 0 1 ∷ writes 7 0x1200 1 512 2 ∷ done 2 ∷ [])
     -- address + length = 2^64 is fine, one more is not
     ∷ on-message (cmd-bytes 0 1 0 0 9 0 0 (segment 0xffffffffffffff00 7 256)) (command 9 0 16 ∷ [])
-    ∷ bad-fields (cmd-bytes 0 1 0 0 9 0 0 (segment 0xffffffffffffff00 7 257)) []
+    ∷ bad-fields (cmd-bytes 0 1 0 0 9 0 0 (segment 0xffffffffffffff00 7 257))
     -- the table's length; a copy unlike its entry; the total
-    ∷ bad-fields (table 0 0 0 []) []
-    ∷ bad-fields (table 1 24 100 (take 16 two-entries)) []
-    ∷ bad-fields (table 0 528 0 []) []
-    ∷ bad-fields (table 1 32 300 (segment 0x2000 7 101)) two-entries
-    ∷ bad-fields (table 1 48 700 (segment 0x2000 8 0)) entries
-    ∷ bad-fields (table 2 48 700 (take 16 entries ++ segment 0x3001 7 600)) entries
-    ∷ bad-fields (table 2 32 301 two-entries) []
-    ∷ bad-fields (table 0 32 299 []) two-entries
+    ∷ bad-fields (table 0 0 0 [])
+    ∷ bad-fields (table 1 24 100 (take 16 two-entries))
+    ∷ bad-fields (table 0 528 0 [])
+    ∷ bad-tables (table 1 32 300 (segment 0x2000 7 101)) two-entries
+    ∷ bad-tables (table 1 48 700 (segment 0x2000 8 0)) entries
+    ∷ bad-tables (table 2 48 700 (take 16 entries ++ segment 0x3001 7 600)) entries
+    ∷ bad-fields (table 2 32 301 two-entries)
+    ∷ bad-tables (table 0 32 299 []) two-entries
     -- UCSOLNT of a command that draws 10
     ∷ on-message (cmd-bytes 4 1 0 0 9 0 0 (segment 0xffffffffffffff00 7 257)) (refused 10 ∷ rsp-code 1 1 9 2 ∷ [])
     ∷ on-message (cmd-bytes 2 1 0 0 9 0 0 (segment 0xffffffffffffff00 7 257)) (refused 10 ∷ rsp-code 0 1 9 2 ∷ [])
-    -- tables not of F bytes, in either direction, ahead of 10
-    ∷ on-port (with-table (table 0 32 300 []) (take 16 two-entries) ∷ with-table (no-data 9) two-entries ∷ takes 132 (no-data 9) (record { out = two-entries; inn = [] })
-    ∷ with-table (table 2 32 301 two-entries) two-entries ∷ counts ∷ []) (refused 9 ∷ refused 9 ∷ refused 9 ∷ refused 9 ∷ counters 4 4 0 (pos 0) ∷ [])
     ∷ []
 
 -- ── take's refusals: hang-ups and their reasons
@@ -176,19 +178,19 @@ hang-ups =
     ∷ on-message (tag-only 0x03 1 ++ (0 ∷ [])) (refused 3 ∷ t-logout 0 0 ∷ [])
     ∷ on-message (tag-only 0x41 1 ++ (0 ∷ [])) (refused 3 ∷ t-logout 0 0 ∷ [])
     ∷ on-message (tag-only 0x41 1) (refused 25 ∷ t-logout 0 0 ∷ [])
-    -- 22, before 23 and 9; the task too
-    ∷ from-closed (logs-in-with 1 0x10 ∷ takes-in (no-data 1) ∷ with-table (no-data 1) two-entries ∷ []) (accepted ∷ login-rsp 1 ∷ command 1 0 16 ∷ refused 22 ∷ t-logout 1 0 ∷ [])
+    -- 22, before 23; the task too
+    ∷ from-closed (logs-in-with 1 0x10 ∷ takes-in (no-data 1) ∷ takes-in (no-data 1) ∷ []) (accepted ∷ login-rsp 1 ∷ command 1 0 16 ∷ refused 22 ∷ t-logout 1 0 ∷ [])
     ∷ from-closed (logs-in-with 1 0 ∷ takes-in (no-data 1) ∷ takes-in (tsk-mgmt 0 1 0 1 0) ∷ []) (accepted ∷ login-rsp 1 ∷ command 1 0 16 ∷ refused 22 ∷ t-logout 0 0 ∷ [])
-    -- 23, before 9
-    ∷ on-port (takes-in (no-data 1) ∷ with-table (no-data 1) two-entries ∷ lists 16 ∷ []) (command 1 0 16 ∷ refused 23 ∷ t-logout 0 0 ∷ refused 21 ∷ [])
+    -- 23, before 10
+    ∷ on-port (takes-in (no-data 9) ∷ takes-in (table 0 0 0 []) ∷ lists 16 ∷ []) (command 9 0 16 ∷ refused 23 ∷ t-logout 0 0 ∷ refused 21 ∷ [])
     -- formats that the login did not require
     ∷ from-closed (logs-in (settings 4 512 0 1364 true true) 132 (login-req 1364 2 0 own) ∷ takes-in (table 0 32 300 []) ∷ [])
     (accepted ∷ login-rsp 4 ∷ refused 6 ∷ t-logout 0 7 ∷ [])
     -- the initiator's logout
     ∷ on-port (takes-in (no-data 1) ∷ takes-in (tag-only 0x03 9) ∷ counts ∷ []) (command 1 0 16 ∷ logged-out ∷ refused 21 ∷ [])
     -- 1 and 21 alter nothing
-    ∷ on-port (takes 131 (no-data 1) noTables ∷ counts ∷ []) (refused 1 ∷ counters 4 4 0 (pos 0) ∷ [])
-    ∷ from-closed (takes 131 (no-data 1) noTables ∷ takes-in (no-data 1) ∷ []) (refused 1 ∷ refused 21 ∷ [])
+    ∷ on-port (takes 131 (no-data 1) ∷ counts ∷ []) (refused 1 ∷ counters 4 4 0 (pos 0) ∷ [])
+    ∷ from-closed (takes 131 (no-data 1) ∷ takes-in (no-data 1) ∷ []) (refused 1 ∷ refused 21 ∷ [])
     ∷ []
 
 -- ── the other calls
@@ -238,12 +240,10 @@ calls =
     -- 1 before 21
     ∷ from-closed (finishes 131 1 0 [] ∷ grants 131 ∷ closes 131 0 ∷ []) (refused 1 ∷ refused 1 ∷ refused 1 ∷ [])
     -- close, and every call on a closed port
-    ∷ from-closed (logs-in-with 4 0x10 ∷ closes 131 5 ∷ closes 132 0x01020304 ∷ takes-in (no-data 1) ∷ plans 1 0 0 ∷ names 1 In 0 0 ∷ steps 1 In ∷ finish 1
-    ∷ adds 0 ∷ withdraws 0 ∷ grants 132
-    ∷ closes 132 0 ∷ counts ∷ lists 0 ∷ [])
+    ∷ from-closed (logs-in-with 4 0x10 ∷ closes 131 5 ∷ closes 132 0x01020304 ∷ takes-in (no-data 1) ∷ brings 132 1 noTables ∷ plans 1 0 0 ∷ names 1 In 0 0
+    ∷ steps 1 In ∷ finish 1 ∷ adds 0 ∷ withdraws 0 ∷ grants 132 ∷ closes 132 0 ∷ counts ∷ lists 0 ∷ [])
     (accepted ∷ login-rsp 4 ∷ refused 1 ∷ performed ∷ t-logout 1 0x01020304 ∷ refused 21 ∷ refused 21 ∷ refused 21 ∷ refused 21 ∷ refused 21 ∷ refused 21
-    ∷ refused 21 ∷ refused 21
-    ∷ refused 21 ∷ refused 21 ∷ refused 21 ∷ [])
+    ∷ refused 21 ∷ refused 21 ∷ refused 21 ∷ refused 21 ∷ refused 21 ∷ refused 21 ∷ [])
     -- listing
     -- the oldest first, by age and not by tag; one in the middle ends and the others keep their order; "A tag used again counts as taken anew"
     ∷ on-port (takes-in (no-data 3) ∷ takes-in (no-data 1) ∷ takes-in (no-data 2) ∷ lists 16 ∷ finish 1 ∷ lists 16 ∷ finish 3 ∷ takes-in (no-data 1)

@@ -1,4 +1,4 @@
--- Document 01: take, with its checks, hang-ups, refusal 10, task management, credit responses and the initiator's logout.
+-- Document 01, and document 02, job 7: take, with its checks, hang-ups, refusal 10, task management, credit responses and the initiator's logout.
 use mathlib.Core.Bool.{Bool, true, false, cond, not, _&&_, _||_}
 use mathlib.Core.List.{List, [], _∷_, _++_}
 use mathlib.Core.Option.{Option, none, some}
@@ -9,13 +9,12 @@ use Rattle.srp.specs.Limits.{creditTag}
 use Rattle.srp.specs.Lists.{find, without, isSome}
 use Rattle.srp.specs.Both.{Both, along}
 use Rattle.srp.specs.Refusals.{Conduct, hangsUp, answered, stays, altersNothing, conductOf, Check, firstOf, short}
-use Rattle.srp.specs.Descriptors.{Segment, segments, sumOf, fetched, goodFields}
+use Rattle.srp.specs.Descriptors.{Segment, Given, given, segments, sumOf, fetched, goodFields}
 use Rattle.srp.specs.Requests.{readMessage}
 use Rattle.srp.specs.Credit.{Side, unmoved, Held, Open, Port, closedPort, due, withHeld, withUnanswered}
 use Rattle.srp.specs.Writing.{answer, targetLogout, solicited}
 use Rattle.srp.specs.declared.Refusal.{Refusal}
-use Rattle.srp.specs.declared.Refusal.the-variants.{TableLength, Fields, Closed, NoCredit, TagOpen, CreditResponse}
-use Rattle.srp.specs.declared.Descriptor.{Descriptor}
+use Rattle.srp.specs.declared.Refusal.the-variants.{Fields, Closed, NoCredit, TagOpen, CreditResponse}
 use Rattle.srp.specs.declared.Request.{Request}
 use Rattle.srp.specs.declared.Command.{Command}
 use Rattle.srp.specs.declared.TaskRequest.{TaskRequest}
@@ -55,29 +54,45 @@ isOpen p tag = isSome (find (hasTag tag) (p .held))
 
 -- ── a command
 
--- the tables lent with a message, "F bytes each"
+-- the tables lent for a command
 abbrev pub Tables : Type 0
 Tables = Both (List ℕ)
 
-abbrev pub tablesFit : Command → Tables → Bool
-tablesFit c t = eqb (length (t .out)) (fetched (c .out)) && eqb (length (t .inn)) (fetched (c .inn))
+abbrev pub noTables : Tables
+noTables = record { out = []; inn = [] }
 
-abbrev pub fieldsFit : Command → List ℕ → Tables → Bool
-fieldsFit c s t = goodFields (c .out) s (t .out) && goodFields (c .inn) s (t .inn)
+-- both directions of the command c of the message s
+abbrev pub givenIn : Command → List ℕ → Both Given
+givenIn c s = record { out = given (c .out) s; inn = given (c .inn) s }
 
-abbrev pub descriptorsOf : Command → Both Descriptor
-descriptorsOf c = record { out = c .out; inn = c .inn }
+-- "F bytes each"
+abbrev pub tablesFit : Both Given → Tables → Bool
+tablesFit g t = eqb (length (t .out)) (fetched (g .out .descriptor)) && eqb (length (t .inn)) (fetched (g .inn .descriptor))
 
--- the command c of the message s with the tables t, where `new` makes a direction of its segments
-abbrev pub newlyHeld : {S : Type 0} → (List Segment → S) → Command → List ℕ → Tables → Held S
-newlyHeld new c s t =
-    record { request = c .request; planned = false; sides = along (λ d table. new (segments d s table)) (descriptorsOf c) t }
+abbrev pub fieldsFit : Both Given → Tables → Bool
+fieldsFit g t = goodFields (g .out) (t .out) && goodFields (g .inn) (t .inn)
+
+-- "with a fetch named", in either direction
+abbrev pub waits : Command → Bool
+waits c = not (eqb (fetched (c .out)) 0 && eqb (fetched (c .inn)) 0)
+
+-- a command with its tables, where `new` makes a direction of its segments
+abbrev pub ready : {S : Type 0} → (List Segment → S) → Request → Both Given → Tables → Held S
+ready new r g t = record { request = r; awaits = none; planned = false; sides = along (λ d table. new (segments d table)) g t }
+
+-- "the command is open and waiting": no segment is known
+abbrev pub waiting : {S : Type 0} → (List Segment → S) → Request → Both Given → Held S
+waiting new r g = record { request = r; awaits = some g; planned = false; sides = record { out = new []; inn = new [] } }
+
+-- the command c of the message s
+abbrev pub newlyHeld : {S : Type 0} → (List Segment → S) → Command → List ℕ → Held S
+newlyHeld new c s = cond (waits c) (waiting new (c .request) (givenIn c s)) (ready new (c .request) (givenIn c s) noTables)
 
 abbrev pub newSide : List Segment → Side
 newSide ss = record { extent = record { segs = ss; total = sumOf ss }; transfer = unmoved }
 
-abbrev pub newOpen : Command → List ℕ → Tables → Open
-newOpen c s t = newlyHeld newSide c s t
+abbrev pub newOpen : Command → List ℕ → Open
+newOpen c s = newlyHeld newSide c s
 
 -- ── task management
 
@@ -98,17 +113,17 @@ taskCode function = cond (eqb function 1 || wholeLun function) 0x00 (cond (eqb f
 
 -- ── take
 
--- behind 1 and 21: "22, 23, 9, 10"; "SRP_CRED_RSP has 25 after its 3"
-abbrev pub laterChecks : Port → List ℕ → Tables → Message → List Check
-laterChecks p s t (Bad r) = (true, r) ∷ []
-laterChecks p s t (Cmd c) =
-    (eqb (p .announced) 0, NoCredit) ∷ (isOpen p (c .request .tag), TagOpen) ∷ (not (tablesFit c t), TableLength) ∷ (not (fieldsFit c s t), Fields) ∷ []
-laterChecks p s t (TskMgmt k) = (eqb (p .announced) 0, NoCredit) ∷ (isOpen p (k .request .tag), TagOpen) ∷ []
-laterChecks p s t (CredRsp g) = (not (p .unanswered && eqb g creditTag), CreditResponse) ∷ []
-laterChecks p s t ILogout = []
+-- behind 1 and 21: "22, 23, 9, 10", of which 9, and 10 where a fetch is named, are drawn by tables; "SRP_CRED_RSP has 25 after its 3"
+abbrev pub laterChecks : Port → List ℕ → Message → List Check
+laterChecks p s (Bad r) = (true, r) ∷ []
+laterChecks p s (Cmd c) =
+    (eqb (p .announced) 0, NoCredit) ∷ (isOpen p (c .request .tag), TagOpen) ∷ (not (waits c) && not (fieldsFit (givenIn c s) noTables), Fields) ∷ []
+laterChecks p s (TskMgmt k) = (eqb (p .announced) 0, NoCredit) ∷ (isOpen p (k .request .tag), TagOpen) ∷ []
+laterChecks p s (CredRsp g) = (not (p .unanswered && eqb g creditTag), CreditResponse) ∷ []
+laterChecks p s ILogout = []
 
-abbrev pub takeChecks : Port → ℕ → List ℕ → Tables → Message → List Check
-takeChecks p room s t m = short room ∷ closed p ∷ laterChecks p s t m
+abbrev pub takeChecks : Port → ℕ → List ℕ → Message → List Check
+takeChecks p room s m = short room ∷ closed p ∷ laterChecks p s m
 
 -- the request that a message is, and this where it is none: only a command draws 10
 abbrev pub noRequest : Request
@@ -136,28 +151,28 @@ abbrev pub refusedBy : Port → Message → Refusal → Outcome
 refusedBy p m r = conducted (conductOf r) p m r
 
 -- a message that draws no refusal; a bad one draws its own
-abbrev pub accepted : Port → List ℕ → Tables → Message → Outcome
-accepted p s t (Bad r) = refusedBy p (Bad r) r
--- "Taking a request: A - 1, H + 1"; the commands stand in the order of taking
-accepted p s t (Cmd c) =
-    silent (withHeld p (p .announced - 1) (p .held ++ (newOpen c s t ∷ []))) (NewCommand (c .request .tag) (c .request .lun) (c .cdb))
+abbrev pub accepted : Port → List ℕ → Message → Outcome
+accepted p s (Bad r) = refusedBy p (Bad r) r
+-- "Taking a request: A - 1, H + 1"; the commands stand in the order of taking; one that waits "counts as held from the moment it was taken"
+accepted p s (Cmd c) =
+    silent (withHeld p (p .announced - 1) (p .held ++ (newOpen c s ∷ []))) (NewCommand (c .request .tag) (c .request .lun) (c .cdb) (waits c))
 -- a task request ends in the same call, as do the commands that it aborts
-accepted p s t (TskMgmt k) =
+accepted p s (TskMgmt k) =
     answering (withHeld p (p .announced - 1) (without (aborted k) (p .held))) (TaskAnswered (k .request .tag) (k .request .lun))
     (answer (solicited (k .request) (taskCode (k .function))) (k .request .tag) (taskCode (k .function)))
 -- "settles it and uses no credit"
-accepted p s t (CredRsp g) = silent (withUnanswered p false) CreditSettled
+accepted p s (CredRsp g) = silent (withUnanswered p false) CreditSettled
 -- "Logout closes the channel, drops open commands, writes nothing"
-accepted p s t ILogout = silent closedPort LoggedOut
+accepted p s ILogout = silent closedPort LoggedOut
 
-abbrev pub takeBy : Option Refusal → Port → List ℕ → Tables → Message → Outcome
-takeBy none p s t m = accepted p s t m
-takeBy (some r) p s t m = refusedBy p m r
+abbrev pub takeBy : Option Refusal → Port → List ℕ → Message → Outcome
+takeBy none p s m = accepted p s m
+takeBy (some r) p s m = refusedBy p m r
 
 -- a message that is read already
-abbrev pub takeRead : Port → ℕ → List ℕ → Tables → Message → Outcome
-takeRead p room s t m = takeBy (firstOf (takeChecks p room s t m)) p s t m
+abbrev pub takeRead : Port → ℕ → List ℕ → Message → Outcome
+takeRead p room s m = takeBy (firstOf (takeChecks p room s m)) p s m
 
--- take of the message s with the tables t, and `room` bytes of lent buffer
-abbrev pub takeDef : Port → ℕ → List ℕ → Tables → Outcome
-takeDef p room s t = takeRead p room s t (readMessage (p .terms .agreed) (p .terms .formats) s)
+-- take of the message s, with `room` bytes of lent buffer
+abbrev pub takeDef : Port → ℕ → List ℕ → Outcome
+takeDef p room s = takeRead p room s (readMessage (p .terms .agreed) (p .terms .formats) s)

@@ -1,4 +1,5 @@
 -- Messages of an initiator as the layouts and as document 01's text have them, and the answers with their numbers and values.
+use mathlib.Core.Bool.{true}
 use mathlib.Core.List.{List, [], _∷_}
 use Prim.Native.Nat.{ℕ}
 use lib.IntN.{ℤ, pos, negsuc}
@@ -40,7 +41,7 @@ abbrev pub answers : List Reply
 answers =
     Refused TagOpen
     ∷ Performed
-    ∷ NewCommand 9 5 20
+    ∷ NewCommand 9 5 20 true
     ∷ TaskAnswered 9 5
     ∷ CreditSettled
     ∷ LoggedOut
@@ -57,7 +58,7 @@ abbrev pub answerValues : List (ℕ × List ℤ)
 answerValues =
     (23, [])
     ∷ (0, [])
-    ∷ (0, pos 9 ∷ pos 5 ∷ pos 32 ∷ pos 20 ∷ [])
+    ∷ (0, pos 9 ∷ pos 5 ∷ pos 32 ∷ pos 20 ∷ pos 1 ∷ [])
     ∷ (0, pos 9 ∷ pos 5 ∷ [])
     ∷ (0, [])
     ∷ (0, [])

@@ -28,6 +28,7 @@ pub enum Refusal {
     Planned,
     Offset,
     Unfinished,
+    Waiting,
 }
 
 // Data-out, which RDMA Reads fetch, and data-in, which RDMA Writes bring.
@@ -164,10 +165,10 @@ pub struct Record {
 // What a call on the port answers.
 pub enum Reply {
     Refused(Refusal),
-    // a plan, move, add, withdraw, finish, grant or close
+    // tables, a plan, move, add, withdraw, finish, grant or close
     Performed,
-    // a take: a command with its CDB's length; a task request; a settled credit request; the initiator's logout
-    NewCommand { tag: u64, lun: u64, cdb: usize },
+    // a take: a command with its CDB's length, and whether it waits for its tables; a task request; a settled credit request; the initiator's logout
+    NewCommand { tag: u64, lun: u64, cdb: usize, waits: bool },
     TaskAnswered { tag: u64, lun: u64 },
     CreditSettled,
     LoggedOut,
