@@ -22,11 +22,12 @@ awaitedBy (some c) = c .awaits
 abbrev pub isWaiting : {S : Type 0} → Option (Held S) → Bool
 isWaiting c = isSome (awaitedBy c)
 
--- they are not of F bytes each; they draw 10
+-- 9: they are not of F bytes each
 abbrev pub badLengths : Option (Both Given) → Tables → Bool
 badLengths none t = false
 badLengths (some g) t = not (tablesFit g t)
 
+-- 10, by both directions' fields, also of one without a table
 abbrev pub badTables : Option (Both Given) → Tables → Bool
 badTables none t = false
 badTables (some g) t = not (fieldsFit g t)
@@ -56,7 +57,7 @@ abbrev pub badResponse : Option Open → ℕ → List ℕ
 badResponse none delta = []
 badResponse (some c) delta = answer (c .request .ucsolnt) (c .request .tag) 0x02 delta
 
--- 10 ends the command in this call; every other refusal alters nothing
+-- "10 still answering the command", which it ends; "every other refusal returns its number and alters nothing"
 abbrev pub tablesRefused : Conduct → Port → ℕ → Refusal → Outcome
 tablesRefused (hangsUp reason) p tag r = silent p (Refused r)
 tablesRefused answered p tag r =
@@ -64,8 +65,12 @@ tablesRefused answered p tag r =
 tablesRefused stays p tag r = silent p (Refused r)
 tablesRefused altersNothing p tag r = silent p (Refused r)
 
+-- the command waits no longer
+abbrev pub tablesOutcome : Port → ℕ → Tables → Outcome
+tablesOutcome p tag t = silent (withHeld p (p .announced) (change (hasTag tag) (brought newSide t) (p .held))) Performed
+
 abbrev pub tablesBy : Option Refusal → Port → ℕ → Tables → Outcome
-tablesBy none p tag t = silent (withHeld p (p .announced) (change (hasTag tag) (brought newSide t) (p .held))) Performed
+tablesBy none p tag t = tablesOutcome p tag t
 tablesBy (some r) p tag t = tablesRefused (conductOf r) p tag r
 
 -- the tables t for the command with the tag, with `room` bytes of lent buffer

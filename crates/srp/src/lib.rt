@@ -168,8 +168,16 @@ pub enum Reply {
     // tables, a plan, move, add, withdraw, finish, grant or close
     Performed,
     // a take: a command with its CDB's length, and whether it waits for its tables; a task request; a settled credit request; the initiator's logout
-    NewCommand { tag: u64, lun: u64, cdb: usize, waits: bool },
-    TaskAnswered { tag: u64, lun: u64 },
+    NewCommand {
+        tag: u64,
+        lun: u64,
+        cdb: usize,
+        waits: bool,
+    },
+    TaskAnswered {
+        tag: u64,
+        lun: u64,
+    },
     CreditSettled,
     LoggedOut,
     // a step: an RDMA operation; done; each with the number handed out so far for the current move, this operation included
