@@ -91,8 +91,14 @@ pub record Given : Type 0 where
   pub descriptor : Descriptor
   pub bytes : List ℕ
 
+abbrev pub placeless : Descriptor → Descriptor
+placeless d = record { format = d .format; count = d .count; at = 0; len = d .len; total = d .total }
+
+abbrev pub giving : Descriptor → List ℕ → Given
+giving d bytes = record { descriptor = placeless d; bytes = bytes }
+
 abbrev pub given : Descriptor → List ℕ → Given
-given d s = record { descriptor = record { format = d .format; count = d .count; at = 0; len = d .len; total = d .total }; bytes = standing d s }
+given d s = giving d (standing d s)
 
 -- "The segments are the message's copies when they are the whole table, and otherwise the fetched table": as bytes,
 -- a part of the message or of the table
