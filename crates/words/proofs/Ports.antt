@@ -12,7 +12,7 @@ use Rattle.srp.specs.Cutting.{badBoundary}
 use Rattle.srp.specs.Credit.{closedPort}
 use Rattle.words.specs.declared.Slot.{Slot}
 use Rattle.words.specs.Sizes.{portWords, mostSlots}
-use Rattle.words.specs.Slots.{partAt, partIn, slotOf, PartFits, SlotFits, slotAt, region, slots, noSlot}
+use Rattle.words.specs.Slots.{partAt, partIn, descriptorIn, tableAt, slotOf, PartFits, TableFits, SlotFits, slotAt, region, slots, noSlot}
 use Rattle.srp.specs.declared.Direction.the-variants.{Out, In}
 use Rattle.words.specs.Head.{boundaryIn, headOf, HeadFits}
 use Rattle.words.specs.View.{opens, openOf, shown, view, closedWords, InRanges}
@@ -25,8 +25,17 @@ use Rattle.words.proofs.Slots.{slots-long, slot-at, slot-tag}
 pub part-fits : (r : List ℕ) (k : ℕ) → PartFits (partIn r k)
 part-fits r k = record { few = omega arith; counted = omega arith }
 
+table-fits : (r : List ℕ) (k : ℕ) → TableFits (descriptorIn r k)
+table-fits r k = record { format = omega arith; few = omega arith; unplaced = refl }
+
 pub said-fits : (r : List ℕ) → SlotFits (slotOf r)
-said-fits r = record { place = omega arith; out = part-fits r (partAt Out); inn = part-fits r (partAt In) }
+said-fits r =
+    record {
+      place = omega arith;
+      out = part-fits r (partAt Out);
+      inn = part-fits r (partAt In);
+      awaits = record { out = table-fits r (tableAt Out); inn = table-fits r (tableAt In) };
+    }
 
 -- a slot of a port is in its ranges
 pub slot-fits : (l : List ℕ) (i : ℕ) → i < mostSlots → SlotFits (getD (slots l) i noSlot)

@@ -7,22 +7,25 @@ use mathlib.Core.Logic.{_⊎_, inl, inr, ⊎-elim}
 use Prim.Native.Nat.{ℕ, zero, suc, min, _+_, _-_, _*_, _/_, _%_, _^_, _≤_, _<_}
 use native.Mathlib.Omega.{arith}
 use native.Mathlib.Nat.{add-zero, zero-add, mod-eq-of-lt}
-use lib.ListN.{length, getD, take, drop, set, take-append-drop}
-use lib.Seq.{paste, drop-paste, drop-cons, drop-drop, drop-at, take-at, length-take-le, take-length, getD-take, getD-drop}
+use lib.ListN.{length, getD, take, drop, set, length-append, take-append-drop}
+use lib.Seq.{paste, take-paste, drop-paste, drop-cons, drop-drop, drop-at, take-at, length-take-le, take-length, getD-take, getD-drop}
 use mir.Val.{Val}
 use denote.Laws.{Is}
 use Rattle.srp.specs.Bytes.{bit}
 use Rattle.srp.specs.declared.Direction.{Direction}
 use Rattle.srp.specs.declared.Direction.the-variants.{Out, In}
 use Rattle.srp.proofs.FieldLaws.{front}
+use Rattle.srp.proofs.Descriptor as descriptor
 use Rattle.words.proofs.Part as part
 use Rattle.words.proofs.Slot.{the-row}
 use Rattle.srp.specs.Limits.{mostCopies}
+use Rattle.srp.specs.Descriptors.{placeless}
+use Rattle.srp.specs.declared.Descriptor.{Descriptor}
 use Rattle.words.specs.declared.Part.{Part}
 use Rattle.words.specs.declared.Slot.{Slot}
 use Rattle.words.specs.declared.Head.{Head}
-use Rattle.words.specs.Sizes.{portWords, mostSlots, headSize, slotWords, usedWords}
-use Rattle.words.specs.Slots.{on, slotRequest, partAt, partIn, slotOf, wordsOf, PartFits, SlotFits, slotAt, region, slotsFrom, slots, noSlot, partFor}
+use Rattle.words.specs.Sizes.{portWords, mostSlots, headSize, slotWords, firstWords, usedWords}
+use Rattle.words.specs.Slots.{on, slotRequest, partAt, partIn, slotOf, firstWordsOf, awaitedWordsOf, wordsOf, PartFits, TableFits, SlotFits, slotAt, region, slotsFrom, slots, noSlot, partFor}
 use Rattle.words.specs.Head.{headOf, headWords, HeadFits, SlotChanged, HeadChanged}
 
 -- ── a list with a part written
@@ -52,6 +55,17 @@ module _ {A : Type 0} where
     -- what is written is there
     pub written : take (length s) (drop pos (paste d pos s (length s))) ≡ s
     written = rw from-written (take-at s (drop (pos + length s) d) (length s) refl)
+
+    -- a second write right behind the first is one write of both
+    pub written-on : (t : List A) → pos + length s + length t ≤ length d
+        → paste (paste d pos s (length s)) (pos + length s) t (length t) ≡ paste d pos (s ++ t) (length (s ++ t))
+    written-on t room =
+        let n : ℕ = length s in
+        let behind : drop (pos + n + length t) (paste d pos s n) ≡ drop (pos + n + length t) d =
+        sym (drop-drop (length t) (pos + n) (paste d pos s n)) ∙ ap (drop (length t)) (drop-paste d pos s n (omega arith) (omega arith)) ∙ drop-drop (length t) (pos + n) d in
+        let size : pos + length (s ++ t) ≡ pos + n + length t = omega (arith, length-append s t) in
+        rw (behind, take-paste d pos s n (omega arith) (omega arith), take-length s, take-length t, take-length (s ++ t), size)
+        (ap (λ (x : List A). x ++ drop (pos + n + length t) d) (append-assoc (take pos d) s t))
 
 -- ── the slots as a list
 
@@ -84,6 +98,10 @@ slot-planned l i h = ap (λ (c : Slot). c .planned) (slot-at l i h) ∙ ap on (w
 
 pub slot-place : (l : List ℕ) (i : ℕ) → i < mostSlots → getD (slots l) i noSlot .place ≡ getD l (slotAt i + 5) 0 % mostSlots
 slot-place l i h = ap (λ (c : Slot). c .place) (slot-at l i h) ∙ ap (λ (x : ℕ). x % mostSlots) (word-at l i 5 (omega arith))
+
+-- whether it waits
+pub slot-waiting : (l : List ℕ) (i : ℕ) → i < mostSlots → getD (slots l) i noSlot .awaits .waiting ≡ on (getD l (slotAt i + firstWords) 0)
+slot-waiting l i h = ap (λ (c : Slot). c .awaits .waiting) (slot-at l i h) ∙ ap on (word-at l i firstWords (omega arith))
 
 -- and each direction
 pub slot-part : (l : List ℕ) (i : ℕ) → i < mostSlots → (d : Direction) → partFor d (getD (slots l) i noSlot) ≡ partIn (region l i) (partAt d)
@@ -165,12 +183,37 @@ part-kept p vs g h =
       omega (arith, h .counted),
     )
 
+-- so are those of a descriptor
+table-kept : (d : Descriptor) (vs : List Val) → Is descriptor.the-row d vs → TableFits d
+    → (d .format % 3 ≡ d .format) × (min (d .count) mostCopies ≡ d .count) × (d .len % 2 ^ 32 ≡ d .len) × (d .total % 2 ^ 32 ≡ d .total)
+table-kept d vs g h = (omega (arith, h .format), omega (arith, h .few), mod-eq-of-lt (g .1 .1 .1 .1 .1 .0 .1), mod-eq-of-lt (g .1 .1 .1 .1 .1 .1 .0 .1))
+
+unplaced : (d : Descriptor) → d .at ≡ 0 → placeless d ≡ d
+unplaced d e = λ j. record { format = d .format; count = d .count; at = sym e j; len = d .len; total = d .total }
+
 -- a slot's words say the slot, whatever stands behind them
 decoded : (c : Slot) (vs : List Val) → Is the-row c vs → SlotFits c → (rest : List ℕ) → slotOf (take slotWords (wordsOf c ++ rest)) ≡ c
 decoded c vs g F rest =
     let o = part-kept (c .out) _ (g .1 .1 .1 .1 .1 .0) (F .out) in
     let n = part-kept (c .inn) _ (g .1 .1 .1 .1 .1 .1 .0) (F .inn) in
-    simp (o .0, o .1, o .2, o .3, o .4, o .5, o .6, n .0, n .1, n .2, n .3, n .4, n .5, n .6, mod-eq-of-lt (F .place), on-bit)
+    let a = g .1 .1 .1 .1 .1 .1 .1 .0 in
+    let p = table-kept (c .awaits .out) _ (a .1 .1 .1 .0) (F .awaits .out) in
+    let q = table-kept (c .awaits .inn) _ (a .1 .1 .1 .1 .0) (F .awaits .inn) in
+    simp (o .0, o .1, o .2, o .3, o .4, o .5, o .6, n .0, n .1, n .2, n .3, n .4, n .5, n .6, mod-eq-of-lt (F .place), p .0, p .1, p .2, p .3, q .0, q .1, q .2, q .3, on-bit)
+    (λ j.
+    record {
+      request = c .request;
+      planned = c .planned;
+      place = c .place;
+      out = c .out;
+      inn = c .inn;
+      awaits =
+          record {
+            waiting = c .awaits .waiting;
+            out = unplaced (c .awaits .out) (F .awaits .out .unplaced) j;
+            inn = unplaced (c .awaits .inn) (F .awaits .inn .unplaced) j;
+          };
+    })
 
 -- a head's words say the head
 head-put : (l : List ℕ) (h : Head) → HeadFits h → headOf (paste l 0 (headWords h) (length (headWords h))) ≡ h
@@ -234,6 +277,7 @@ slot-put l long i h ws wl =
 
 -- the words of a command written there: the slot has the command
 pub saved : (l : List ℕ) → length l ≡ portWords → (i : ℕ) → i < mostSlots → (c : Slot) (vs : List Val) → Is the-row c vs → SlotFits c
-    → SlotChanged l (paste l (slotAt i) (wordsOf c) usedWords) i (λ _. c)
+    → SlotChanged l (paste (paste l (slotAt i) (firstWordsOf c) firstWords) (slotAt i + firstWords) (awaitedWordsOf (c .awaits)) (usedWords - firstWords)) i (λ _. c)
 saved l long i h c vs g F =
-    put-slot (slot-put l long i h (wordsOf c) (omega arith)) h (λ _. c) (decoded c vs g F (drop (slotAt i + usedWords) l))
+    rw (written-on l (slotAt i) (firstWordsOf c) (omega arith) (awaitedWordsOf (c .awaits)) (omega arith))
+    (put-slot (slot-put l long i h (wordsOf c) (omega arith)) h (λ _. c) (decoded c vs g F (drop (slotAt i + usedWords) l)))

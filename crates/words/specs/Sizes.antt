@@ -16,7 +16,8 @@ slotWords = 32
 abbrev pub portWords : ℕ
 portWords = headSize + mostSlots * slotWords
 
--- words of a slot: of the request; before the directions; of a direction; in use. Behind these are the words that are not read
+-- words of a slot: of the request; before the directions; of a direction; of these; of a descriptor that is kept while the command waits; in use. Behind
+-- these are the words that are not read
 abbrev pub requestWords : ℕ
 requestWords = 4
 
@@ -26,8 +27,14 @@ partsAt = 6
 abbrev pub partWords : ℕ
 partWords = 7
 
+abbrev pub firstWords : ℕ
+firstWords = partsAt + 2 * partWords
+
+abbrev pub tableWords : ℕ
+tableWords = 4
+
 abbrev pub usedWords : ℕ
-usedWords = partsAt + 2 * partWords
+usedWords = firstWords + (1 + 2 * tableWords)
 
 -- bytes of one direction's memory descriptors in the store, of a command's place there, and of the store
 abbrev pub listSize : ℕ

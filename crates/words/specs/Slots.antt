@@ -13,8 +13,10 @@ use Rattle.srp.specs.declared.Direction.{Direction}
 use Rattle.srp.specs.declared.Direction.the-variants.{Out, In}
 use Rattle.srp.specs.declared.Request.{Request}
 use Rattle.srp.specs.declared.Transfer.{Transfer}
-use Rattle.words.specs.Sizes.{mostSlots, headSize, slotWords, partsAt, partWords, listSize, placeSize}
+use Rattle.srp.specs.declared.Descriptor.{Descriptor}
+use Rattle.words.specs.Sizes.{mostSlots, headSize, slotWords, partsAt, partWords, firstWords, tableWords, listSize, placeSize}
 use Rattle.words.specs.declared.Part.{Part}
+use Rattle.words.specs.declared.Awaited.{Awaited}
 use Rattle.words.specs.declared.Slot.{Slot}
 
 -- ── a slot's words
@@ -47,6 +49,25 @@ partIn r k =
           };
     }
 
+-- what is kept of a descriptor while the command waits, in the words from k on: not where it stood in its message
+abbrev pub descriptorIn : List ℕ → ℕ → Descriptor
+descriptorIn r k =
+    record {
+      format = getD r k 0 % 3;
+      count = min (getD r (k + 1) 0) mostCopies;
+      at = 0;
+      len = getD r (k + 2) 0 % 2 ^ 32;
+      total = getD r (k + 3) 0 % 2 ^ 32;
+    }
+
+-- where a direction's descriptor stands in its slot
+abbrev pub tableAt : Direction → ℕ
+tableAt Out = firstWords + 1
+tableAt In = firstWords + 1 + tableWords
+
+abbrev pub awaitedIn : List ℕ → Awaited
+awaitedIn r = record { waiting = on (getD r firstWords 0); out = descriptorIn r (tableAt Out); inn = descriptorIn r (tableAt In) }
+
 abbrev pub slotOf : List ℕ → Slot
 slotOf r =
     record {
@@ -55,30 +76,50 @@ slotOf r =
       place = getD r 5 0 % mostSlots;
       out = partIn r (partAt Out);
       inn = partIn r (partAt In);
+      awaits = awaitedIn r;
     }
 
 abbrev pub partWordsOf : Part → List ℕ
 partWordsOf p =
     p .segments ∷ p .total ∷ p .transfer .required ∷ p .transfer .highest ∷ p .transfer .at ∷ p .transfer .end ∷ p .transfer .number ∷ []
 
--- the words of a slot that are used
-abbrev pub wordsOf : Slot → List ℕ
-wordsOf c =
+abbrev pub tableWordsOf : Descriptor → List ℕ
+tableWordsOf d = d .format ∷ d .count ∷ d .len ∷ d .total ∷ []
+
+abbrev pub awaitedWordsOf : Awaited → List ℕ
+awaitedWordsOf a = bit (a .waiting) ∷ tableWordsOf (a .out) ++ tableWordsOf (a .inn)
+
+-- the words of a slot that are used: up to its directions, and all
+abbrev pub firstWordsOf : Slot → List ℕ
+firstWordsOf c =
     c .request .tag ∷ c .request .lun ∷ bit (c .request .ucsolnt) ∷ bit (c .request .scsolnt)
     ∷ bit (c .planned)
     ∷ c .place
     ∷ partWordsOf (c .out)
     ++ partWordsOf (c .inn)
 
--- a direction and a slot that their words can hold
+abbrev pub wordsOf : Slot → List ℕ
+wordsOf c = firstWordsOf c ++ awaitedWordsOf (c .awaits)
+
+-- a direction, a descriptor and a slot that their words can hold
 pub record PartFits (p : Part) : Type 0 where
   pub few : p .segments ≤ mostCopies
   pub counted : p .transfer .number ≤ p .transfer .at
+
+pub record TableFits (d : Descriptor) : Type 0 where
+  pub format : d .format ≤ 2
+  pub few : d .count ≤ mostCopies
+  pub unplaced : d .at ≡ 0
+
+pub record AwaitedFits (a : Awaited) : Type 0 where
+  pub out : TableFits (a .out)
+  pub inn : TableFits (a .inn)
 
 pub record SlotFits (c : Slot) : Type 0 where
   pub place : c .place < mostSlots
   pub out : PartFits (c .out)
   pub inn : PartFits (c .inn)
+  pub awaits : AwaitedFits (c .awaits)
 
 -- ── the slots of a port
 
@@ -98,6 +139,12 @@ slots l = slotsFrom mostSlots 0 l
 abbrev pub noPart : Part
 noPart = record { segments = 0; total = 0; transfer = unmoved }
 
+abbrev pub noTable : Descriptor
+noTable = record { format = 0; count = 0; at = 0; len = 0; total = 0 }
+
+abbrev pub notWaiting : Awaited
+notWaiting = record { waiting = false; out = noTable; inn = noTable }
+
 abbrev pub noSlot : Slot
 noSlot =
     record {
@@ -106,6 +153,7 @@ noSlot =
       place = 0;
       out = noPart;
       inn = noPart;
+      awaits = notWaiting;
     }
 
 -- a slot that was read
@@ -138,7 +186,7 @@ placeFor d c = placeAt d (c .place)
 
 -- a slot with another state of its plan and its directions
 abbrev pub withParts : Slot → Bool → Both Part → Slot
-withParts c planned ps = record { request = c .request; planned = planned; place = c .place; out = ps .out; inn = ps .inn }
+withParts c planned ps = record { request = c .request; planned = planned; place = c .place; out = ps .out; inn = ps .inn; awaits = c .awaits }
 
 abbrev pub partWith : Part → Transfer → Part
 partWith p t = record { segments = p .segments; total = p .total; transfer = t }

@@ -1,9 +1,10 @@
-// The commands in their slots: the request, whether a plan was stated, its place in the store, and each direction.
+// The commands in their slots: the request, whether a plan was stated, its place in the store, each direction, and what it keeps while it waits.
 use crate::HEAD;
 use crate::Part;
 use crate::SLOT;
 use crate::SLOTS;
 use crate::Slot;
+use crate::waiting;
 use srp::Direction;
 use srp::Request;
 use srp::Transfer;
@@ -12,7 +13,7 @@ ghost use mathlib.Core.Path.{_≡_};
 ghost use Prim.Native.Nat.{_+_, _≤_, _<_};
 ghost use lib.ListN.{length, getD};
 ghost use Rattle.words.specs.Sizes.{portWords, mostSlots, slotWords, requestWords, partWords};
-ghost use Rattle.words.specs.Slots.{slotRequest, partAt, partIn, slotOf, wordsOf, slots, noSlot, SlotIs, SlotFits, PartIs, plannedSlot, movedSlot};
+ghost use Rattle.words.specs.Slots.{slotRequest, partAt, partIn, slotOf, firstWordsOf, slots, noSlot, SlotIs, SlotFits, PartIs, plannedSlot, movedSlot};
 ghost use Rattle.words.specs.Head.{SlotChanged};
 
 // Words of a slot: the request's four, whether a plan was stated, the place, and those of each direction.
@@ -24,8 +25,8 @@ const OUT: usize = 6;
 
 const IN: usize = OUT + PART;
 
-// so many are used
-const USED: usize = IN + PART;
+// so many they are, before those of what the command keeps while it waits
+pub const USED: usize = IN + PART;
 
 // Words of a direction: the number of its segments, B, R, h, the current move's next byte and end, and the number of operations handed out for it.
 const TOTAL: usize = 1;
@@ -90,17 +91,19 @@ fn slot_of(r: &[u64]) -> Slot
     let request = request_of(r);
     let out = part_of(r, OUT);
     let inn = part_of(r, IN);
+    let awaits = waiting::awaited_of(r);
     Slot {
         request: request,
         planned: r[PLANNED] % 2 == 1,
         place: (r[PLACE_AT] % PLACES) as u8,
         out: out,
         inn: inn,
+        awaits: awaits,
     }
 }
 
 fn words_of(c: Slot) -> [u64; 20]
-    ensures { λ r. ⌜ r ≡ wordsOf c ⌝ }
+    ensures { λ r. ⌜ r ≡ firstWordsOf c ⌝ }
 {
     let request = c.request;
     let out = c.out;
@@ -196,8 +199,11 @@ pub fn save(s: &mut [u64], i: usize, c: Slot)
     requires { ⌜ SlotFits c ⌝ }
     ensures { λ _. ⌜ SlotChanged (now (s .entry)) (now (s .exit)) i (λ _. c) ⌝ }
 {
+    let at = SLOT * i + HEAD;
     let w = words_of(c);
-    crate::put_words(s, SLOT * i + HEAD, &w);
+    let a = waiting::awaited_words(c.awaits);
+    crate::put_words(&mut *s, at, &w);
+    crate::put_words(s, at + USED, &a);
 }
 
 // The command in slot `from` put into slot `to` before it.
@@ -210,7 +216,7 @@ pub fn shift_slot(s: &mut [u64], from: usize, to: usize)
     let source = SLOT * from + HEAD;
     let target = SLOT * to + HEAD;
     let mut j: usize = 0;
-    while j < USED {
+    while j < waiting::USED {
         s[target + j] = s[source + j];
         j += 1;
     }

@@ -2,7 +2,9 @@
 // Any words are a port: each number is read into its range, so that no caller owes anything but enough words. What is behind the words in use of
 // the head and of a slot is cleared by a login and not read.
 pub mod commands;
+pub mod waiting;
 
+use srp::Descriptor;
 use srp::Request;
 use srp::Terms;
 use srp::Transfer;
@@ -73,13 +75,21 @@ pub struct Part {
     pub transfer: Transfer,
 }
 
-// An open command. Its segments stand at its place in the store.
+// What an open command keeps of its message while it waits for its tables: each direction's descriptor, which stood at another place there.
+pub struct Awaited {
+    pub waiting: bool,
+    pub out: Descriptor,
+    pub inn: Descriptor,
+}
+
+// An open command. At its place in the store stand its segments; while it waits, the memory descriptors that stood in its message.
 pub struct Slot {
     pub request: Request,
     pub planned: bool,
     pub place: u8,
     pub out: Part,
     pub inn: Part,
+    pub awaits: Awaited,
 }
 
 // Words written into a slice from a place on.
