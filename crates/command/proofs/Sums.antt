@@ -1,56 +1,63 @@
 -- B of a direction: the checks of its fields, and what a sum tells of the segments summed.
 -- Assumes nothing.
 use mathlib.Core.Path.{_≡_, refl, sym, ap, _∙_}
-use mathlib.Core.Bool.{Bool, true, false, and-false}
+use mathlib.Core.Bool.{Bool, true, false, cond, and-false}
 use mathlib.Core.List.{List}
-use Prim.Native.Nat.{ℕ, _+_, _*_, _/_, _%_, _^_, _≤_, _<_}
+use Prim.Native.Nat.{ℕ, _*_, _/_, _%_, _≤_}
 use native.Mathlib.Omega.{arith}
-use borrow.Author.Tests.{eq-eqb, ne-eqb, eqb-true, eqb-false}
+use borrow.Author.Tests.{eq-eqb, ne-eqb}
 use lib.Dec.{eqb}
-use lib.ListN.{length}
-use Rattle.srp.specs.Descriptors.{Segment, goodTable, whole, fetched, copiesAgree, segmentBytes, segmentsOf, sumOf, reachable}
+use lib.ListN.{length, take}
+use Rattle.srp.specs.Descriptors.{Segment, Given, goodTable, fetched, standingSize, giving, sameBytes, segmentsOf, sumOf, reachable}
 use Rattle.srp.specs.declared.Descriptor.{Descriptor}
 use Rattle.cut.specs.Walk.{totalOf, Bounded}
 use Rattle.cut.specs.declared.Total.{Total}
 use Rattle.cut.specs.declared.Total.the-variants.{Sum, Wrong}
 use Rattle.cut.proofs.Refusing.{no-sum, is-sum}
-use Rattle.command.specs.Reading.{LiesIn, fieldsOf, ListFits}
-use Rattle.command.proofs.Tables.{good-is, fetched-table, table-room, segment-room, list-direct, list-other, list-copies, list-table, part-length}
+use Rattle.command.specs.Reading.{statedOf, fieldsOf, ListFits, FieldsRead}
+use Rattle.command.proofs.Tables.{good-is, size-copies, none-fetched, one-fetched, table-long}
+
+-- ── a table whose total length is stated
+
+module _ (t : ℕ) (ss : List Segment) {r : Total} (e : r ≡ totalOf ss) where
+  pub past-reach : r ≡ Wrong → Wrong ≡ statedOf t ss
+  past-reach w = rw (no-sum (reachable ss) (sumOf ss) (sym e ∙ w), and-false)
+
+  module _ {n : ℕ} (s : r ≡ Sum n) where
+    sum : (reachable ss ≡ true) × (n ≡ sumOf ss)
+    sum = is-sum (reachable ss) (sumOf ss) n (sym e ∙ s)
+
+    pub bad-total : (n ≡ t → ⊥) → Wrong ≡ statedOf t ss
+    bad-total ne = rw (ne-eqb t (sumOf ss) (λ z. ne (sum .1 ∙ sym z)))
+
+    pub all-right : n ≡ t → Sum n ≡ statedOf t ss
+    all-right z = ap Sum (sum .1) ∙ rw (eq-eqb t (sumOf ss) (sym z ∙ sum .1), sum .0)
 
 -- a sum of up to one segment
 listed : (l : List ℕ) (r : Total) → length l ≤ 16 → length l % 16 ≡ 0 → Bounded (length l / 16) r → ListFits l r
 listed l (Sum n) a b h = (omega arith, b, omega arith)
 listed l Wrong a b h = tt
 
-module _ (d : Descriptor) (s table : List ℕ) where
-  abbrev list : List ℕ
-  list = segmentBytes d s table
-
-  abbrev ss : List Segment
-  ss = segmentsOf list
+module _ (d : Descriptor) (b table : List ℕ) where
+  abbrev g : Given
+  g = giving d b
 
   -- ── a direct descriptor, or none
 
-  module _ (other : d .format ≡ 2 → ⊥) (w : LiesIn s d) where
-    short : (b : Bool) → eqb (d .format) 1 ≡ b → (length list ≤ 16) × (length list % 16 ≡ 0)
-    short true e =
-        let one = eqb-true (d .format) 1 e in
-        let n : length list ≡ 16 = ap length (sym (list-direct d s table one)) ∙ part-length (d .at) 16 s (segment-room d s w one) in
-        rw n (omega arith, refl)
-    short false e =
-        let n : length list ≡ 0 = ap length (sym (list-other d s table (eqb-false (d .format) 1 e) other)) in
-        rw n (omega arith, refl)
+  module _ (other : d .format ≡ 2 → ⊥) (size : length b ≡ standingSize d) where
+    one-or-none : (x y : Bool) → eqb (d .format) 2 ≡ y → length b ≡ cond x 16 (cond y (16 * d .count) 0) → (length b ≤ 16) × (length b % 16 ≡ 0)
+    one-or-none true y e h = rw h (omega arith, refl)
+    one-or-none false true e h = let z : _≡_ {A = ℕ} 0 1 = cc (ne-eqb (d .format) 2 other) in let q : ⊥ = omega arith in absurd q
+    one-or-none false false e h = rw h (omega arith, refl)
 
-    module _ {l : List ℕ} (el : l ≡ list) where
-      -- one segment, or none
-      pub direct-length : length l ≤ 512
-      direct-length = rw el (omega (arith, short (eqb (d .format) 1) refl .0))
+    short : (length b ≤ 16) × (length b % 16 ≡ 0)
+    short = one-or-none (eqb (d .format) 1) (eqb (d .format) 2) refl size
 
-      pub direct-fields : (r : Total) → (r ≡ totalOf (segmentsOf l)) × Bounded (length l / 16) r → (r ≡ fieldsOf d s table) × ListFits list r
-      direct-fields r h =
-          let k = short (eqb (d .format) 1) refl in
-          let b = (rw el at h) in
-          (b .0 ∙ rw (ne-eqb (d .format) 2 other), listed list r (k .0) (k .1) (b .1))
+    pub direct-length : length b ≤ 512
+    direct-length = omega (arith, short .0)
+
+    pub direct-fields : (r : Total) → (r ≡ totalOf (segmentsOf b)) × Bounded (length b / 16) r → FieldsRead g table r
+    direct-fields r h = rw (ne-eqb (d .format) 2 other) (h .0, listed b r (short .0) (short .1) (h .1))
 
   -- ── an indirect one
 
@@ -58,51 +65,38 @@ module _ (d : Descriptor) (s table : List ℕ) where
     is : eqb (d .format) 2 ≡ true
     is = eq-eqb (d .format) 2 two
 
-    pub bad-table : goodTable (d .len) ≡ false → Wrong ≡ fieldsOf d s table
+    pub bad-table : goodTable (d .len) ≡ false → Wrong ≡ fieldsOf g table
     bad-table e = rw (is, e)
 
-    module _ (good : goodTable (d .len) ≡ true) where
-      pub bad-copies : copiesAgree d s table ≡ false → Wrong ≡ fieldsOf d s table
-      bad-copies e = rw (is, good, e)
+    module _ (good : goodTable (d .len) ≡ true) (size : length b ≡ standingSize d) (fetch : length table ≡ fetched d) where
+      copied : length b ≡ 16 * d .count
+      copied = size ∙ sym (size-copies d (λ e. omega arith) two)
 
-      -- its segments are as long as its table
-      module _ (w : LiesIn s d) (fetch : length table ≡ fetched d) where
-        not-one : d .format ≡ 1 → ⊥
-        not-one e = omega arith
+      -- its copies are the whole table
+      module _ (none : length table ≡ 0) where
+        same : d .len ≡ 16 * d .count
+        same = none-fetched d table two good fetch none
 
-        long : (b : Bool) → whole d ≡ b → length list ≡ d .len
-        long true e =
-            let same = eqb-true (d .len) (16 * d .count) e in
-            ap length (sym (list-copies d s table not-one two same))
-            ∙ part-length (d .at + 20) (16 * d .count) s (omega (arith, table-room d s w two))
-            ∙ sym same
-        long false e =
-            let other = eqb-false (d .len) (16 * d .count) e in
-            ap length (sym (list-table d s table not-one two other)) ∙ fetch ∙ sym (fetched-table d two good other)
+        pub copies-length : (length b ≤ 512) × (length b % 16 ≡ 0)
+        copies-length = let k = good-is (d .len) good in rw (copied, ← same) (k .1, k .2)
 
-        table-lengths : (length list ≤ 512) × (length list % 16 ≡ 0)
-        table-lengths = let k = good-is (d .len) good in rw (long (whole d) refl) (k .1, k .2)
+        pub copies-fields : {r : Total} → (r ≡ statedOf (d .total) (segmentsOf b)) × ListFits b r → FieldsRead g table r
+        copies-fields h = rw (is, good, eq-eqb (d .len) (16 * d .count) same) h
 
-        module _ {l : List ℕ} (el : l ≡ list) where
-          pub table-length : length l ≤ 512
-          table-length = rw el (table-lengths .0)
+      -- its table was fetched
+      module _ (some : length table ≡ 0 → ⊥) where
+        not-same : eqb (d .len) (16 * d .count) ≡ false
+        not-same = ne-eqb (d .len) (16 * d .count) (one-fetched d table two good fetch some)
 
-          module _ {r : Total} (er : r ≡ totalOf (segmentsOf l)) where
-            total : r ≡ totalOf ss
-            total = rw el at er
+        pub table-length : (length table ≤ 512) × (length table % 16 ≡ 0)
+        table-length = let k = good-is (d .len) good in rw (table-long d table two good fetch some) (k .1, k .2)
 
-            pub past-reach : r ≡ Wrong → Wrong ≡ fieldsOf d s table
-            past-reach e = rw (no-sum (reachable ss) (sumOf ss) (sym total ∙ e), and-false)
+        module _ {x : Bool} (e : x ≡ sameBytes b (take (length b) table)) where
+          begins : sameBytes b (take (16 * d .count) table) ≡ x
+          begins = rw (← copied) (sym e)
 
-            module _ (agree : copiesAgree d s table ≡ true) {n : ℕ} (e : r ≡ Sum n) where
-              sum : (reachable ss ≡ true) × (n ≡ sumOf ss)
-              sum = is-sum (reachable ss) (sumOf ss) n (sym total ∙ e)
+          pub bad-copies : x ≡ false → Wrong ≡ fieldsOf g table
+          bad-copies n = rw (is, good, not-same, begins, n)
 
-              pub bad-total : (n ≡ d .total → ⊥) → Wrong ≡ fieldsOf d s table
-              bad-total ne = rw (ne-eqb (d .total) (sumOf ss) (λ z. ne (sum .1 ∙ sym z)), is, good, agree)
-
-              pub all-right : n ≡ d .total → n < 2 ^ 32 → (Sum n ≡ fieldsOf d s table) × ListFits list (Sum n)
-              all-right z h = (
-                ap Sum (sum .1) ∙ rw (eq-eqb (d .total) (sumOf ss) (sym z ∙ sum .1), sum .0, is, good, agree),
-                (table-lengths .0, table-lengths .1, h),
-              )
+          pub table-fields : x ≡ true → {r : Total} → (r ≡ statedOf (d .total) (segmentsOf table)) × ListFits table r → FieldsRead g table r
+          table-fields y h = rw (is, good, not-same, begins, y) h

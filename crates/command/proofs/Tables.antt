@@ -1,18 +1,20 @@
--- The table that is fetched for a descriptor, the copies of its entries, and the segments.
+-- The table that is fetched for a descriptor, what stands in the message, the segments, and the copies of a table's entries.
 -- Assumes nothing.
 use mathlib.Core.Path.{_≡_, refl, sym, _∙_}
-use mathlib.Core.Bool.{Bool, true, false, cond, not, _&&_}
-use mathlib.Core.List.{List, []}
-use Prim.Native.Nat.{ℕ, _+_, _-_, _*_, _%_, _≤_}
+use mathlib.Core.Bool.{Bool, true, false, cond, not, _&&_, and-false}
+use mathlib.Core.List.{List, [], _∷_}
+use Prim.Native.Nat.{ℕ, _+_, _-_, _*_, _%_, _≤_, _<_}
 use native.Mathlib.Omega.{arith}
-use borrow.Author.Tests.{eq-eqb, ne-eqb, eqb-true, eqb-false, leb-true}
+use borrow.Author.Tests.{eq-eqb, ne-eqb, eqb-true, eqb-false, leb-true, not-false}
 use lib.Dec.{leb, eqb}
 use lib.ListN.{length, take, drop, length-drop}
 use lib.Seq.{length-take-le}
 use Rattle.srp.specs.Bytes.{get, behind}
 use Rattle.srp.specs.Messages.{address, handle}
-use Rattle.srp.specs.Descriptors.{goodTable, whole, fetched, fetchOf, copies, copiesAgree, segmentBytes, sameBytes}
+use Rattle.srp.specs.Descriptors.{goodTable, whole, fetched, fetchOf, standing, standingSize, giving, chosen, sameBytes}
+use Rattle.srp.specs.Take.{waits}
 use Rattle.srp.specs.declared.Descriptor.{Descriptor}
+use Rattle.srp.specs.declared.Command.{Command}
 use Rattle.srp.specs.declared.Fetch.{Fetch}
 use Rattle.command.specs.Reading.{LiesIn}
 use Rattle.command.proofs.Formats.{indirect, direct}
@@ -79,58 +81,98 @@ module _ (d : Descriptor) (s : List ℕ) {n : ℕ} (e : n ≡ fetched d) where
   pub fetch-table : (n ≡ 0 → ⊥) → {a h : ℕ} → a ≡ get (behind (d .at) address) s → h ≡ get (behind (d .at) handle) s → fetch a h n ≡ fetchOf d s
   fetch-table ne ea eh = rw (ea, eh, e, ne-eqb (fetched d) 0 (λ z. ne (e ∙ z)))
 
--- ── the copies of a good table
+-- ── whether a command waits
 
-module _ (d : Descriptor) (s table : List ℕ) (two : d .format ≡ 2) (good : goodTable (d .len) ≡ true) (is : length table ≡ fetched d) where
-  -- there is no table just where the copies are the whole
-  empty-whole : (b : Bool) → whole d ≡ b → length table ≡ 0 → whole d ≡ true
-  empty-whole true e z = e
-  empty-whole false e z =
-      let l : d .len ≡ 0 = fetched-table d two good (eqb-false (d .len) (16 * d .count) e) ∙ sym is ∙ z in
-      let q : ⊥ = omega (arith, good-is (d .len) good .0) in absurd q
+module _ (c : Command) {m : ℕ} (e : m ≡ fetched (c .out)) where
+  pub waits-out : (m ≡ 0 → ⊥) → true ≡ waits c
+  waits-out ne = rw (ne-eqb (fetched (c .out)) 0 (λ z. ne (e ∙ z)))
 
-  some-not : (b : Bool) → whole d ≡ b → (length table ≡ 0 → ⊥) → whole d ≡ false
-  some-not false e ne = e
-  some-not true e ne = absurd (ne (is ∙ sym (fetched-whole d two good (eqb-true (d .len) (16 * d .count) e))))
+  pub waits-in : m ≡ 0 → {n : ℕ} → n ≡ fetched (c .inn) → not (eqb n 0) ≡ waits c
+  waits-in z f = rw (f, eq-eqb (fetched (c .out)) 0 (sym e ∙ z))
 
-  pub agree-whole : length table ≡ 0 → true ≡ copiesAgree d s table
-  agree-whole z = rw (empty-whole (whole d) refl z)
+neither : (a b : Bool) → not (a && b) ≡ false → (a ≡ true) × (b ≡ true)
+neither a b e = and-both a b (not-false (a && b) e)
 
-  module _ (some : length table ≡ 0 → ⊥) where
-    agree-same : sameBytes (copies d s) (take (16 * d .count) table) ≡ copiesAgree d s table
-    agree-same = rw (some-not (whole d) refl some)
+-- one that does not has no table to fetch
+pub none-awaited : (c : Command) → waits c ≡ false → (fetched (c .out) ≡ 0) × (fetched (c .inn) ≡ 0)
+none-awaited c e =
+    let q = neither (eqb (fetched (c .out)) 0) (eqb (fetched (c .inn)) 0) e in
+    (eqb-true (fetched (c .out)) 0 (q .0), eqb-true (fetched (c .inn)) 0 (q .1))
 
-    -- the copies, as a part of the message, begin the table just where they agree
-    module _ (w : LiesIn s d) where
-      abbrev at : ℕ
-      at = d .at + 20
+-- ── what stands in the message
 
-      abbrev n : ℕ
-      n = 16 * d .count
+module _ (d : Descriptor) where
+  pub size-direct : d .format ≡ 1 → 16 ≡ standingSize d
+  size-direct e = rw (eq-eqb (d .format) 1 e)
 
-      copied : length (take n (drop at s)) ≡ n
-      copied = part-length at n s (omega (arith, table-room d s w two))
+  module _ (p : d .format ≡ 1 → ⊥) where
+    pub size-copies : d .format ≡ 2 → 16 * d .count ≡ standingSize d
+    size-copies q = rw (ne-eqb (d .format) 1 p, eq-eqb (d .format) 2 q)
 
-      pub copies-shorter : length (take (at + n - at) (drop at s)) ≤ length table
-      copies-shorter =
-          let t = fetched-table d two good (eqb-false (d .len) n (some-not (whole d) refl some)) in
-          rw (part at n s, copied, is, ← t) (w .table)
+    pub size-none : (d .format ≡ 2 → ⊥) → 0 ≡ standingSize d
+    size-none q = rw (ne-eqb (d .format) 1 p, ne-eqb (d .format) 2 q)
 
-      pub copies-begin : {r : Bool} → r ≡ sameBytes (take (at + n - at) (drop at s)) (take (length (take (at + n - at) (drop at s))) table) → r ≡ copiesAgree d s table
-      copies-begin e = (rw (part at n s, copied) at e) ∙ agree-same
+  short : (a b : Bool) → d .count ≤ 32 → cond a 16 (cond b (16 * d .count) 0) ≤ 512
+  short true b h = omega arith
+  short false true h = omega arith
+  short false false h = omega arith
+
+  -- at most 32 memory descriptors
+  pub standing-short : d .count ≤ 32 → standingSize d ≤ 512
+  standing-short h = short (eqb (d .format) 1) (eqb (d .format) 2) h
+
+  module _ (s : List ℕ) (w : LiesIn s d) where
+    abbrev Stands : List ℕ → Type 0
+    Stands l = (l ≡ standing d s) × (length l ≡ standingSize d)
+
+    pub stands-direct : d .format ≡ 1 → Stands (take (d .at + 16 - d .at) (drop (d .at) s))
+    stands-direct e =
+        (part (d .at) 16 s ∙ rw (eq-eqb (d .format) 1 e), rw (part (d .at) 16 s) (part-length (d .at) 16 s (segment-room d s w e) ∙ size-direct e))
+
+    module _ (p : d .format ≡ 1 → ⊥) where
+      pub stands-copies : d .format ≡ 2 → Stands (take (d .at + 20 + 16 * d .count - (d .at + 20)) (drop (d .at + 20) s))
+      stands-copies q =
+          let at = d .at + 20 in
+          let n = 16 * d .count in
+          (part at n s ∙ rw (ne-eqb (d .format) 1 p, eq-eqb (d .format) 2 q), rw (part at n s) (part-length at n s (omega (arith, table-room d s w q)) ∙ size-copies p q))
+
+      pub stands-none : (d .format ≡ 2 → ⊥) → Stands []
+      stands-none q = (rw (ne-eqb (d .format) 1 p, ne-eqb (d .format) 2 q), size-none p q)
 
 -- ── the segments
 
-module _ (d : Descriptor) (s table : List ℕ) where
-  pub list-direct : d .format ≡ 1 → take 16 (drop (d .at) s) ≡ segmentBytes d s table
-  list-direct e = rw (eq-eqb (d .format) 1 e)
+module _ (d : Descriptor) (b table : List ℕ) where
+  pub list-direct : (d .format ≡ 2 → ⊥) → b ≡ chosen (giving d b) table
+  list-direct q = rw (ne-eqb (d .format) 2 q)
 
-  pub list-other : (d .format ≡ 1 → ⊥) → (d .format ≡ 2 → ⊥) → [] ≡ segmentBytes d s table
-  list-other p q = rw (ne-eqb (d .format) 1 p, ne-eqb (d .format) 2 q)
+  module _ (q : d .format ≡ 2) where
+    pub list-copies : d .len ≡ 16 * d .count → b ≡ chosen (giving d b) table
+    list-copies w = rw (eq-eqb (d .format) 2 q, eq-eqb (d .len) (16 * d .count) w)
 
-  module _ (p : d .format ≡ 1 → ⊥) (q : d .format ≡ 2) where
-    pub list-copies : d .len ≡ 16 * d .count → copies d s ≡ segmentBytes d s table
-    list-copies w = rw (ne-eqb (d .format) 1 p, eq-eqb (d .format) 2 q, eq-eqb (d .len) (16 * d .count) w)
+    pub list-table : (d .len ≡ 16 * d .count → ⊥) → table ≡ chosen (giving d b) table
+    list-table w = rw (eq-eqb (d .format) 2 q, ne-eqb (d .len) (16 * d .count) w)
 
-    pub list-table : (d .len ≡ 16 * d .count → ⊥) → table ≡ segmentBytes d s table
-    list-table w = rw (ne-eqb (d .format) 1 p, eq-eqb (d .format) 2 q, ne-eqb (d .len) (16 * d .count) w)
+-- ── the copies of a good table
+
+module _ (d : Descriptor) (table : List ℕ) (two : d .format ≡ 2) (good : goodTable (d .len) ≡ true) (is : length table ≡ fetched d) where
+  -- no table is fetched just where the copies are the whole
+  pub none-fetched : length table ≡ 0 → d .len ≡ 16 * d .count
+  none-fetched z = go (whole d) refl
+    where
+      go : (b : Bool) → whole d ≡ b → d .len ≡ 16 * d .count
+      go true e = eqb-true (d .len) (16 * d .count) e
+      go false e =
+          let l : d .len ≡ 0 = fetched-table d two good (eqb-false (d .len) (16 * d .count) e) ∙ sym is ∙ z in
+          let q : ⊥ = omega (arith, good-is (d .len) good .0) in absurd q
+
+  pub one-fetched : (length table ≡ 0 → ⊥) → d .len ≡ 16 * d .count → ⊥
+  one-fetched ne e = ne (is ∙ sym (fetched-whole d two good e))
+
+  pub table-long : (length table ≡ 0 → ⊥) → length table ≡ d .len
+  table-long ne = is ∙ sym (fetched-table d two good (one-fetched ne))
+
+-- a list has no longer beginning
+pub longer-differs : (a b : List ℕ) → length b < length a → false ≡ sameBytes a (take (length a) b)
+longer-differs [] b h = absurd (omega arith)
+longer-differs (x ∷ xs) [] h = refl
+longer-differs (x ∷ xs) (y ∷ ys) h = rw (← longer-differs xs ys (omega arith), and-false)

@@ -1,6 +1,6 @@
 -- What the readers of a command answer, and what is then known.
 use mathlib.Core.Path.{_≡_}
-use mathlib.Core.Bool.{cond, _||_}
+use mathlib.Core.Bool.{cond, _&&_, _||_}
 use mathlib.Core.List.{List}
 use mathlib.Core.Option.{Option, none, some}
 use Prim.Native.Nat.{ℕ, _+_, _*_, _≤_, _<_, _%_, _^_}
@@ -8,7 +8,7 @@ use lib.Dec.{ltb, eqb}
 use lib.ListN.{length}
 use Rattle.srp.specs.Limits.{bothFormats, longestTable, mostCopies}
 use Rattle.srp.specs.Messages.{cmd}
-use Rattle.srp.specs.Descriptors.{descriptorSize, agrees, badCount, segmentBytes, segments, sumOf, goodFields}
+use Rattle.srp.specs.Descriptors.{Segment, Given, descriptorSize, agrees, badCount, chosen, segments, sumOf, reachable, goodFields}
 use Rattle.srp.specs.Requests.{commandOf, unlessBad, otherFormats, badLength}
 use Rattle.srp.specs.declared.Refusal.{Refusal}
 use Rattle.srp.specs.declared.Command.{Command}
@@ -59,10 +59,6 @@ abbrev pub countFits : Descriptor → Count
 countFits d = cond (badCount d) Above Within
 
 -- ── a descriptor
-
--- format 2: "table descriptor, total length (4 bytes), then count c copies"
-abbrev pub Indirect : Descriptor → Type 0
-Indirect d = d .format ≡ 2
 
 -- a descriptor with another total length
 abbrev pub withTotal : ℕ → Descriptor → Descriptor
@@ -122,14 +118,18 @@ CommandRead hit s r = (r ≡ unlessBad hit (Cmd (commandOf s))) × Fits s r
 
 -- ── the fields of a direction
 
--- B, unless a field is bad
-abbrev pub fieldsOf : Descriptor → List ℕ → List ℕ → Total
-fieldsOf d s table = cond (goodFields d s table) (Sum (sumOf (segments d s table))) Wrong
+-- B of segments whose total length is stated
+abbrev pub statedOf : ℕ → List Segment → Total
+statedOf stated ss = cond (eqb stated (sumOf ss) && reachable ss) (Sum (sumOf ss)) Wrong
+
+-- B of a direction, unless a field is bad
+abbrev pub fieldsOf : Given → List ℕ → Total
+fieldsOf g table = cond (goodFields g table) (Sum (sumOf (segments g table))) Wrong
 
 -- a sum is of up to 32 whole segments, and of 32 bits
 abbrev pub ListFits : List ℕ → Total → Type 0
 ListFits list (Sum n) = (length list ≤ longestTable) × (length list % 16 ≡ 0) × (n < 2 ^ 32)
 ListFits list Wrong = Unit {0}
 
-abbrev pub FieldsRead : (d : Descriptor) (s table : List ℕ) → Total → Type 0
-FieldsRead d s table r = (r ≡ fieldsOf d s table) × ListFits (segmentBytes d s table) r
+abbrev pub FieldsRead : (g : Given) (table : List ℕ) → Total → Type 0
+FieldsRead g table r = (r ≡ fieldsOf g table) × ListFits (chosen g table) r

@@ -1,4 +1,4 @@
-// A data buffer descriptor in a message: whether its format is agreed, its size, the table to fetch for it, its segments.
+// A data buffer descriptor in a message: whether its format is agreed, its size, the table to fetch for it.
 use srp::Descriptor;
 use srp::Fetch;
 use srp::limits::LONGEST_TABLE;
@@ -14,7 +14,7 @@ use wire::layout::TOTAL_LENGTH;
 ghost use mathlib.Core.Path.{_≡_};
 ghost use Prim.Native.Nat.{_+_, _≤_};
 ghost use lib.ListN.{length};
-ghost use Rattle.srp.specs.Descriptors.{descriptorSize, descriptorOf, goodTable, fetched, fetchOf, segmentBytes};
+ghost use Rattle.srp.specs.Descriptors.{descriptorSize, descriptorOf, goodTable, fetched, fetchOf};
 ghost use Rattle.command.specs.Reading.{agreedOf, countFits, withTotal, LiesIn};
 
 // A format, where it is agreed.
@@ -176,29 +176,4 @@ pub fn fetch(msg: &[u8], d: Descriptor) -> Fetch
         handle: wire::read32(msg, at + HANDLE),
         len: len,
     }
-}
-
-// The segments of a descriptor, a part of the message or of the fetched table.
-pub fn segment_list<'a>(msg: &'a [u8], table: &'a [u8], d: Descriptor) -> &'a [u8]
-    requires { ⌜ LiesIn (now msg) d ⌝ }
-    ensures { λ r. ⌜ now r ≡ segmentBytes d (now (msg .entry)) (now (table .entry)) ⌝ }
-{
-    let format = d.format;
-    let count = d.count;
-    let len = d.len;
-    let at = d.at;
-    if format == DIRECT {
-        let end = at + SEGMENT;
-        return &msg[at..end];
-    }
-    if format == INDIRECT {
-        let copied = SEGMENT * (count as usize);
-        if (len as usize) == copied {
-            let start = at + TABLE_DESCRIPTOR;
-            let end = start + copied;
-            return &msg[start..end];
-        }
-        return table;
-    }
-    &msg[0..0]
 }

@@ -1,6 +1,7 @@
 // Look: how an SRP_CMD is read without state; its CDB and its segments as parts of what the caller lent; bad fields.
 mod checks;
 mod descriptors;
+mod given;
 mod shape;
 mod total;
 
@@ -10,8 +11,11 @@ pub use checks::length_in;
 pub use checks::length_is;
 pub use checks::type_of;
 pub use descriptors::fetched_length;
-pub use descriptors::segment_list;
 pub use descriptors::size;
+pub use given::placeless;
+pub use given::segment_list;
+pub use given::standing;
+pub use given::standing_size;
 use shape::Shape;
 use shape::Shaped;
 use srp::Command;
@@ -32,6 +36,7 @@ ghost use lib.ListN.{length};
 ghost use Rattle.srp.specs.Limits.{shortestCommand};
 ghost use Rattle.srp.specs.Refusals.{firstOf};
 ghost use Rattle.srp.specs.Requests.{requestOf, commandOf, commandChecks, lookChecks, lookDef, cdbDef, segmentsDef};
+ghost use Rattle.srp.specs.Take.{waits};
 ghost use Rattle.command.specs.Reading.{shapeOf, FitsIn, FitsShape, CommandRead};
 
 // What an SRP_CMD or SRP_TSK_MGMT is known by.
@@ -83,6 +88,18 @@ pub fn look_command(msg: &[u8], agreed: u32, formats: u32) -> Message
     }
 }
 
+// Whether a command waits for its tables: one is to be fetched, in either direction.
+pub fn waits(c: Command) -> bool
+    ensures { λ r. ⌜ r ≡ waits c ⌝ }
+{
+    let out = c.out;
+    let inn = c.inn;
+    if fetched_length(out) != 0 {
+        return true;
+    }
+    fetched_length(inn) != 0
+}
+
 // Look: the table to fetch for each direction, or the refusal.
 pub fn look(msg: &[u8], agreed: u32, formats: u32) -> Look
     ensures { λ r. ⌜ r ≡ lookDef agreed formats (now (msg .entry)) ⌝ }
@@ -124,7 +141,7 @@ pub fn segments<'a>(
     let out = c.out;
     let inn = c.inn;
     match direction {
-        Direction::Out => segment_list(msg, table, out),
-        Direction::In => segment_list(msg, table, inn),
+        Direction::Out => segment_list(standing(msg, out), table, out),
+        Direction::In => segment_list(standing(msg, inn), table, inn),
     }
 }

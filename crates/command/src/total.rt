@@ -3,49 +3,29 @@ use crate::descriptors;
 use cut::Total;
 use srp::Descriptor;
 use wire::layout::INDIRECT;
-use wire::layout::SEGMENT;
-use wire::layout::TABLE_DESCRIPTOR;
 ghost use mathlib.Core.Path.{_≡_};
-ghost use mathlib.Core.Bool.{true};
-ghost use lib.ListN.{length};
-ghost use Rattle.srp.specs.Descriptors.{goodTable, fetched, copiesAgree};
-ghost use Rattle.command.specs.Reading.{Indirect, LiesIn, FieldsRead};
+ghost use Prim.Native.Nat.{_≤_, _%_};
+ghost use lib.ListN.{length, take};
+ghost use Rattle.srp.specs.Limits.{longestTable, mostCopies};
+ghost use Rattle.srp.specs.Descriptors.{standingSize, giving, fetched, sameBytes, segmentsOf};
+ghost use Rattle.command.specs.Reading.{statedOf, ListFits, FieldsRead};
 
-// Whether the copies in the message are like the table's entries.
-fn copies_agree(msg: &[u8], table: &[u8], d: Descriptor) -> bool
-    requires { ⌜ LiesIn (now msg) d ⌝ }
-    requires { ⌜ Indirect d ⌝ }
-    requires { ⌜ goodTable (d .len) ≡ true ⌝ }
-    requires { ⌜ length (now table) ≡ fetched d ⌝ }
-    ensures { λ r. ⌜ r ≡ copiesAgree d (now (msg .entry)) (now (table .entry)) ⌝ }
+// Whether the copies in the message are the table's first entries. More copies than it has entries are not.
+fn copies_agree(copies: &[u8], table: &[u8]) -> bool
+    ensures { λ r. ⌜ r ≡ sameBytes (now (copies .entry)) (take (length (now (copies .entry))) (now (table .entry))) ⌝ }
 {
-    let count = d.count;
-    let at = d.at;
-    if table.len() == 0 {
-        return true;
+    if table.len() < copies.len() {
+        return false;
     }
-    let start = at + TABLE_DESCRIPTOR;
-    let end = start + SEGMENT * (count as usize);
-    wire::begins(&msg[start..end], table)
+    wire::begins(copies, table)
 }
 
-// B of an indirect descriptor, unless a field is bad.
-fn table_fields<'a>(msg: &'a [u8], table: &'a [u8], d: Descriptor) -> Total
-    requires { ⌜ LiesIn (now msg) d ⌝ }
-    requires { ⌜ Indirect d ⌝ }
-    requires { ⌜ length (now table) ≡ fetched d ⌝ }
-    ensures { λ r. ⌜ FieldsRead d (now (msg .entry)) (now (table .entry)) r ⌝ }
+// B of a table, whose total length is stated, unless that is another or a segment passes 2^64.
+fn table_sum(table: &[u8], stated: u32) -> Total
+    requires { ⌜ (length (now table) ≤ longestTable) × (length (now table) % 16 ≡ 0) ⌝ }
+    ensures { λ r. ⌜ (r ≡ statedOf stated (segmentsOf (now (table .entry)))) × ListFits (now (table .entry)) r ⌝ }
 {
-    let len = d.len;
-    let stated = d.total;
-    if !descriptors::good_table(len) {
-        return Total::Wrong;
-    }
-    if !copies_agree(msg, table, d) {
-        return Total::Wrong;
-    }
-    let list = descriptors::segment_list(msg, table, d);
-    let Total::Sum(n) = cut::sum(list) else {
+    let Total::Sum(n) = cut::sum(table) else {
         return Total::Wrong;
     };
     if n != (stated as u64) {
@@ -54,16 +34,27 @@ fn table_fields<'a>(msg: &'a [u8], table: &'a [u8], d: Descriptor) -> Total
     Total::Sum(n)
 }
 
-// B of a direction, unless a field is bad (refusal 10).
-pub fn fields<'a>(msg: &'a [u8], table: &'a [u8], d: Descriptor) -> Total
-    requires { ⌜ LiesIn (now msg) d ⌝ }
+// B of a direction, unless a field is bad (refusal 10). A table was fetched just where a good one is not whole in the message.
+pub fn fields(standing: &[u8], table: &[u8], d: Descriptor) -> Total
+    requires { ⌜ length (now standing) ≡ standingSize d ⌝ }
+    requires { ⌜ d .count ≤ mostCopies ⌝ }
     requires { ⌜ length (now table) ≡ fetched d ⌝ }
-    ensures { λ r. ⌜ FieldsRead d (now (msg .entry)) (now (table .entry)) r ⌝ }
+    ensures { λ r. ⌜ FieldsRead (giving d (now (standing .entry))) (now (table .entry)) r ⌝ }
 {
     let format = d.format;
-    if format == INDIRECT {
-        return table_fields(msg, table, d);
+    let len = d.len;
+    let stated = d.total;
+    if format != INDIRECT {
+        return cut::sum(standing);
     }
-    let list = descriptors::segment_list(msg, table, d);
-    cut::sum(list)
+    if !descriptors::good_table(len) {
+        return Total::Wrong;
+    }
+    if table.len() == 0 {
+        return table_sum(standing, stated);
+    }
+    if !copies_agree(standing, table) {
+        return Total::Wrong;
+    }
+    table_sum(table, stated)
 }
