@@ -1,41 +1,46 @@
--- The store with one command's memory descriptors more, and the port with one command more.
+-- The port with one command more, its memory descriptors at a place of the store that no open command uses.
 -- Assumes nothing.
 use mathlib.Core.Path.{_≡_, refl, sym, _∙_, ap}
 use mathlib.Core.List.{List, [], _∷_, _++_, map, map-append}
-use mathlib.Core.Logic.{_⊎_, inl, inr, ⊎-elim}
-use Prim.Native.Nat.{ℕ, suc, _+_, _-_, _*_, _/_, _≤_, _<_}
+use mathlib.Core.Logic.{_⊎_}
+use Prim.Native.Nat.{ℕ, suc, _+_, _-_, _*_, _≤_, _<_}
 use native.Mathlib.Omega.{arith}
 use native.Mathlib.Numerals.{add-one}
-use lib.ListN.{length, getD, take, drop, set, length-drop}
-use lib.Seq.{paste, length-paste, take-all, take-suc-set, getD-take, getD-set-same}
-use Rattle.words.specs.declared.Head.{Head}
+use lib.ListN.{length, getD, take, drop, set}
+use lib.Seq.{take-append-le, take-suc-set, getD-take, getD-set-same}
+use Rattle.srp.specs.Lists.{over}
+use Rattle.srp.specs.Descriptors.{standingSize}
 use Rattle.srp.specs.Credit.{Open}
-use Rattle.words.specs.declared.Slot.{Slot}
+use Rattle.srp.specs.declared.Descriptor.{Descriptor}
 use Rattle.srp.specs.declared.Request.{Request}
+use Rattle.words.specs.declared.Head.{Head}
+use Rattle.words.specs.declared.Part.{Part}
+use Rattle.words.specs.declared.Awaited.{Awaited}
+use Rattle.words.specs.declared.Slot.{Slot}
 use Rattle.words.specs.Sizes.{mostSlots, listSize, placeSize, storeSize}
 use Rattle.words.specs.Slots.{SlotFits, slots, noSlot}
 use Rattle.words.specs.Head.{HeadIs, CountsFit, headOf, countedOf, SlotChanged, HeadChanged}
-use Rattle.words.specs.View.{opens, openOf, openPort}
-use Rattle.words.proofs.Slots.{apart, written, either, slots-long}
+use Rattle.words.specs.View.{sideOf, givenOf, opens, openOf, openPort}
+use Rattle.words.proofs.Slots.{slots-long}
 use Rattle.words.proofs.Ports.{opens-long, slot-fits}
-use Rattle.store.specs.Places.{Free, Segments, OwnPlace, Entered, newPlace, newPart, newSlot, enteredSide, enteredOpen}
+use Rattle.store.specs.Places.{Free, Holds, OwnPlace, Entered, placeOf, newSlot, openIn}
+use Rattle.store.proofs.Placing.{with-both, both-long, outside, here, others, before, behind}
 
 -- maps that agree on the elements of a list
 map-same : {A B : Type 0} (f g : A → B) (l : List A) (d : A) → ((j : ℕ) → j < length l → f (getD l j d) ≡ g (getD l j d)) → map f l ≡ map g l
 map-same f g [] d h = refl
 map-same f g (x ∷ xs) d h = rw (h 0 (omega arith), map-same f g xs d (λ j q. h (suc j) (omega arith))) refl
 
--- as many bytes as the descriptors counted
-whole-list : (l : List ℕ) → Segments l → 16 * (length l / 16) ≡ length l
-whole-list l S = omega (arith, S .whole)
-
--- as many bytes as the store has, from one on, are all from that on
-to-end : (l : List ℕ) (at : ℕ) → length l ≡ storeSize → take storeSize (drop at l) ≡ drop at l
-to-end l at e = take-all storeSize (drop at l) (simp length-drop (omega arith))
-
 -- an open command is in its ranges
-open-fits : (l : List ℕ) (j : ℕ) → j < headOf l .held → SlotFits (getD (opens l) j noSlot)
+pub open-fits : (l : List ℕ) (j : ℕ) → j < headOf l .held → SlotFits (getD (opens l) j noSlot)
 open-fits l j h = rw (getD-take (headOf l .held) (slots l) j noSlot h) (slot-fits l j (omega arith))
+
+-- a direction reads no further than its list
+held-side : (list rest : List ℕ) (p : Part) (d : Descriptor) → Holds list p d → sideOf (list ++ rest) 0 p ≡ sideOf list 0 p
+held-side list rest p d H = rw (take-append-le (16 * p .segments) list rest (H .segments)) refl
+
+held-given : (list rest : List ℕ) (p : Part) (d : Descriptor) → Holds list p d → givenOf (list ++ rest) 0 d ≡ givenOf list 0 d
+held-given list rest p d H = rw (take-append-le (standingSize d) list rest (H .standing)) refl
 
 -- ── what is written fits
 
@@ -43,14 +48,15 @@ open-fits l j h = rw (getD-take (headOf l .held) (slots l) j noSlot h) (slot-fit
 pub slot-left : (l : List ℕ) (h : Head) → HeadIs l h → 0 < headOf l .announced → h .held < mostSlots
 slot-left l h H pos = omega (arith, H .fits .counts .room, H .announced)
 
--- up to 32 descriptors each way are in a slot's ranges
-pub new-fits : (r : Request) (k n m : ℕ) (out inn : List ℕ) → k < mostSlots → Segments out → Segments inn
-    → SlotFits (newSlot r k (newPart (length out / 16) n) (newPart (length inn / 16) m))
-new-fits r k n m out inn small So Si =
+-- the new command is in a slot's ranges
+pub new-fits : (r : Request) (k : ℕ) (o n : Part) (a : Awaited) (out inn : List ℕ) → k < mostSlots → Holds out o (a .out) → Holds inn n (a .inn)
+    → SlotFits (newSlot r k o n a)
+new-fits r k o n a out inn small Ho Hi =
     record {
       place = small;
-      out = record { few = omega (arith, So .short); counted = omega arith };
-      inn = record { few = omega (arith, Si .short); counted = omega arith };
+      out = record { few = omega (arith, Ho .short, Ho .segments); counted = Ho .counted };
+      inn = record { few = omega (arith, Hi .short, Hi .segments); counted = Hi .counted };
+      awaits = record { out = Ho .table; inn = Hi .table };
     }
 
 -- one command more and one announced buffer less are in the head's ranges
@@ -59,108 +65,59 @@ counts-fit l h H pos =
     let F = H .fits .counts in
     record { least = F .least; most = F .most; room = omega (arith, F .room, H .announced) }
 
--- ── both lists written at a place
+-- ── the new command behind the open ones
 
-module _ (st out inn : List ℕ) (long : length st ≡ storeSize) (So : Segments out) (Si : Segments inn) (k : ℕ) (small : k < mostSlots) where
-  -- the store with data-out's list, then with both
-  abbrev with-out : List ℕ
-  with-out = paste st (k * placeSize) out (length out)
+module _ (st out inn : List ℕ) (o n : Part) (a : Awaited) (long : length st ≡ storeSize) (Ho : Holds out o (a .out)) (Hi : Holds inn n (a .inn))
+    (l : List ℕ) (k : ℕ) (free : Free (headOf l .held) (opens l) k) (room : headOf l .held < mostSlots) (r : Request) where
+  -- its slot, and the store with its lists
+  abbrev slot : Slot
+  slot = newSlot r k o n a
 
-  abbrev with-both : List ℕ
-  with-both = paste with-out (k * placeSize + listSize) inn (length inn)
+  abbrev stored : List ℕ
+  stored = with-both st out inn long (Ho .short) (Hi .short) k (free .small)
 
-  -- the store is as long as before
-  out-long : length with-out ≡ storeSize
-  out-long = length-paste st (k * placeSize) out (length out) (omega (arith, So .short)) (omega arith) ∙ long
+  stays : (at m : ℕ) → (at + m ≤ placeSize * k) ⊎ (placeSize * k + placeSize ≤ at) → take m (drop at stored) ≡ take m (drop at st)
+  stays = outside st out inn long (Ho .short) (Hi .short) k (free .small)
 
-  both-long : length with-both ≡ storeSize
-  both-long = length-paste with-out (k * placeSize + listSize) inn (length inn) (omega (arith, Si .short, out-long)) (omega arith) ∙ out-long
+  -- it has both lists
+  this : openOf stored slot ≡ openIn out inn (newSlot r 0 o n a)
+  this =
+      here st out inn long (Ho .short) (Hi .short) k (free .small) slot (new-fits r k o n a out inn (free .small) Ho Hi) refl
+      ∙ rw (held-side out _ o (a .out) Ho, held-side inn _ n (a .inn) Hi, held-given out _ o (a .out) Ho, held-given inn _ n (a .inn) Hi) refl
 
-  -- what is before or behind the place stays
-  outside : (at n : ℕ) → (at + n ≤ k * placeSize) ⊎ (k * placeSize + placeSize ≤ at) → take n (drop at with-both) ≡ take n (drop at st)
-  outside at n h =
-      apart with-out (k * placeSize + listSize) inn (length inn) (omega (arith, Si .short, out-long)) (omega arith) at n
-      (⊎-elim (λ g. inl (omega arith)) (λ g. inr (omega (arith, Si .short))) h)
-      ∙ apart st (k * placeSize) out (length out) (omega (arith, So .short)) (omega arith) at n
-      (⊎-elim (λ g. inl (omega arith)) (λ g. inr (omega (arith, So .short))) h)
+  -- the open commands stay, and the new one is the last
+  held : map (openOf stored) (take (headOf l .held + 1) (set (slots l) (headOf l .held) slot)) ≡ map (openOf st) (opens l) ++ (openIn out inn (newSlot r 0 o n a) ∷ [])
+  held =
+      rw
+      (add-one, take-suc-set (slots l) (headOf l .held) slot (rw (slots-long mostSlots 0 l) room), map-append, this, map-same (openOf stored) (openOf st) (opens l) noSlot (λ j q. others st stored k stays (getD (opens l) j noSlot) (open-fits l j (omega (arith, opens-long l))) (free .apart j q (λ e. omega (arith, opens-long l)))))
+      refl
 
-  -- so all bytes before it stay
-  before : take (placeSize * k) with-both ≡ take (placeSize * k) st
-  before = outside 0 (placeSize * k) (inl (omega arith))
+  -- the store has changed at the new command's place alone
+  own : (l′ : List ℕ) → slots l′ ≡ set (slots l) (headOf l .held) slot → OwnPlace (headOf l .held) l st l′ stored
+  own l′ sl =
+      let e : placeOf (headOf l .held) l′ ≡ k =
+      ap (λ (cs : List Slot). getD cs (headOf l .held) noSlot .place) sl
+      ∙ ap (λ (c : Slot). c .place) (getD-set-same (slots l) (headOf l .held) slot noSlot (rw (slots-long mostSlots 0 l) room)) in
+      let long′ = both-long st out inn long (Ho .short) (Hi .short) k (free .small) in
+      record {
+        free = rw e free;
+        before = rw e (before st stored k stays);
+        behind = rw e (behind st stored k stays long long′);
+        size = long′ ∙ sym long;
+      }
 
-  -- and all bytes behind it
-  behind : drop (placeSize * k + placeSize) with-both ≡ drop (placeSize * k + placeSize) st
-  behind =
-      sym (to-end with-both (placeSize * k + placeSize) both-long)
-      ∙ outside (placeSize * k + placeSize) storeSize (inr (omega arith))
-      ∙ to-end st (placeSize * k + placeSize) long
-
-  -- the descriptors of another place stay
-  elsewhere : (j at n : ℕ) → (j ≡ k → ⊥) → j * placeSize ≤ at → at + n ≤ j * placeSize + placeSize → take n (drop at with-both) ≡ take n (drop at st)
-  elsewhere j at n ne lo hi = outside at n (⊎-elim (λ h. inl (omega arith)) (λ h. inr (omega arith)) (either j k ne))
-
-  -- so a command of another place stays
-  others : (c : Slot) → SlotFits c → (c .place ≡ k → ⊥) → openOf with-both c ≡ openOf st c
-  others c F ne =
-      rw (
-        elsewhere (c .place) (placeSize * c .place) (16 * c .out .segments) ne (omega arith) (omega (arith, F .out)),
-        elsewhere (c .place) (placeSize * c .place + listSize) (16 * c .inn .segments) ne (omega arith) (omega (arith, F .inn)),
-      ) refl
-
-  -- data-out's list is there, also behind the second write
-  out-there : take (length out) (drop (k * placeSize) with-both) ≡ out
-  out-there =
-      apart with-out (k * placeSize + listSize) inn (length inn) (omega (arith, Si .short, out-long)) (omega arith) (k * placeSize) (length out) (inl (omega (arith, So .short)))
-      ∙ written st (k * placeSize) out (omega (arith, So .short))
-
-  -- data-in's list is there
-  inn-there : take (length inn) (drop (k * placeSize + listSize) with-both) ≡ inn
-  inn-there = written with-out (k * placeSize + listSize) inn (omega (arith, Si .short, out-long))
-
-  -- the new command has both lists
-  here : (r : Request) (n m : ℕ) → openOf with-both (newSlot r k (newPart (length out / 16) n) (newPart (length inn / 16) m))
-      ≡ enteredOpen r (record { out = enteredSide n out; inn = enteredSide m inn })
-  here r n m =
-      let e : placeSize * k ≡ k * placeSize = omega arith in
-      rw (e, whole-list out So, whole-list inn Si, out-there, inn-there) refl
-
-  -- ── the new command behind the open ones
-
-  module _ (l : List ℕ) (free : Free (opens l) k) (room : headOf l .held < mostSlots) (r : Request) (n m : ℕ) where
-    -- its slot
-    abbrev slot : Slot
-    slot = newSlot r k (newPart (length out / 16) n) (newPart (length inn / 16) m)
-
-    abbrev new : Open
-    new = enteredOpen r (record { out = enteredSide n out; inn = enteredSide m inn })
-
-    -- the open commands stay, and the new one is the last
-    held : map (openOf with-both) (take (headOf l .held + 1) (set (slots l) (headOf l .held) slot)) ≡ map (openOf st) (opens l) ++ (new ∷ [])
-    held =
-        rw
-        (add-one, take-suc-set (slots l) (headOf l .held) slot (rw (slots-long mostSlots 0 l) room), map-append, here r n m, map-same (openOf with-both) (openOf st) (opens l) noSlot (λ j q. others (getD (opens l) j noSlot) (open-fits l j (omega (arith, opens-long l))) (free .apart j q)))
-        refl
-
-    -- the store has changed at the new command's place alone
-    own : (l′ : List ℕ) → slots l′ ≡ set (slots l) (headOf l .held) slot → OwnPlace l st l′ with-both
-    own l′ sl =
-        let e : newPlace l l′ ≡ k =
-        ap (λ (cs : List Slot). getD cs (headOf l .held) noSlot .place) sl
-        ∙ ap (λ (c : Slot). c .place) (getD-set-same (slots l) (headOf l .held) slot noSlot (rw (slots-long mostSlots 0 l) room)) in
-        record { free = rw e free; before = rw e before; behind = rw e behind; size = both-long ∙ sym long }
-
-    -- the words with the slot, then with the counts, are the port with the command; the other counts are those of the head that was read
-    pub entered : (h : Head) → h ≡ headOf l → (l₁ : List ℕ) → SlotChanged l l₁ (h .held) (λ _. slot)
-        → (l′ : List ℕ) → HeadChanged l₁ l′ (countedOf (h .held + 1) (h .wanted) (h .announced - 1) (h .unanswered))
-        → Entered l st l′ with-both r n out m inn
-    entered h is l₁ S l′ H =
-        let hl : headOf l′ ≡ countedOf (headOf l .held + 1) (headOf l .wanted) (headOf l .announced - 1) (headOf l .unanswered) (headOf l) =
-        H .head
-        ∙ ap (countedOf (h .held + 1) (h .wanted) (h .announced - 1) (h .unanswered)) (S .head)
-        ∙ ap (λ (x : Head). countedOf (x .held + 1) (x .wanted) (x .announced - 1) (x .unanswered) (headOf l)) is in
-        let sl : slots l′ ≡ set (slots l) (headOf l .held) slot = H .slots ∙ S .slots ∙ ap (λ (x : Head). set (slots l) (x .held) slot) is in
-        record {
-          live = ap (λ (x : Head). x .live) hl;
-          port = ap (λ (x : Head). openPort x (slots l′) with-both) hl ∙ rw (sl, held) refl;
-          place = own l′ sl;
-        }
+  -- the words with the slot, then with the counts, are the port with the command; the other counts are those of the head that was read
+  pub entered : (h : Head) → h ≡ headOf l → (l₁ : List ℕ) → SlotChanged l l₁ (h .held) (λ _. slot)
+      → (l′ : List ℕ) → HeadChanged l₁ l′ (countedOf (h .held + 1) (h .wanted) (h .announced - 1) (h .unanswered))
+      → Entered l st l′ stored r o n a out inn
+  entered h is l₁ S l′ H =
+      let hl : headOf l′ ≡ countedOf (headOf l .held + 1) (headOf l .wanted) (headOf l .announced - 1) (headOf l .unanswered) (headOf l) =
+      H .head
+      ∙ ap (countedOf (h .held + 1) (h .wanted) (h .announced - 1) (h .unanswered)) (S .head)
+      ∙ ap (λ (x : Head). countedOf (x .held + 1) (x .wanted) (x .announced - 1) (x .unanswered) (headOf l)) is in
+      let sl : slots l′ ≡ set (slots l) (headOf l .held) slot = H .slots ∙ S .slots ∙ ap (λ (x : Head). set (slots l) (x .held) slot) is in
+      record {
+        live = ap (λ (x : Head). x .live) hl;
+        port = ap (λ (x : Head). openPort x (slots l′) stored) hl ∙ rw (sl, held) refl;
+        place = own l′ sl;
+      }

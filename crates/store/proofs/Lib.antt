@@ -1,2 +1,4 @@
 pub mod Marks
+pub mod Placing
 pub mod Entering
+pub mod Supplying

@@ -3,6 +3,7 @@
 use mathlib.Core.Path.{_≡_, refl, sym, _∙_, ap}
 use mathlib.Core.Bool.{Bool, true, false}
 use mathlib.Core.List.{List, [], _∷_}
+use mathlib.Core.Logic.{⊎-elim}
 use Prim.Native.Nat.{ℕ, zero, suc, _+_, _≤_, _<_}
 use native.Mathlib.Omega.{arith}
 use native.Mathlib.Numerals.{add-one}
@@ -10,12 +11,12 @@ use borrow.Author.Count.{below-more}
 use lib.ListN.{length, getD, drop, set, length-set}
 use lib.Seq.{drop-cons, getD-take, getD-set-same}
 use Rattle.srp.specs.Bytes.{bit}
-use Rattle.words.specs.declared.Slot.{Slot}
 use Rattle.words.specs.Sizes.{mostSlots}
 use Rattle.words.specs.Slots.{slots, noSlot}
 use Rattle.words.specs.Head.{headOf}
 use Rattle.words.specs.View.{opens}
-use Rattle.words.proofs.Ports.{opens-long, slot-fits}
+use Rattle.words.proofs.Slots.{either}
+use Rattle.words.proofs.Ports.{opens-long}
 use Rattle.store.specs.Places.{trues, Marked, Free}
 
 -- ── marking
@@ -35,36 +36,50 @@ true-stays (b ∷ bs) zero (suc j) h = h
 true-stays (b ∷ bs) (suc k) zero h = h
 true-stays (b ∷ bs) (suc k) (suc j) h = true-stays bs k j h
 
--- the places of the first i commands are marked
-pub record Marking (l : List ℕ) (n : ℕ) (f : List Bool) (i : ℕ) : Type 0 where
+-- the places of the first i commands are marked, but for that of one
+pub record Marking (but : ℕ) (l : List ℕ) (n : ℕ) (f : List Bool) (i : ℕ) : Type 0 where
   pub count : n ≡ headOf l .held
   pub in-count : i ≤ n
   pub long : length f ≡ mostSlots
   pub few : trues f ≤ i
-  pub marks : (j : ℕ) → j < i → getD f (getD (slots l) j noSlot .place) false ≡ true
+  pub fewer : but < i → trues f < i
+  pub marks : (j : ℕ) → j < i → (j ≡ but → ⊥) → getD f (getD (slots l) j noSlot .place) false ≡ true
 
-module _ (l : List ℕ) (n : ℕ) (f : List Bool) (i : ℕ) (K : Marking l n f i) where
+module _ (but : ℕ) (l : List ℕ) (n : ℕ) (f : List Bool) (i : ℕ) (K : Marking but l n f i) where
   -- one command more
-  pub mark-more : i < n → (c : Slot) → c ≡ getD (slots l) i noSlot → Marking l n (set f (c .place) true) (i + 1)
-  mark-more h c e =
-      let k = getD (slots l) i noSlot .place in
-      let small : k < mostSlots = slot-fits l i (omega (arith, K .count)) .place in
-      rw e
-      (record {
+  pub mark-more : i < n → (i ≡ but → ⊥) → (k : ℕ) → k ≡ getD (slots l) i noSlot .place → k < mostSlots → Marking but l n (set f k true) (i + 1)
+  mark-more h ne k e small =
+      record {
         count = K .count;
         in-count = omega arith;
         long = length-set f k true ∙ K .long;
         few = omega (arith, trues-set f k, K .few);
-        marks = below-more _ i (λ j g. true-stays f k _ (K .marks j g)) (getD-set-same f k true false (omega (arith, K .long, small)));
-      })
+        fewer = λ q. ⊎-elim (λ g. omega (arith, trues-set f k, K .fewer g)) (λ g. let z : ⊥ = omega arith in absurd z) (either but i (λ x. ne (sym x)));
+        marks = below-more (λ (j : ℕ). (j ≡ but → ⊥) → getD (set f k true) (getD (slots l) j noSlot .place) false ≡ true) i
+            (λ j g q. true-stays f k _ (K .marks j g q)) (λ _. rw (← e) (getD-set-same f k true false (omega (arith, K .long))));
+      }
+
+  -- the one that is left out
+  pub mark-skip : i < n → i ≡ but → Marking but l n f (i + 1)
+  mark-skip h e =
+      record {
+        count = K .count;
+        in-count = omega arith;
+        long = K .long;
+        few = omega (arith, K .few);
+        fewer = λ q. omega (arith, K .few);
+        marks = below-more (λ (j : ℕ). (j ≡ but → ⊥) → getD f (getD (slots l) j noSlot .place) false ≡ true) i (K .marks) (λ ne. absurd (ne e));
+      }
 
   -- all of them
-  pub mark-end : n ≤ i → Marked (opens l) f
+  pub mark-end : n ≤ i → Marked but (opens l) f
   mark-end h =
       let e : length (opens l) ≡ headOf l .held = opens-long l in
+      let same : i ≡ headOf l .held = omega (arith, K .count, K .in-count) in
       record {
-        marks = λ j q. let g : j < headOf l .held = omega arith in rw getD-take (K .marks j (omega (arith, K .count)));
-        few = omega (arith, K .few, K .count, K .in-count);
+        marks = λ j q ne. let g : j < headOf l .held = omega arith in rw getD-take (K .marks j (omega (arith, K .count)) ne);
+        few = omega (arith, K .few);
+        fewer = λ q. omega (arith, K .fewer (omega arith));
         long = K .long;
       }
 
@@ -86,6 +101,9 @@ unfolding trues
 trues-step f long k inv h d = let g : k < length f = omega arith in rw add-one (rw (drop-cons f k d) at inv)
 
 -- a place that is not marked is free
-pub free-at : (l : List ℕ) (f : List Bool) (k : ℕ) → Marked (opens l) f → k < mostSlots → getD f k false ≡ false → Free (opens l) k
-free-at l f k M h e =
-    record { small = h; apart = λ j q u. let z : _≡_ {A = ℕ} 0 1 = ap bit (sym e ∙ ap (λ (x : ℕ). getD f x false) (sym u) ∙ M .marks j q) in omega arith }
+pub free-at : (but : ℕ) (l : List ℕ) (f : List Bool) (k : ℕ) → Marked but (opens l) f → k < mostSlots → getD f k false ≡ false → Free but (opens l) k
+free-at but l f k M h e =
+    record {
+      small = h;
+      apart = λ j q ne u. let z : _≡_ {A = ℕ} 0 1 = ap bit (sym e ∙ ap (λ (x : ℕ). getD f x false) (sym u) ∙ M .marks j q ne) in omega arith;
+    }
