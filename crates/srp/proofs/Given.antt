@@ -61,7 +61,7 @@ module _ (g : Given) (table : List ℕ) (r : GivenRanges g) where
   new-ranges : length table ≡ fetched (g .descriptor) → goodFields g table ≡ true → SideRanges (newSide (segments g table))
   new-ranges e good =
       let q = both (goodFormat g table) (reachable (segments g table)) good in
-      record { extent = record { few = few-segments g table r e; reach = q .1; sum = refl; small = small (q .0) }; highest = omega arith; at = omega arith; end = omega arith; number = omega arith; required = omega arith }
+      record { extent = record { few = few-segments g table (omega (arith, r .size)) (q .0) e; reach = q .1; sum = refl; small = small (q .0) }; highest = omega arith; at = omega arith; end = omega arith; number = omega arith; required = omega arith }
 
 none-ranges : SideRanges (newSide [])
 none-ranges =
