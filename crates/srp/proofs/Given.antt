@@ -142,7 +142,7 @@ Sane s (CredRsp g) = Unit {0}
 Sane s ILogout = Unit {0}
 
 -- no table is lent where none is to be fetched
-none-fit : (m n : ℕ) → not (eqb m 0 && eqb n 0) ≡ false → (eqb 0 m && eqb 0 n) ≡ true
+pub none-fit : (m n : ℕ) → not (eqb m 0 && eqb n 0) ≡ false → (eqb 0 m && eqb 0 n) ≡ true
 none-fit m n e =
     let q = both (eqb m 0) (eqb n 0) (not-false _ e) in
     rw (eqb-true m 0 (q .0), eqb-true n 0 (q .1)) refl
