@@ -13,7 +13,7 @@ use Rattle.srp.specs.Login.{termsOf, opened, loginDef}
 use Rattle.srp.specs.declared.Settings.{Settings}
 use Rattle.srp.specs.Take.{Outcome}
 use Rattle.machine.specs.Machine.{Machine, start, Login, loginOf}
-use Rattle.machine.specs.Events.{Event, sends, delivers, takes, plans, names, steps, finishes, adds, withdraws, grants, actionOf, after, closes}
+use Rattle.machine.specs.Events.{Event, sends, delivers, takes, brings, plans, names, steps, finishes, adds, withdraws, grants, actionOf, after, closes}
 use Rattle.machine.specs.Demand.{Until, Run, Fair, Demand, Meets}
 use Rattle.srp.specs.declared.Reply.{Reply}
 use Rattle.srp.specs.declared.Reply.the-variants.{Accepted}
@@ -24,6 +24,7 @@ use Rattle.srp.proofs.CutLaws.{Lawful}
 use Rattle.machine.proofs.Invariant.{Ok, now, Obeys}
 use Rattle.machine.proofs.Taking.{take-obeys}
 use Rattle.machine.proofs.Owners.{send-obeys, deliver-obeys, add-obeys, withdraw-obeys, grant-obeys, finish-obeys, plan-obeys}
+use Rattle.machine.proofs.Bringing.{bring-obeys}
 use Rattle.machine.proofs.Steps.{move-obeys, step-obeys}
 
 -- every event does what demand 3 says of it, and obeying the invariant until the channel closes
@@ -31,7 +32,8 @@ module _ (L : Login) (cut : Lawful (ruleOf (L .terms))) (m : Machine) (p : Port)
   obeys : (e : Event) → actionOf L e .allowed m → Obeys L m (actionOf L e) (actionOf L e .call p m)
   obeys (sends s) a = send-obeys h s a
   obeys delivers a = deliver-obeys h
-  obeys (takes room t) a = take-obeys h room t
+  obeys (takes room) a = take-obeys h room
+  obeys (brings room tag t) a = bring-obeys h room tag t
   obeys (plans tag out inn) a = plan-obeys h tag out inn
   obeys (names tag d offset count) a = move-obeys h cut tag d offset count
   obeys (steps tag d) a = step-obeys h cut tag d

@@ -14,7 +14,8 @@ use borrow.Author.Tests.{le-ltb, ltb-true, ltb-false}
 use Rattle.srp.specs.Bytes.{typeOf}
 use Rattle.srp.specs.Refusals.{firstOf}
 use Rattle.srp.specs.Lists.{find, All, isSome}
-use Rattle.srp.specs.Both.{Each, each}
+use Rattle.srp.specs.Descriptors.{Given, standingSize}
+use Rattle.srp.specs.Both.{Both, Each, each}
 use Rattle.srp.specs.Credit.{withSides, ruleOf, Open, Port, owed, due, withCredit, withHeld, withWanted, withUnanswered}
 use Rattle.srp.specs.declared.Terms.{Terms}
 use Rattle.srp.specs.Writing.{answer}
@@ -50,10 +51,16 @@ sub-back a b = rw (le-ltb (a + b) b (omega arith)) (ap pos (omega arith))
 abbrev pub openIn : Terms → Track → Open
 openIn T t = withSides t (t .planned) (each (sideIn T) (t .sides))
 
--- no move is named before the plan, and each direction is followed
+-- of a waiting command, no more stood in its message than its descriptors say
+abbrev pub Short : Option (Both Given) → Type 0
+Short none = Unit {0}
+Short (some g) = Each (λ g. length (g .bytes) ≤ standingSize (g .descriptor)) g
+
+-- no move is named before the plan, each direction is followed, and tables to come leave at most 32 segments
 pub record Sound (T : Terms) (t : Track) : Type 0 where
   pub unplanned : t .planned ≡ false → Each (λ g. g .moves ≡ []) (t .sides)
   pub steady : Each (Steady T) (t .sides)
+  pub awaited : Short (t .awaits)
 
 -- ── the invariant
 

@@ -17,7 +17,6 @@ use Rattle.srp.specs.declared.Settings.{Settings}
 use Rattle.machine.specs.Machine.{Machine, start, Login, loginOf}
 use Rattle.machine.specs.Events.{Event, sends, takes, withdraws, actionOf, after}
 use Rattle.machine.specs.Demand.{Now, Run, Fair, Demand, Meets}
-use Rattle.srp.specs.Outside.{noTables}
 use Rattle.srp.specs.Rows.{login-req, own, settings, no-data}
 use Rattle.srp.specs.declared.Reply.{Reply}
 use Rattle.srp.specs.declared.Reply.the-variants.{Accepted}
@@ -56,7 +55,7 @@ abbrev pub l4 : List ℕ
 l4 = login-req 1364 6 0 own
 
 abbrev pub p8 : List Event
-p8 = sends (no-data 1) ∷ takes 132 noTables ∷ sends (no-data 2) ∷ takes 132 noTables ∷ withdraws 3 ∷ []
+p8 = sends (no-data 1) ∷ takes 132 ∷ sends (no-data 2) ∷ takes 132 ∷ withdraws 3 ∷ []
 
 -- the login is accepted
 agreed4 : loginDef c4 own 132 l4 .reply ≡ Accepted

@@ -5,8 +5,10 @@ pub mod Deltas
 pub mod Moves
 pub mod Answers
 pub mod Invariant
+pub mod Waiting
 pub mod Taking
 pub mod Owners
+pub mod Bringing
 pub mod Steps
 pub mod Demand
 pub mod Itself

@@ -15,9 +15,10 @@ use Rattle.srp.specs.Credit.{Open, Port, due, withHeld}
 use Rattle.srp.specs.declared.Terms.{Terms}
 use Rattle.srp.specs.Writing.{response, creditRequest}
 use Rattle.srp.specs.Take.{Outcome, silent, answering, hasTag, isOpen}
+use Rattle.srp.specs.Tables.{awaitedBy}
 use Rattle.srp.specs.Calls.{unless, isPlanned, planned, planChecks, planDef, finalOf, finalResponse, finishChecks, finishDef, addChecks, addDef, withdrawChecks, withdrawDef, grantChecks, grantDef}
 use Rattle.srp.specs.Answers.{refusalIn}
-use Rattle.machine.specs.Machine.{deltas, requests, Track, plannedFor, Work, Machine, tracked, withWork, withTracks, Login}
+use Rattle.machine.specs.Machine.{deltas, requests, Track, plannedFor, Work, Machine, tracked, withWork, withTracks, endedBy, Login}
 use Rattle.machine.specs.Actions.{Owners, byOwner, atFront, between}
 use Rattle.machine.specs.Events.{sending, delivered, delivering, planning, finishing, adding, withdrawing, granting}
 use Rattle.srp.specs.declared.Refusal.{Refusal}
@@ -40,6 +41,7 @@ sound-plan T a b t s e =
     record {
       unplanned = λ q. absurd (true≢false q);
       steady = (plan-steady T a (t .sides .out) (s .steady .0) (u .0), plan-steady T b (t .sides .inn) (s .steady .1) (u .1));
+      awaited = s .awaited;
     }
 
 -- ── sending and delivery
@@ -139,29 +141,38 @@ module _ {L : Login} {m : Machine} {p : Port} (h : Ok L m p) where
   pub found : (tag : ℕ) (t : Track) → tracked m tag ≡ some t → find (hasTag tag) (p .held) ≡ some (openIn (L .terms) t)
   found tag t f = find-same h tag ∙ ap (Option·map (openIn (L .terms))) f
 
-  pub finish-obeys : (room tag st : ℕ) (se : List ℕ) → Obeys L m (byOwner (finishing room tag st se)) (finishDef p room tag st se)
-  finish-obeys room tag st se =
-      owned (finishing room tag st se) (firstOf (finishChecks p room tag st se)) _ (rw (h .live, open-same h tag)) refl λ z.
-      let is-open = not-false (isOpen p tag) (passes (finishChecks p room tag st se) z .1 .1 .1 .0) in
-      let o = recast (p′ .held) w
+  -- the command with the tag ends
+  pub ends : (tag : ℕ) → isOpen p tag ≡ true → Ok L (endedBy m tag) (withHeld p (p .announced) (without (hasTag tag) (p .held)))
+  ends tag e =
+      recast (without (hasTag tag) (p .held)) (endedBy m tag .work)
       (record {
-        counts = omega (arith, h .work .counts, one-goes tag (m .work .tracks) (h .work .distinct) (sym (open-same h tag) ∙ is-open));
+        counts = omega (arith, h .work .counts, one-goes tag (m .work .tracks) (h .work .distinct) (sym (open-same h tag) ∙ e));
         commands = rw (h .work .commands) (without-map (openIn (L .terms)) (hasTag tag) (m .work .tracks));
         sound = all-without (Sound (L .terms)) (hasTag tag) (m .work .tracks) (h .work .sound);
         distinct = distinct-without (hasTag tag) (m .work .tracks) (h .work .distinct);
         order = ordered-without (hasTag tag) (m .work .tracks) (m .work .tags) (h .work .distinct) (h .work .order);
-      }) in
-      ends (find (hasTag tag) (p .held)) refl is-open o
+      })
+
+  -- the port's command waits as the machine's does
+  pub awaited-same : (tag : ℕ) → awaitedBy (find (hasTag tag) (p .held)) ≡ awaitedBy (tracked m tag)
+  awaited-same tag = ap awaitedBy (find-same h tag) ∙ by-case (tracked m tag)
+    where
+      by-case : (o : Option Track) → awaitedBy (Option·map (openIn (L .terms)) o) ≡ awaitedBy o
+      by-case none = refl
+      by-case (some t) = refl
+
+  pub finish-obeys : (room tag st : ℕ) (se : List ℕ) → Obeys L m (byOwner (finishing room tag st se)) (finishDef p room tag st se)
+  finish-obeys room tag st se =
+      owned (finishing room tag st se) (firstOf (finishChecks p room tag st se)) _ (rw (h .live, open-same h tag, awaited-same tag)) refl λ z.
+      let is-open = not-false (isOpen p tag) (passes (finishChecks p room tag st se) z .1 .1 .1 .0) in
+      responding (find (hasTag tag) (p .held)) refl is-open (ends tag is-open)
     where
       p′ : Port
       p′ = withHeld p (p .announced) (without (hasTag tag) (p .held))
 
-      w : Work
-      w = finishing room tag st se .effect m Performed .work
-
-      ends : (c : Option Open) → find (hasTag tag) (p .held) ≡ c → isSome c ≡ true → Ok L (withWork m w) p′ → Unrefused (finishing room tag st se) (answering p′ Performed (finalResponse c st se))
-      ends none f e o = absurd (true≢false (sym e))
-      ends (some c) f e o =
+      responding : (c : Option Open) → find (hasTag tag) (p .held) ≡ c → isSome c ≡ true → Ok L (endedBy m tag) p′ → Unrefused (finishing room tag st se) (answering p′ Performed (finalResponse c st se))
+      responding none f e o = absurd (true≢false (sym e))
+      responding (some c) f e o =
           record {
             fine = responds o Performed (finalResponse (some c) st se) (response-carries (finalOf c st se (due p′)) (few o));
             wrote = refl;
@@ -177,12 +188,12 @@ module _ {L : Login} {m : Machine} {p : Port} (h : Ok L m p) where
 
   pub plan-obeys : (tag a b : ℕ) → Obeys L m (byOwner (planning tag a b)) (planDef p tag a b)
   plan-obeys tag a b =
-      owned (planning tag a b) (firstOf (planChecks p tag)) _ (rw (h .live, open-same h tag, plan-same tag)) refl λ z.
+      owned (planning tag a b) (firstOf (planChecks p tag)) _ (rw (h .live, open-same h tag, awaited-same tag, plan-same tag)) refl λ z.
       let c = passes (planChecks p tag) z in
       record {
         fine =
             quiet
-            (changes tag (planned a b) (plannedFor a b) (λ t. refl) (λ t f. refl) (λ t f s. sound-plan (L .terms) a b t s (sym (ap isPlanned (found tag t f)) ∙ c .1 .1 .0)))
+            (changes tag (planned a b) (plannedFor a b) (λ t. refl) (λ t f. refl) (λ t f s. sound-plan (L .terms) a b t s (sym (ap isPlanned (found tag t f)) ∙ c .1 .1 .1 .0)))
             Performed;
         wrote = refl;
         answer = tt;

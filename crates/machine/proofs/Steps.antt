@@ -3,7 +3,7 @@
 use mathlib.Core.Path.{_≡_, refl, ap, sym, _∙_, subst}
 use mathlib.Core.Bool.{true, false, true≢false}
 use mathlib.Core.Option.{Option, none, some, Option·map}
-use Prim.Native.Nat.{ℕ, _+_, _-_, _≤_}
+use Prim.Native.Nat.{ℕ, _+_, _≤_}
 use lib.Dec.{ltb}
 use lib.ListN.{length}
 use borrow.Author.Tests.{ltb-false, not-false}
@@ -30,7 +30,7 @@ use Rattle.srp.proofs.Pieces.{wrapped-same}
 use Rattle.machine.proofs.Moves.{sideIn, atOf, endOf, Steady, coming, same-left, step-steady, step-side, move-steady, move-side}
 use Rattle.machine.proofs.Answers.{next-right, last-right}
 use Rattle.machine.proofs.Invariant.{openIn, Sound, Ok, find-same, open-same, Obeys, quiet}
-use Rattle.machine.proofs.Owners.{Unrefused, owned, changes, found, plan-same}
+use Rattle.machine.proofs.Owners.{Unrefused, owned, changes, found, awaited-same, plan-same}
 
 -- ── one direction of an open command
 
@@ -60,6 +60,7 @@ module _ {L : Login} {m : Machine} {p : Port} (h : Ok L m p) (cut : Lawful (rule
       (λ t e s. record {
         unplanned = λ u. absurd (true≢false (sym z ∙ ap isPlanned (found h tag t e) ∙ u));
         steady = each-altered (Steady T) d (t .sides) g (s .steady) (steady t e);
+        awaited = s .awaited;
       })
 
   -- ── a move
@@ -88,14 +89,14 @@ module _ {L : Login} {m : Machine} {p : Port} (h : Ok L m p) (cut : Lawful (rule
   pub move-obeys : (offset count : ℕ) → Obeys L m (byOwner (naming L tag d offset count)) (moveDef p tag d offset count)
   move-obeys offset count =
       owned h (naming L tag d offset count) (firstOf (moveChecks p tag d offset)) _
-      (rw (h .live, open-same h tag, plan-same h tag, beyond-same offset, unfinished-same)) refl λ z.
+      (rw (h .live, open-same h tag, awaited-same h tag, plan-same h tag, beyond-same offset, unfinished-same)) refl λ z.
       let c = passes (moveChecks p tag d offset) z in
-      let low = c .1 .1 .1 .0 in
-      let done = c .1 .1 .1 .1 .0 in
+      let low = c .1 .1 .1 .1 .0 in
+      let done = c .1 .1 .1 .1 .1 .0 in
       record {
         fine =
             quiet
-            (alters (moving offset count) (withMove offset count) (not-false _ (c .1 .1 .0))
+            (alters (moving offset count) (withMove offset count) (not-false _ (c .1 .1 .1 .0))
             (λ t f. move-side T cut (here t f) (steady-of t f) offset count (within t f offset low) (through t f done))
             (λ t f. move-steady T cut (here t f) (steady-of t f) offset count (within t f offset low) (through t f done)))
             Performed;
@@ -151,14 +152,14 @@ module _ {L : Login} {m : Machine} {p : Port} (h : Ok L m p) (cut : Lawful (rule
 
   pub step-obeys : Obeys L m (byOwner (stepping L tag d)) (stepDef p tag d)
   step-obeys =
-      owned h (stepping L tag d) (firstOf (stepChecks p tag)) (handOut p tag d number offered) (rw (h .live, open-same h tag, plan-same h tag)) (hand-unrefused offered) λ z.
+      owned h (stepping L tag d) (firstOf (stepChecks p tag)) (handOut p tag d number offered) (rw (h .live, open-same h tag, awaited-same h tag, plan-same h tag)) (hand-unrefused offered) λ z.
       hands (passes (stepChecks p tag) z) offered refl
     where
       hands : All (λ c. c .0 ≡ false) (stepChecks p tag) → (v : Option Piece) → offered ≡ v → Unrefused h (stepping L tag d) (handOut p tag d number v)
       hands c none e = record { fine = quiet h (Done number); wrote = refl; answer = λ t f. right t f none e }
       hands c (some o) e =
           record {
-            fine = quiet (hands-on o e (not-false _ (c .1 .1 .0))) (Operation (kindOf d) (wrapped o) (number + 1));
+            fine = quiet (hands-on o e (not-false _ (c .1 .1 .1 .0))) (Operation (kindOf d) (wrapped o) (number + 1));
             wrote = refl;
             answer = λ t f. right t f (some o) e;
           }

@@ -5,7 +5,7 @@ use mathlib.Core.Bool.{Bool, false}
 use mathlib.Core.List.{List, [], _∷_}
 use mathlib.Core.Option.{Option, none, some}
 use Prim.Native.Nat.{ℕ}
-use Rattle.srp.specs.Refusals.{Check}
+use Rattle.srp.specs.Refusals.{Conduct, hangsUp, answered, stays, altersNothing, conductOf, Check}
 use Rattle.srp.specs.Credit.{Port}
 use Rattle.srp.specs.Take.{Outcome, silent}
 use Rattle.srp.specs.Answers.{refusalIn}
@@ -41,6 +41,18 @@ anything m r ss = Unit {0}
 abbrev pub unlessRefused : {A : Type 0} → Option Refusal → A → A → A
 unlessRefused none refused unrefused = unrefused
 unlessRefused (some f) refused unrefused = refused
+
+-- whether a refusal of tables answers the command, which ends it, or "alters nothing"
+abbrev pub ifAnswered : {A : Type 0} → Conduct → A → A → A
+ifAnswered (hangsUp reason) ended unchanged = unchanged
+ifAnswered answered ended unchanged = ended
+ifAnswered stays ended unchanged = unchanged
+ifAnswered altersNothing ended unchanged = unchanged
+
+-- what tables do: the command gets them, has ended, or is as it was
+abbrev pub byTables : {A : Type 0} → Option Refusal → A → A → A → A
+byTables none brought ended unchanged = brought
+byTables (some f) brought ended unchanged = ifAnswered (conductOf f) ended unchanged
 
 -- "With an empty queue no take or delivery happens"
 abbrev pub atFront : {A : Type 0} → List (List ℕ) → A → (List ℕ → List (List ℕ) → A) → A

@@ -77,8 +77,8 @@ module _ (L : Login) where
   counted m d = record { wanted = wantedBy (L .buffers) m; announced = unused m; held = requestsHeld m; owed = d }
 
   -- what holds at the start and after every event, while the channel is open. "Owed is the D that the port reports"; "Requests held = taken -
-  -- ended = commands open; H says so, and as many are listed after each call"; the listing's records are those of the machine's own list, with its own h,
-  -- and stand as their commands were taken
+  -- ended = commands open; H says so, and as many are listed after each call"; the listing's records are those of the machine's own list, waiting or not,
+  -- with its own h, and stand as their commands were taken
   pub record Now (m : Machine) (p : Port) : Type 0 where
     pub sum : Sum m (owed p)
     pub reports : countersDef p .reply ≡ Counts (counted m (owed p))

@@ -1,4 +1,4 @@
--- Document 01, "Credit", and document 02, jobs 1, 4 and 5: the events of demand 3, each in one definition (specs/Actions.antt has what an event is).
+-- Document 01, "Credit", and document 02, jobs 1, 4, 5 and 7: the events of demand 3, each in one definition (specs/Actions.antt has what an event is).
 use mathlib.Core.Path.{_≡_}
 use mathlib.Core.Bool.{Bool, true, false, cond, not, _&&_, _||_}
 use mathlib.Core.List.{List, [], _∷_, _++_}
@@ -13,15 +13,16 @@ use Rattle.srp.specs.Lists.{change, without, isSome}
 use Rattle.srp.specs.Both.{of}
 use Rattle.srp.specs.Requests.{isRequest}
 use Rattle.srp.specs.Credit.{onSide}
-use Rattle.srp.specs.Writing.{response}
-use Rattle.srp.specs.Take.{silent, hasTag, Tables, tablesFit, fieldsFit, aborted, takeDef}
+use Rattle.srp.specs.Writing.{response, answer}
+use Rattle.srp.specs.Take.{silent, hasTag, Tables, noTables, givenIn, fieldsFit, waits, aborted, takeDef}
+use Rattle.srp.specs.Tables.{awaitedBy, isWaiting, badLengths, badTables, brought, tablesDef}
 use Rattle.srp.specs.Calls.{isPlanned, badSense, planDef, moveDef, stepDef, finishDef, addDef, withdrawDef, grantDef}
 use Rattle.srp.specs.Answers.{refusalIn, operationIn}
-use Rattle.machine.specs.Actions.{Action, always, anything, atFront, between, Owners, byOwner}
+use Rattle.machine.specs.Actions.{Action, always, anything, byTables, atFront, between, Owners, byOwner}
 use Rattle.machine.specs.Operations.{isBeyond, isUnfinished, Right}
-use Rattle.machine.specs.Machine.{deltaOf, Track, finalBy, newTrack, plannedFor, withMove, withOperation, Machine, lack, unused, wantedBy, tracked, withWire, withWork, withBuffers, withQueue, withTracks, tookRequest, tookCommand, saysLogout, join, Login, read}
+use Rattle.machine.specs.Machine.{deltaOf, Track, fresh, finalBy, newTrack, plannedFor, withMove, withOperation, Machine, lack, unused, wantedBy, tracked, withWire, withWork, withBuffers, withQueue, withTracks, tookRequest, tookCommand, endedBy, saysLogout, join, Login, read}
 use Rattle.srp.specs.declared.Refusal.{Refusal}
-use Rattle.srp.specs.declared.Refusal.the-variants.{TableLength, Fields, Argument, NoCredit, TagOpen, TagNotOpen, CreditResponse, Unanswered, NotOwed, Wanted, Unplanned, Planned, Offset, Unfinished}
+use Rattle.srp.specs.declared.Refusal.the-variants.{TableLength, Fields, Argument, NoCredit, TagOpen, TagNotOpen, CreditResponse, Unanswered, NotOwed, Wanted, Unplanned, Planned, Offset, Unfinished, Waiting}
 use Rattle.srp.specs.declared.Direction.{Direction}
 use Rattle.srp.specs.declared.Message.{Message}
 use Rattle.srp.specs.declared.Message.the-variants.{Bad, Cmd, TskMgmt, CredRsp, ILogout}
@@ -62,23 +63,22 @@ pub record Reading : Type 0 where
   pub writes : List ℕ
   pub closes : Bool
 
-abbrev pub reading : List ℕ → Tables → Message → Reading
-reading s t (Bad r) = record { checks = λ m. (true, r) ∷ []; effect = λ m. m; writes = []; closes = false }
--- "A command taken is open until it ends"
-reading s t (Cmd c) =
+abbrev pub reading : List ℕ → Message → Reading
+reading s (Bad r) = record { checks = λ m. (true, r) ∷ []; effect = λ m. m; writes = []; closes = false }
+-- "A command taken is open until it ends". "22, 23, 9, 10", of which 9, and 10 where a fetch is named, are drawn by tables
+reading s (Cmd c) =
     record {
       checks = λ m.
           (eqb (unused m) 0, NoCredit)
           ∷ (isSome (tracked m (c .request .tag)), TagOpen)
-          ∷ (not (tablesFit c t), TableLength)
-          ∷ (not (fieldsFit c s t), Fields)
+          ∷ (not (waits c) && not (fieldsFit (givenIn c s) noTables), Fields)
           ∷ [];
-      effect = λ m. withWork m (tookCommand (m .work) (newTrack c s t));
+      effect = λ m. withWork m (tookCommand (m .work) (newTrack c s));
       writes = [];
       closes = false;
     }
--- "A task request ends in the same call, as do the open commands that it aborts"
-reading s t (TskMgmt k) =
+-- "A task request ends in the same call, as do the open commands that it aborts"; "A waiting command can be aborted"
+reading s (TskMgmt k) =
     record {
       checks = λ m. (eqb (unused m) 0, NoCredit) ∷ (isSome (tracked m (k .request .tag)), TagOpen) ∷ [];
       effect = λ m.
@@ -87,7 +87,7 @@ reading s t (TskMgmt k) =
       writes = rsp .code ∷ [];
       closes = false;
     }
-reading s t (CredRsp g) =
+reading s (CredRsp g) =
     record {
       checks = λ m. (not (m .wire .waiting && eqb g creditTag), CreditResponse) ∷ [];
       effect = λ m.
@@ -95,9 +95,9 @@ reading s t (CredRsp g) =
       writes = [];
       closes = false;
     }
-reading s t ILogout = record { checks = λ m. []; effect = λ m. withTracks m []; writes = []; closes = true }
+reading s ILogout = record { checks = λ m. []; effect = λ m. withTracks m []; writes = []; closes = true }
 
--- a refusal: "On refusals 1 and 9 the message stays there, else it leaves"; "any command that draws 10" was taken, and has ended
+-- a refusal: "On refusals 1 and 9 the message stays there, else it leaves", of which take draws 1 alone; "any command that draws 10" was taken, and has ended
 abbrev pub afterRefusal : Conduct → Machine → List (List ℕ) → Machine
 afterRefusal (hangsUp reason) m queue = withQueue m queue
 afterRefusal answered m queue = withWork (withQueue m queue) (tookRequest (m .work) (m .work .tracks) 1)
@@ -111,39 +111,68 @@ refusalWrites stays = []
 refusalWrites altersNothing = []
 
 -- take of the queue's front s, read as d, where ss is the rest of the queue
-module _ (s : List ℕ) (ss : List (List ℕ)) (t : Tables) (d : Message) where
+module _ (s : List ℕ) (ss : List (List ℕ)) (d : Message) where
   abbrev pub frontEffect : Machine → Option Refusal → Machine
-  frontEffect m none = reading s t d .effect (withQueue m ss)
+  frontEffect m none = reading s d .effect (withQueue m ss)
   frontEffect m (some f) = afterRefusal (conductOf f) m ss
 
   abbrev pub frontWrites : Option Refusal → List ℕ
-  frontWrites none = reading s t d .writes
+  frontWrites none = reading s d .writes
   frontWrites (some f) = refusalWrites (conductOf f)
 
   abbrev pub frontCloses : Option Refusal → Bool
-  frontCloses none = reading s t d .closes
+  frontCloses none = reading s d .closes
   frontCloses (some f) = false
 
--- "Take gets that queue's front, with any tables". "Calls are refused just where document 01 has it, no request of that initiator for credit"
-abbrev pub taking : Login → ℕ → Tables → Action
-taking L room t =
+-- "Take gets that queue's front", and "will no longer need the tables". "Calls are refused just where document 01 has it, no request of that initiator
+-- for credit"
+abbrev pub taking : Login → ℕ → Action
+taking L room =
     record {
       allowed = always;
-      call = λ p m. atFront (m .wire .toPort) (silent p Performed) (λ s ss. takeDef p room s t);
-      checks = λ m. atFront (m .wire .toPort) [] (λ s ss. short room ∷ reading s t (read L s) .checks m);
-      effect = λ m r. atFront (m .wire .toPort) m (λ s ss. frontEffect s ss t (read L s) m (refusalIn r));
-      writes = λ m r. atFront (m .wire .toPort) [] (λ s ss. frontWrites s ss t (read L s) (refusalIn r));
-      closes = λ m r. atFront (m .wire .toPort) false (λ s ss. frontCloses s ss t (read L s) (refusalIn r));
+      call = λ p m. atFront (m .wire .toPort) (silent p Performed) (λ s ss. takeDef p room s);
+      checks = λ m. atFront (m .wire .toPort) [] (λ s ss. short room ∷ reading s (read L s) .checks m);
+      effect = λ m r. atFront (m .wire .toPort) m (λ s ss. frontEffect s ss (read L s) m (refusalIn r));
+      writes = λ m r. atFront (m .wire .toPort) [] (λ s ss. frontWrites s ss (read L s) (refusalIn r));
+      closes = λ m r. atFront (m .wire .toPort) false (λ s ss. frontCloses s ss (read L s) (refusalIn r));
       answer = λ m r ss. r ≡ Refused NoCredit → ⊥;
     }
 
+-- ── tables
+
+-- "a new call brings the tables by tag", and "is an event of demand 3". "33 .. tables for one that isn't waiting; directly after 24"; "Refusals 9 and 10 are
+-- made there in such cases, 10 still answering the command": with code 02h, and the delta that the lift asks for
+abbrev pub bringing : ℕ → ℕ → Tables → Action
+bringing room tag t =
+    record {
+      allowed = always;
+      call = λ p m. tablesDef p room tag t;
+      checks = λ m.
+          short room
+          ∷ (not (isSome (tracked m tag)), TagNotOpen)
+          ∷ (not (isWaiting (tracked m tag)), Waiting)
+          ∷ (badLengths (awaitedBy (tracked m tag)) t, TableLength)
+          ∷ (badTables (awaitedBy (tracked m tag)) t, Fields)
+          ∷ [];
+      effect = λ m r. byTables (refusalIn r) (withTracks m (change (hasTag tag) (brought fresh t) (m .work .tracks))) (endedBy m tag) m;
+      writes = λ m r. byTables (refusalIn r) [] (rsp .code ∷ []) [];
+      closes = λ m r. false;
+      answer = λ m r ss.
+          r ≡ Refused Fields → (c : Track) → tracked m tag ≡ some c
+          → (delta : ℕ) × (ss ≡ answer (c .request .ucsolnt) (c .request .tag) 0x02 delta ∷ []);
+    }
+
 -- ── the owner's calls
+
+-- "33 plan, move, step or finish on a waiting command .. directly after 24"
+abbrev pub openTests : Machine → ℕ → List Check
+openTests m tag = (not (isSome (tracked m tag)), TagNotOpen) ∷ (isWaiting (tracked m tag), Waiting) ∷ []
 
 abbrev pub planning : ℕ → ℕ → ℕ → Owners
 planning tag out inn =
     record {
       call = λ p. planDef p tag out inn;
-      checks = λ m. (not (isSome (tracked m tag)), TagNotOpen) ∷ (isPlanned (tracked m tag), Planned) ∷ [];
+      checks = λ m. openTests m tag ++ ((isPlanned (tracked m tag), Planned) ∷ []);
       effect = λ m r. withTracks m (change (hasTag tag) (plannedFor out inn) (m .work .tracks));
       writes = [];
       answer = anything;
@@ -155,11 +184,11 @@ naming L tag d offset count =
     record {
       call = λ p. moveDef p tag d offset count;
       checks = λ m.
-          (not (isSome (tracked m tag)), TagNotOpen)
-          ∷ (not (isPlanned (tracked m tag)), Unplanned)
+          openTests m tag
+          ++ ((not (isPlanned (tracked m tag)), Unplanned)
           ∷ (isBeyond d offset (tracked m tag), Offset)
           ∷ (isUnfinished (L .terms) d (tracked m tag), Unfinished)
-          ∷ [];
+          ∷ []);
       effect = λ m r. withTracks m (change (hasTag tag) (onSide d (withMove offset count)) (m .work .tracks));
       writes = [];
       answer = anything;
@@ -169,7 +198,7 @@ abbrev pub stepping : Login → ℕ → Direction → Owners
 stepping L tag d =
     record {
       call = λ p. stepDef p tag d;
-      checks = λ m. (not (isSome (tracked m tag)), TagNotOpen) ∷ (not (isPlanned (tracked m tag)), Unplanned) ∷ [];
+      checks = λ m. openTests m tag ++ ((not (isPlanned (tracked m tag)), Unplanned) ∷ []);
       effect = λ m r. elim (operationIn r) [ none ↦ m | some o ↦ withTracks m (change (hasTag tag) (onSide d (withOperation o)) (m .work .tracks)) ];
       writes = [];
       answer = λ m r ss. (t : Track) → tracked m tag ≡ some t → Right (L .terms) d (of d (t .sides)) r;
@@ -180,10 +209,8 @@ abbrev pub finishing : ℕ → ℕ → ℕ → List ℕ → Owners
 finishing room tag status sense =
     record {
       call = λ p. finishDef p room tag status sense;
-      checks = λ m. short room ∷ (badSense status sense, Argument) ∷ (not (isSome (tracked m tag)), TagNotOpen) ∷ [];
-      effect = λ m r.
-          withWork m
-          (record { tracks = without (hasTag tag) (m .work .tracks); tags = m .work .tags; taken = m .work .taken; ended = m .work .ended + 1 });
+      checks = λ m. short room ∷ (badSense status sense, Argument) ∷ openTests m tag;
+      effect = λ m r. endedBy m tag;
       writes = rsp .code ∷ [];
       answer = λ m r ss. (t : Track) → tracked m tag ≡ some t → (delta : ℕ) × (ss ≡ response (finalBy t status sense delta) ∷ []);
     }
@@ -225,7 +252,8 @@ granting L room =
 pub data Event : Type 0 where
   sends : List ℕ → Event
   delivers : Event
-  takes : (room : ℕ) → Tables → Event
+  takes : (room : ℕ) → Event
+  brings : (room tag : ℕ) → Tables → Event
   plans : (tag out inn : ℕ) → Event
   names : (tag : ℕ) → Direction → (offset count : ℕ) → Event
   steps : (tag : ℕ) → Direction → Event
@@ -237,7 +265,8 @@ pub data Event : Type 0 where
 abbrev pub actionOf : Login → Event → Action
 actionOf L (sends s) = sending s
 actionOf L delivers = delivering
-actionOf L (takes room t) = taking L room t
+actionOf L (takes room) = taking L room
+actionOf L (brings room tag t) = bringing room tag t
 actionOf L (plans tag out inn) = byOwner (planning tag out inn)
 actionOf L (names tag d offset count) = byOwner (naming L tag d offset count)
 actionOf L (steps tag d) = byOwner (stepping L tag d)

@@ -1,6 +1,6 @@
--- Document 01, "Credit", from "The two-ended machine" on, and document 02, jobs 1, 4 and 5: the initiator, two queues and the port, fed the events' arguments,
--- the calls' replies and the messages written, as bytes. Of the port's state the machine is given nothing here, and D alone where specs/Demand.antt states
--- the sum. What each event does to it is specs/Events.antt.
+-- Document 01, "Credit", from "The two-ended machine" on, and document 02, jobs 1, 4, 5 and 7: the initiator, two queues and the port, fed the events'
+-- arguments, the calls' replies and the messages written, as bytes. Of the port's state the machine is given nothing here, and D alone where
+-- specs/Demand.antt states the sum. What each event does to it is specs/Events.antt.
 use mathlib.Core.Bool.{Bool, true, false, cond, not, _&&_, _||_}
 use mathlib.Core.List.{List, [], _∷_, _++_}
 use mathlib.Core.Option.{Option, none, some}
@@ -9,7 +9,7 @@ use lib.Dec.{eqb}
 use lib.ListN.{length}
 use Rattle.srp.specs.Bytes.{get, typeOf}
 use Rattle.srp.specs.Messages.{delta, rsp, credReq, tLogout}
-use Rattle.srp.specs.Lists.{find}
+use Rattle.srp.specs.Lists.{find, without}
 use Rattle.srp.specs.Both.{along}
 use Rattle.srp.specs.Descriptors.{Segment, sumOf}
 use Rattle.srp.specs.Requests.{isRequest, readMessage}
@@ -17,7 +17,7 @@ use Rattle.srp.specs.Cutting.{trimmed, highest}
 use Rattle.srp.specs.Credit.{Held, withSides}
 use Rattle.srp.specs.declared.Terms.{Terms}
 use Rattle.srp.specs.Writing.{residual, Response, solicited}
-use Rattle.srp.specs.Take.{hasTag, Tables, newlyHeld}
+use Rattle.srp.specs.Take.{hasTag, newlyHeld}
 use Rattle.srp.specs.Login.{termsOf}
 use Rattle.srp.specs.declared.Settings.{Settings}
 use Rattle.srp.specs.declared.Piece.{Piece}
@@ -88,9 +88,9 @@ Track = Held Progress
 abbrev pub fresh : List Segment → Progress
 fresh ss = record { segs = ss; required = 0; moves = []; operations = []; earlier = 0 }
 
--- "its segments those of its message or the tables lent for it"
-abbrev pub newTrack : Command → List ℕ → Tables → Track
-newTrack c s t = newlyHeld fresh c s t
+-- "its segments those of its message or the tables lent for it", which may come later: "with a fetch named, the command is open and waiting"
+abbrev pub newTrack : Command → List ℕ → Track
+newTrack c s = newlyHeld fresh c s
 
 abbrev pub needing : ℕ → Progress → Progress
 needing r g = record { segs = g .segs; required = r; moves = g .moves; operations = g .operations; earlier = g .earlier }
@@ -145,7 +145,7 @@ pub record Wire : Type 0 where
   pub toInitiator : List (List ℕ)
   pub waiting : Bool
 
--- the open commands; the tags of all that were ever open, in the order of taking; and how many requests were taken and ended
+-- the open commands, waiting or not; the tags of all that were ever open, in the order of taking; and how many requests were taken and ended
 pub record Work : Type 0 where
   pub tracks : List Track
   pub tags : List ℕ
@@ -227,9 +227,14 @@ withTracks m ts = withWork m (record { tracks = ts; tags = m .work .tags; taken 
 abbrev pub tookRequest : Work → List Track → ℕ → Work
 tookRequest w ts n = record { tracks = ts; tags = w .tags; taken = w .taken + 1; ended = w .ended + n }
 
--- a command more was taken, and is open
+-- a command more was taken, and is open; "It counts as held from the moment it was taken, also in the credit sum"
 abbrev pub tookCommand : Work → Track → Work
 tookCommand w t = record { tracks = w .tracks ++ (t ∷ []); tags = w .tags ++ (t .request .tag ∷ []); taken = w .taken + 1; ended = w .ended }
+
+-- the command with the tag has ended
+abbrev pub endedBy : Machine → ℕ → Machine
+endedBy m tag =
+    withWork m (record { tracks = without (hasTag tag) (m .work .tracks); tags = m .work .tags; taken = m .work .taken; ended = m .work .ended + 1 })
 
 -- "Each message written joins the queue to the initiator"
 abbrev pub joined : Machine → List ℕ → Machine

@@ -61,7 +61,7 @@ module _ (g : Given) (table : List ℕ) (r : GivenRanges g) where
   new-ranges : length table ≡ fetched (g .descriptor) → goodFields g table ≡ true → SideRanges (newSide (segments g table))
   new-ranges e good =
       let q = both (goodFormat g table) (reachable (segments g table)) good in
-      record { extent = record { few = few-segments g table r e; reach = q .1; sum = refl; small = small (q .0) }; highest = omega arith; at = omega arith; end = omega arith; number = omega arith; required = omega arith }
+      record { extent = record { few = few-segments g table (omega (arith, r .size)) (q .0) e; reach = q .1; sum = refl; small = small (q .0) }; highest = omega arith; at = omega arith; end = omega arith; number = omega arith; required = omega arith }
 
 none-ranges : SideRanges (newSide [])
 none-ranges =
@@ -142,7 +142,7 @@ Sane s (CredRsp g) = Unit {0}
 Sane s ILogout = Unit {0}
 
 -- no table is lent where none is to be fetched
-none-fit : (m n : ℕ) → not (eqb m 0 && eqb n 0) ≡ false → (eqb 0 m && eqb 0 n) ≡ true
+pub none-fit : (m n : ℕ) → not (eqb m 0 && eqb n 0) ≡ false → (eqb 0 m && eqb 0 n) ≡ true
 none-fit m n e =
     let q = both (eqb m 0) (eqb n 0) (not-false _ e) in
     rw (eqb-true m 0 (q .0), eqb-true n 0 (q .1)) refl

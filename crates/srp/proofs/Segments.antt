@@ -1,19 +1,19 @@
 -- A command that was taken has at most 32 segments each way; so how many operations one of its moves has at most.
 -- Assumes nothing.
 use mathlib.Core.Path.{_≡_, refl, ap}
-use mathlib.Core.Bool.{Bool, true, false, cond, not, _&&_}
-use mathlib.Core.List.{List}
+use mathlib.Core.Bool.{Bool, true, false, cond, not, _&&_, _||_}
+use mathlib.Core.List.{List, []}
 use Prim.Native.Nat.{ℕ, zero, suc, _+_, _-_, _*_, _/_, _^_, _≤_}
 use native.Mathlib.Omega.{arith}
 use lib.Dec.{leb, eqb}
-use lib.ListN.{length, drop}
-use borrow.Author.Tests.{leb-true}
+use lib.ListN.{length, take, drop, length-take}
+use borrow.Author.Tests.{leb-true, eqb-true}
 use Rattle.srp.specs.Limits.{mostCopies, longestTable}
-use Rattle.srp.specs.Descriptors.{Segment, segmentsIn, goodTable, whole, fetched, Given, chosen, segments}
+use Rattle.srp.specs.Descriptors.{Segment, segmentsIn, goodTable, whole, fetched, copies, standing, standingSize, Given, chosen, segments, goodIndirect, goodFormat}
 use Rattle.srp.specs.Cutting.{cutsOf}
 use Rattle.srp.specs.Credit.{ruleOf}
 use Rattle.srp.specs.Fewest.{touched, crossed}
-use Rattle.srp.specs.Ranges.{mostOperations, OperationsAtMost, GivenRanges}
+use Rattle.srp.specs.Ranges.{mostOperations, OperationsAtMost}
 use Rattle.srp.specs.declared.Descriptor.{Descriptor}
 use Rattle.srp.proofs.FieldLaws.{both}
 use Rattle.srp.proofs.Bound.{quotient-grows, cuts-bound, few-touched, few-crossed}
@@ -22,33 +22,42 @@ pub segments-count : (n : ℕ) (l : List ℕ) → length (segmentsIn n l) ≡ n
 segments-count zero l = refl
 segments-count (suc n) l = ap suc (segments-count n (drop 16 l))
 
+table-short : (n : ℕ) → goodTable n ≡ true → n ≤ longestTable
+table-short n e = leb-true n longestTable (both (leb n longestTable) _ (both (leb 16 n) _ e .1) .0)
+
 -- F is at most 512
 fetched-short : (d : Descriptor) → fetched d ≤ longestTable
 fetched-short d = go (eqb (d .format) 2 && (goodTable (d .len) && not (whole d))) refl
   where
     go : (b : Bool) → (eqb (d .format) 2 && (goodTable (d .len) && not (whole d))) ≡ b → cond b (d .len) 0 ≤ longestTable
-    go true e =
-        let good = both (goodTable (d .len)) (not (whole d)) (both (eqb (d .format) 2) _ e .1) .0 in
-        leb-true (d .len) longestTable (both (leb (d .len) longestTable) _ (both (leb 16 (d .len)) _ good .1) .0)
+    go true e = table-short (d .len) (both (goodTable (d .len)) (not (whole d)) (both (eqb (d .format) 2) _ e .1) .0)
     go false e = omega arith
 
--- what stands in a message of a direction is at most 512 bytes
-given-short : (g : Given) → GivenRanges g → length (g .bytes) ≤ longestTable
-given-short g r = go (eqb (g .descriptor .format) 1) (eqb (g .descriptor .format) 2) (r .size)
+-- a message has no more of a direction's memory descriptors than its descriptor says
+pub given-short : (d : Descriptor) (s : List ℕ) → length (standing d s) ≤ standingSize d
+given-short d s = go (eqb (d .format) 1) (eqb (d .format) 2)
   where
-    go : (x y : Bool) → length (g .bytes) ≡ cond x 16 (cond y (16 * g .descriptor .count) 0) → length (g .bytes) ≤ longestTable
-    go true y e = omega arith
-    go false true e = omega (arith, r .count)
-    go false false e = omega arith
+    go : (x y : Bool) → length (cond x (take 16 (drop (d .at) s)) (cond y (copies d s) [])) ≤ cond x 16 (cond y (16 * d .count) 0)
+    go true y = omega (arith, length-take 16 (drop (d .at) s))
+    go false true = omega (arith, length-take (16 * d .count) (drop (d .at + 20) s))
+    go false false = omega arith
 
--- so a direction has at most 32 segments, where the lent table is as long as was fetched
-pub few-segments : (g : Given) (table : List ℕ) → GivenRanges g → length table ≡ fetched (g .descriptor) → length (segments g table) ≤ mostCopies
-few-segments g table r e = omega (arith, segments-count (length (chosen g table) / 16) (chosen g table), short (eqb (g .descriptor .format) 2) (whole (g .descriptor)))
+-- so a direction has at most 32 segments, where its format has no bad field and the lent table is as long as was fetched
+pub few-segments : (g : Given) (table : List ℕ) → length (g .bytes) ≤ standingSize (g .descriptor) → goodFormat g table ≡ true
+    → length table ≡ fetched (g .descriptor) → length (segments g table) ≤ mostCopies
+few-segments g table r good e =
+    omega (arith, segments-count (length (chosen g table) / 16) (chosen g table), short (eqb (d .format) 1) (eqb (d .format) 2) (whole d) refl r good)
   where
-    short : (y w : Bool) → length (cond y (cond w (g .bytes) table) (g .bytes)) ≤ longestTable
-    short true true = given-short g r
-    short true false = omega (arith, e, fetched-short (g .descriptor))
-    short false w = given-short g r
+    d : Descriptor
+    d = g .descriptor
+
+    short : (x y w : Bool) → whole d ≡ w → length (g .bytes) ≤ cond x 16 (cond y (16 * d .count) 0) → (not y || goodIndirect g table) ≡ true
+        → length (cond y (cond w (g .bytes) table) (g .bytes)) ≤ longestTable
+    short true true true f h q = omega arith
+    short false true true f h q = omega (arith, eqb-true (d .len) (16 * d .count) f, table-short (d .len) (both (goodTable (d .len)) _ q .0))
+    short x true false f h q = omega (arith, e, fetched-short d)
+    short true false w f h q = omega arith
+    short false false w f h q = omega arith
 
 -- ── a move's operations
 
