@@ -1,17 +1,16 @@
 -- What document 01 has cutlist print is the text of what the message comes to.
 -- Assumes nothing.
 use mathlib.Core.Path.{_≡_, refl}
-use mathlib.Core.Bool.{Bool, true, false, cond, not, _||_}
+use mathlib.Core.Bool.{Bool, true, false, cond, not}
 use mathlib.Core.List.{List, [], _++_}
 use mathlib.Core.Option.{Option, none, some}
 use Prim.Native.Nat.{ℕ}
-use lib.Dec.{eqb}
 use Rattle.srp.specs.Limits.{longestAgreed, bothFormats}
 use Rattle.srp.specs.Refusals.{firstOf}
-use Rattle.srp.specs.Descriptors.{Segment, segments, fetched}
+use Rattle.srp.specs.Descriptors.{Segment, given, segments}
 use Rattle.srp.specs.Requests.{lookChecks, commandOf}
-use Rattle.srp.specs.Take.{fieldsFit}
-use Rattle.srp.specs.Outside.{noTables, operationLines, wholeCuts, refusedLine, fetchLine, cutlistOf, cutlist}
+use Rattle.srp.specs.Take.{noTables, givenIn, waits, fieldsFit}
+use Rattle.srp.specs.Outside.{operationLines, wholeCuts, refusedLine, fetchLine, cutlistOf, cutlist}
 use Rattle.srp.specs.declared.Refusal.{Refusal}
 use Rattle.srp.specs.declared.Refusal.the-variants.{Fields}
 use Rattle.srp.specs.declared.Kind.the-variants.{Read, Write}
@@ -24,13 +23,13 @@ use Rattle.cutlist.proofs.Filling.{whole-lines}
 module _ (s : List ℕ) where
   -- of a command that look takes
   command-text : (c : Command) → cutlistOf c s ≡ textOf (operationsOf c s) s
-  command-text c = go (not (eqb (fetched (c .out)) 0) || not (eqb (fetched (c .inn)) 0)) (not (fieldsFit c s noTables))
+  command-text c = go (waits c) (not (fieldsFit (givenIn c s) noTables))
     where
       out : List Segment
-      out = segments (c .out) s []
+      out = segments (given (c .out) s) []
 
       inn : List Segment
-      inn = segments (c .inn) s []
+      inn = segments (given (c .inn) s) []
 
       go : (f g : Bool)
           → cond f fetchLine (cond g (refusedLine Fields) (operationLines Read (wholeCuts out) ++ operationLines Write (wholeCuts inn)))

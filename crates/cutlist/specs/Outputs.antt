@@ -1,16 +1,15 @@
 -- What a message comes to, and the text of that.
 use mathlib.Core.Path.{_≡_}
-use mathlib.Core.Bool.{true, cond, not, _||_}
+use mathlib.Core.Bool.{true, cond, not}
 use mathlib.Core.List.{List, [], _++_}
 use mathlib.Core.Option.{none, some}
 use Prim.Native.Nat.{ℕ}
-use lib.Dec.{eqb}
 use Rattle.srp.specs.Limits.{longestAgreed, bothFormats}
 use Rattle.srp.specs.Refusals.{firstOf}
-use Rattle.srp.specs.Descriptors.{segments, sumOf, reachable, fetched}
+use Rattle.srp.specs.Descriptors.{given, segments, sumOf, reachable}
 use Rattle.srp.specs.Requests.{lookChecks, commandOf}
-use Rattle.srp.specs.Take.{fieldsFit}
-use Rattle.srp.specs.Outside.{noTables, refusedLine, fetchLine}
+use Rattle.srp.specs.Take.{noTables, givenIn, waits, fieldsFit}
+use Rattle.srp.specs.Outside.{refusedLine, fetchLine}
 use Rattle.srp.specs.declared.Refusal.the-variants.{Fields}
 use Rattle.srp.specs.declared.Kind.{Kind}
 use Rattle.srp.specs.declared.Kind.the-variants.{Read, Write}
@@ -23,13 +22,13 @@ use Rattle.cutlist.specs.declared.output.Output.{Output}
 use Rattle.cutlist.specs.declared.output.Output.the-variants.{Refused, Fetch, Operations}
 
 abbrev pub bufferOf : Descriptor → List ℕ → Buffer
-bufferOf d s = record { descriptor = d; total = sumOf (segments d s []) }
+bufferOf d s = record { descriptor = d; total = sumOf (segments (given d s) []) }
 
 -- of a command that look takes: ""fetch" only, ahead of 10"
 abbrev pub operationsOf : Command → List ℕ → Output
 operationsOf c s =
-    cond (not (eqb (fetched (c .out)) 0) || not (eqb (fetched (c .inn)) 0)) Fetch
-    (cond (not (fieldsFit c s noTables)) (Refused Fields) (Operations (bufferOf (c .out) s) (bufferOf (c .inn) s)))
+    cond (waits c) Fetch
+    (cond (not (fieldsFit (givenIn c s) noTables)) (Refused Fields) (Operations (bufferOf (c .out) s) (bufferOf (c .inn) s)))
 
 abbrev pub outputOf : List ℕ → Output
 outputOf s = elim (firstOf (lookChecks longestAgreed bothFormats s)) [ none ↦ operationsOf (commandOf s) s | some r ↦ Refused r ]
@@ -37,8 +36,8 @@ outputOf s = elim (firstOf (lookChecks longestAgreed bothFormats s)) [ none ↦ 
 -- a buffer inside the message s, whose segments end by 2^64
 pub record Ready (s : List ℕ) (b : Buffer) : Type 0 where
   pub within : LiesIn s (b .descriptor)
-  pub reach : reachable (segments (b .descriptor) s []) ≡ true
-  pub total : b .total ≡ sumOf (segments (b .descriptor) s [])
+  pub reach : reachable (segments (given (b .descriptor) s) []) ≡ true
+  pub total : b .total ≡ sumOf (segments (given (b .descriptor) s) [])
 
 -- what is known when no check hit
 abbrev pub Printable : List ℕ → Output → Type 0
@@ -47,7 +46,7 @@ Printable s Fetch = Unit {0}
 Printable s (Operations out inn) = Ready s out × Ready s inn
 
 abbrev pub linesOf : Kind → Buffer → List ℕ → List ℕ
-linesOf k b s = linesFrom k 0 (b .total) (segments (b .descriptor) s [])
+linesOf k b s = linesFrom k 0 (b .total) (segments (given (b .descriptor) s) [])
 
 -- what is printed
 abbrev pub textOf : Output → List ℕ → List ℕ

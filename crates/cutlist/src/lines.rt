@@ -39,7 +39,7 @@ fn put_number(text: &mut [u8], at: usize, n: u64, count: usize) -> usize
     text::put_byte(text, end, SPACE)
 }
 
-// The number below 1,000 that a line ends with: no piece is longer than 512, no refusal above 32.
+// The number below 1,000 that a line ends with: no piece is longer than 512, no refusal above 33.
 fn put_last(text: &mut [u8], at: usize, n: u32) -> usize
     requires { ⌜ (n < 1000) × (at + 4 ≤ length (now text)) ⌝ }
     ensures { λ r. ⌜ Appends (now (text .entry)) at (decimal n ++ (0x0a ∷ [])) (now (text .exit)) r ⌝ }

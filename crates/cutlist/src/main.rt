@@ -28,7 +28,7 @@ fn main() {
     print(&input[..n]);
 }
 
-fn print<'a>(msg: &'a [u8]) {
+fn print(msg: &[u8]) {
     match output::output_of(msg) {
         Output::Refused(refusal) => print_refusal(refusal),
         Output::Fetch => {
@@ -47,12 +47,12 @@ fn print_refusal(refusal: Refusal) {
     io::write_all(STDOUT_FILENO, &line[..n]);
 }
 
-fn print_buffer<'a>(msg: &'a [u8], kind: Kind, buffer: Buffer)
+fn print_buffer(msg: &[u8], kind: Kind, buffer: Buffer)
     requires { ⌜ Ready (now msg) buffer ⌝ }
 {
     let descriptor = buffer.descriptor;
     print_operations(
-        command::segment_list(msg, &msg[0..0], descriptor),
+        command::segment_list(command::standing(msg, descriptor), &msg[0..0], descriptor),
         kind,
         buffer.total,
     );

@@ -41,22 +41,19 @@ pub struct Filled {
     pub from: u32,
 }
 
-fn operations<'a>(msg: &'a [u8], c: Command) -> Output
+fn operations(msg: &[u8], c: Command) -> Output
     requires { ⌜ FitsIn (now msg) c ⌝ }
     ensures { λ r. ⌜ (r ≡ operationsOf c (now (msg .entry))) × Printable (now (msg .entry)) r ⌝ }
 {
     let out = c.out;
     let inn = c.inn;
-    if command::fetched_length(out) != 0 {
+    if command::waits(c) {
         return Output::Fetch;
     }
-    if command::fetched_length(inn) != 0 {
-        return Output::Fetch;
-    }
-    let Total::Sum(out_total) = command::fields(msg, &msg[0..0], out) else {
+    let Total::Sum(out_total) = command::fields(command::standing(msg, out), &msg[0..0], out) else {
         return Output::Refused(Refusal::Fields);
     };
-    let Total::Sum(in_total) = command::fields(msg, &msg[0..0], inn) else {
+    let Total::Sum(in_total) = command::fields(command::standing(msg, inn), &msg[0..0], inn) else {
         return Output::Refused(Refusal::Fields);
     };
     Output::Operations(
@@ -71,7 +68,7 @@ fn operations<'a>(msg: &'a [u8], c: Command) -> Output
     )
 }
 
-pub fn output_of<'a>(msg: &'a [u8]) -> Output
+pub fn output_of(msg: &[u8]) -> Output
     ensures { λ r. ⌜ (r ≡ outputOf (now (msg .entry))) × Printable (now (msg .entry)) r ⌝ }
 {
     match command::look_command(msg, LONGEST_AGREED, BOTH_FORMATS) {
