@@ -7,7 +7,7 @@ use types.Run.{OneOf, miss}
 use Rattle.srp.proofs.Refusal as refusal
 use Rattle.srp.proofs.Reply as reply
 use Rattle.srp.specs.declared.Refusal.{Refusal}
-use Rattle.srp.specs.declared.Refusal.the-variants.{ShortBuffer, Setting, Length, OtherType, OutFormat, InFormat, OutCount, InCount, TableLength, Fields, Argument, Closed, NoCredit, TagOpen, TagNotOpen, CreditResponse, Unanswered, NotOwed, Wanted, Unplanned, Planned, Offset, Unfinished}
+use Rattle.srp.specs.declared.Refusal.the-variants.{ShortBuffer, Setting, Length, OtherType, OutFormat, InFormat, OutCount, InCount, TableLength, Fields, Argument, Closed, NoCredit, TagOpen, TagNotOpen, CreditResponse, Unanswered, NotOwed, Wanted, Unplanned, Planned, Offset, Unfinished, Waiting}
 use Rattle.srp.specs.declared.Reply.{Reply}
 use Rattle.srp.specs.declared.Reply.the-variants.{Refused, Performed, NewCommand, TaskAnswered, CreditSettled, LoggedOut, Operation, Done, Accepted, Rejected, Counts, Listed}
 use Rattle.srp.specs.Refusals.{conductOf, reasonIn}
@@ -21,7 +21,7 @@ others = 1 ∷ 2 ∷ 3 ∷ 4 ∷ 5 ∷ 6 ∷ 7 ∷ 8 ∷ 9 ∷ 10 ∷ 11 ∷ []
 pub unrefused : (r : Reply) → OneOf others (tagOf reply.the-type r) → 0 ≡ def.returned r
 unrefused (Refused f) k = absurd (miss others 0 tt k)
 unrefused Performed k = refl
-unrefused (NewCommand tag lun cdb) k = refl
+unrefused (NewCommand tag lun cdb waits) k = refl
 unrefused (TaskAnswered tag lun) k = refl
 unrefused CreditSettled k = refl
 unrefused LoggedOut k = refl
@@ -34,7 +34,7 @@ unrefused (Listed n) k = refl
 
 -- all refusals but 5, 6, 7 and 8
 abbrev plain : List ℕ
-plain = 0 ∷ 1 ∷ 2 ∷ 3 ∷ 8 ∷ 9 ∷ 10 ∷ 11 ∷ 12 ∷ 13 ∷ 14 ∷ 15 ∷ 16 ∷ 17 ∷ 18 ∷ 19 ∷ 20 ∷ 21 ∷ 22 ∷ []
+plain = 0 ∷ 1 ∷ 2 ∷ 3 ∷ 8 ∷ 9 ∷ 10 ∷ 11 ∷ 12 ∷ 13 ∷ 14 ∷ 15 ∷ 16 ∷ 17 ∷ 18 ∷ 19 ∷ 20 ∷ 21 ∷ 22 ∷ 23 ∷ []
 
 -- they have no reason of their own
 pub no-reason : (r : Refusal) → OneOf plain (tagOf refusal.the-type r) → 0 ≡ reasonIn (conductOf r)
@@ -61,3 +61,4 @@ no-reason Unplanned k = refl
 no-reason Planned k = refl
 no-reason Offset k = refl
 no-reason Unfinished k = refl
+no-reason Waiting k = refl

@@ -13,7 +13,7 @@ use Rattle.srp.specs.declared.Answer.{Answer}
 abbrev pub leading : ℕ → Reply → List ℤ
 leading wrote (Refused f) = pos wrote ∷ []
 leading wrote Performed = pos wrote ∷ []
-leading wrote (NewCommand tag lun cdb) = pos wrote ∷ pos 1 ∷ []
+leading wrote (NewCommand tag lun cdb waits) = pos wrote ∷ pos 1 ∷ []
 leading wrote (TaskAnswered tag lun) = pos wrote ∷ pos 2 ∷ []
 leading wrote CreditSettled = pos wrote ∷ pos 3 ∷ []
 leading wrote LoggedOut = pos wrote ∷ pos 4 ∷ []

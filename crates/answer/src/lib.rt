@@ -52,6 +52,7 @@ pub fn number_of(refusal: Refusal) -> u32
         Refusal::Planned => 30,
         Refusal::Offset => 31,
         Refusal::Unfinished => 32,
+        Refusal::Waiting => 33,
     }
 }
 
@@ -148,8 +149,8 @@ pub fn counter_words(c: Counters) -> [u64; 8]
 }
 
 // Those of a command.
-pub fn command_words(wrote: usize, tag: u64, lun: u64, cdb: usize) -> [u64; 8]
-    ensures { λ r. ⌜ r ≡ answerWords (record { reply = NewCommand tag lun cdb; wrote = wrote }) ⌝ }
+pub fn command_words(wrote: usize, tag: u64, lun: u64, cdb: usize, waits: bool) -> [u64; 8]
+    ensures { λ r. ⌜ r ≡ answerWords (record { reply = NewCommand tag lun cdb waits; wrote = wrote }) ⌝ }
 {
     [
         wrote as u64,
@@ -158,7 +159,7 @@ pub fn command_words(wrote: usize, tag: u64, lun: u64, cdb: usize) -> [u64; 8]
         lun,
         CDB as u64,
         cdb as u64,
-        0,
+        waits as u64,
         0,
     ]
 }
@@ -172,7 +173,12 @@ pub fn words_of(a: Answer) -> [u64; 8]
     match reply {
         Reply::Refused(_) => [wrote, 0, 0, 0, 0, 0, 0, 0],
         Reply::Performed => [wrote, 0, 0, 0, 0, 0, 0, 0],
-        Reply::NewCommand { tag, lun, cdb } => command_words(a.wrote, tag, lun, cdb),
+        Reply::NewCommand {
+            tag,
+            lun,
+            cdb,
+            waits,
+        } => command_words(a.wrote, tag, lun, cdb, waits),
         Reply::TaskAnswered { tag, lun } => [wrote, TASK, tag, lun, 0, 0, 0, 0],
         Reply::CreditSettled => [wrote, CREDIT_RESPONSE, 0, 0, 0, 0, 0, 0],
         Reply::LoggedOut => [wrote, LOGOUT, 0, 0, 0, 0, 0, 0],
