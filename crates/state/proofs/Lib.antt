@@ -3,3 +3,4 @@ pub mod Altered
 pub mod Held
 pub mod Answering
 pub mod Opened
+pub mod Waiting

@@ -9,9 +9,10 @@ use Rattle.srp.specs.Lists.{find, change}
 use Rattle.srp.specs.Credit.{movable, Open, Port, withHeld}
 use Rattle.srp.specs.Both.{of}
 use Rattle.srp.specs.Take.{silent, hasTag}
+use Rattle.srp.specs.Tables.{isWaiting}
 use Rattle.srp.specs.Calls.{planDef, planned, hasPieces, moveOutcome, moveDef, stepOutcome, stepDef}
 use Rattle.srp.specs.declared.Direction.{Direction}
-use Rattle.srp.specs.declared.Refusal.the-variants.{Closed, TagNotOpen, Unplanned, Planned, Offset, Unfinished}
+use Rattle.srp.specs.declared.Refusal.the-variants.{Closed, TagNotOpen, Unplanned, Planned, Offset, Unfinished, Waiting}
 use Rattle.srp.specs.declared.Reply.the-variants.{Refused, Performed}
 
 -- ── plan
@@ -27,14 +28,19 @@ module _ (p : Port) (tag out inn : ℕ) where
     plan-unknown e = rw (live, e) refl
 
     module _ (c : Open) (found : find (hasTag tag) (p .held) ≡ some c) where
-      -- 30
-      pub plan-again : c .planned ≡ true → planDef p tag out inn ≡ silent p (Refused Planned)
-      plan-again e = rw (live, found, e) refl
+      -- 33
+      pub plan-waiting : isWaiting (some c) ≡ true → planDef p tag out inn ≡ silent p (Refused Waiting)
+      plan-waiting e = rw (live, found, e) refl
 
-      -- none of them
-      pub plan-passed : c .planned ≡ false
-          → planDef p tag out inn ≡ silent (withHeld p (p .announced) (change (hasTag tag) (planned out inn) (p .held))) Performed
-      plan-passed e = rw (live, found, e) refl
+      module _ (ready : isWaiting (some c) ≡ false) where
+        -- 30
+        pub plan-again : c .planned ≡ true → planDef p tag out inn ≡ silent p (Refused Planned)
+        plan-again e = rw (live, found, ready, e) refl
+
+        -- none of them
+        pub plan-passed : c .planned ≡ false
+            → planDef p tag out inn ≡ silent (withHeld p (p .announced) (change (hasTag tag) (planned out inn) (p .held))) Performed
+        plan-passed e = rw (live, found, ready, e) refl
 
 -- ── move
 
@@ -49,23 +55,28 @@ module _ (p : Port) (tag : ℕ) (d : Direction) (offset count : ℕ) where
     move-unknown e = rw (live, e) refl
 
     module _ (c : Open) (found : find (hasTag tag) (p .held) ≡ some c) where
-      -- 29
-      pub move-unplanned : not (c .planned) ≡ true → moveDef p tag d offset count ≡ silent p (Refused Unplanned)
-      move-unplanned e = rw (live, found, e) refl
+      -- 33
+      pub move-waiting : isWaiting (some c) ≡ true → moveDef p tag d offset count ≡ silent p (Refused Waiting)
+      move-waiting e = rw (live, found, e) refl
 
-      module _ (planned : c .planned ≡ true) where
-        -- 31
-        pub move-beyond : ltb (movable (of d (c .sides))) offset ≡ true → moveDef p tag d offset count ≡ silent p (Refused Offset)
-        move-beyond e = rw (live, found, planned, e) refl
+      module _ (ready : isWaiting (some c) ≡ false) where
+        -- 29
+        pub move-unplanned : not (c .planned) ≡ true → moveDef p tag d offset count ≡ silent p (Refused Unplanned)
+        move-unplanned e = rw (live, found, ready, e) refl
 
-        module _ (low : ltb (movable (of d (c .sides))) offset ≡ false) where
-          -- 32
-          pub move-unfinished : hasPieces (of d (c .sides)) ≡ true → moveDef p tag d offset count ≡ silent p (Refused Unfinished)
-          move-unfinished e = rw (live, found, planned, low, e) refl
+        module _ (planned : c .planned ≡ true) where
+          -- 31
+          pub move-beyond : ltb (movable (of d (c .sides))) offset ≡ true → moveDef p tag d offset count ≡ silent p (Refused Offset)
+          move-beyond e = rw (live, found, ready, planned, e) refl
 
-          -- none of them
-          pub move-passed : hasPieces (of d (c .sides)) ≡ false → moveDef p tag d offset count ≡ moveOutcome p tag d offset count
-          move-passed e = rw (live, found, planned, low, e) refl
+          module _ (low : ltb (movable (of d (c .sides))) offset ≡ false) where
+            -- 32
+            pub move-unfinished : hasPieces (of d (c .sides)) ≡ true → moveDef p tag d offset count ≡ silent p (Refused Unfinished)
+            move-unfinished e = rw (live, found, ready, planned, low, e) refl
+
+            -- none of them
+            pub move-passed : hasPieces (of d (c .sides)) ≡ false → moveDef p tag d offset count ≡ moveOutcome p tag d offset count
+            move-passed e = rw (live, found, ready, planned, low, e) refl
 
 -- ── step
 
@@ -80,10 +91,15 @@ module _ (p : Port) (tag : ℕ) (d : Direction) where
     step-unknown e = rw (live, e) refl
 
     module _ (c : Open) (found : find (hasTag tag) (p .held) ≡ some c) where
-      -- 29
-      pub step-unplanned : not (c .planned) ≡ true → stepDef p tag d ≡ silent p (Refused Unplanned)
-      step-unplanned e = rw (live, found, e) refl
+      -- 33
+      pub step-waiting : isWaiting (some c) ≡ true → stepDef p tag d ≡ silent p (Refused Waiting)
+      step-waiting e = rw (live, found, e) refl
 
-      -- none of them
-      pub step-passed : not (c .planned) ≡ false → stepDef p tag d ≡ stepOutcome p tag d
-      step-passed e = rw (live, found, e) refl
+      module _ (ready : isWaiting (some c) ≡ false) where
+        -- 29
+        pub step-unplanned : not (c .planned) ≡ true → stepDef p tag d ≡ silent p (Refused Unplanned)
+        step-unplanned e = rw (live, found, ready, e) refl
+
+        -- none of them
+        pub step-passed : not (c .planned) ≡ false → stepDef p tag d ≡ stepOutcome p tag d
+        step-passed e = rw (live, found, ready, e) refl

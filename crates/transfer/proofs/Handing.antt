@@ -13,6 +13,7 @@ use Rattle.srp.specs.Lists.{find}
 use Rattle.srp.specs.Both.{of}
 use Rattle.srp.specs.Credit.{Side, movable, onSide, Open, Port}
 use Rattle.srp.specs.Take.{hasTag}
+use Rattle.srp.specs.Tables.{isWaiting}
 use Rattle.srp.specs.Calls.{moving, hasPieces, kindOf, handing, nextIn, nextOf, numberIn, handOut, stepOutcome}
 use Rattle.srp.specs.declared.Direction.{Direction}
 use Rattle.srp.specs.declared.Terms.{Terms}
@@ -30,6 +31,7 @@ use Rattle.words.specs.declared.Part.{Part}
 use Rattle.words.proofs.Ports.{while-open, view-live}
 use Rattle.state.specs.Changes.{FoundAt}
 use Rattle.state.proofs.Promises.{refused, replies-by, performed, changed-view, found-first}
+use Rattle.state.proofs.Waiting.{waits-as}
 use Rattle.transfer.specs.Stepping.{Names, HandsOut}
 use Rattle.transfer.proofs.Checks.{move-beyond, move-unfinished, move-passed}
 use Rattle.transfer.proofs.Pieces.{side-read, no-piece, a-piece}
@@ -44,10 +46,14 @@ module _ {l : List ℕ} {tag i : ℕ} (F : FoundAt l tag i) (live : headOf l .li
 
   -- ── a move
 
-  module _ (d : Direction) (offset count : ℕ) {p : Part} (P : PartIs l i d p) (planned : getD (slots l) i noSlot .planned ≡ true) where
+  module _ (d : Direction) (offset count : ℕ) {p : Part} (P : PartIs l i d p)
+      (ready : getD (slots l) i noSlot .awaits .waiting ≡ false) (planned : getD (slots l) i noSlot .planned ≡ true) where
     -- its direction, by what was read
     read-side : (st : List ℕ) → of d (here st .sides) ≡ sideOf st (placeAt d (getD (slots l) i noSlot .place)) p
     read-side st = side-read st (getD (slots l) i noSlot) d (P .whole) refl
+
+    unwaiting : (st : List ℕ) → isWaiting (some (here st)) ≡ false
+    unwaiting st = waits-as st (getD (slots l) i noSlot) ∙ ready
 
     same-bound : (st : List ℕ) {b : Bool} → ltb (min (p .transfer .required) (p .total)) offset ≡ b → ltb (movable (of d (here st .sides))) offset ≡ b
     same-bound st e = ap (λ (s : Side). ltb (movable s) offset) (read-side st) ∙ e
@@ -58,7 +64,7 @@ module _ {l : List ℕ} {tag i : ℕ} (F : FoundAt l tag i) (live : headOf l .li
     -- 31
     pub too-far : min (p .transfer .required) (p .total) < offset → Names l l tag d offset count (Refused Offset)
     too-far e st =
-        replies-by (move-beyond (view l st) tag d offset count (open-view st) (here st) (found-first F live st) planned (same-bound st (lt-ltb (min (p .transfer .required) (p .total)) offset e)))
+        replies-by (move-beyond (view l st) tag d offset count (open-view st) (here st) (found-first F live st) (unwaiting st) planned (same-bound st (lt-ltb (min (p .transfer .required) (p .total)) offset e)))
         (refused l st Offset)
 
     module _ (low : offset ≤ min (p .transfer .required) (p .total)) where
@@ -68,7 +74,7 @@ module _ {l : List ℕ} {tag i : ℕ} (F : FoundAt l tag i) (live : headOf l .li
       -- 32
       pub under-way : p .transfer .at < p .transfer .end → Names l l tag d offset count (Refused Unfinished)
       under-way e st =
-          replies-by (move-unfinished (view l st) tag d offset count (open-view st) (here st) (found-first F live st) planned (within st) (same-pieces st (lt-ltb (p .transfer .at) (p .transfer .end) e)))
+          replies-by (move-unfinished (view l st) tag d offset count (open-view st) (here st) (found-first F live st) (unwaiting st) planned (within st) (same-pieces st (lt-ltb (p .transfer .at) (p .transfer .end) e)))
           (refused l st Unfinished)
 
       -- none of them
@@ -76,7 +82,7 @@ module _ {l : List ℕ} {tag i : ℕ} (F : FoundAt l tag i) (live : headOf l .li
           → ((st : List ℕ) → openOf st (movedSlot d (p .transfer .highest) offset to 0 (getD (slots l) i noSlot)) ≡ onSide d (moving offset count) (here st))
           → Names l l′ tag d offset count Performed
       begun {l′} to e C a st =
-          replies-by (move-passed (view l st) tag d offset count (open-view st) (here st) (found-first F live st) planned (within st) (same-pieces st (le-ltb (p .transfer .at) (p .transfer .end) e)))
+          replies-by (move-passed (view l st) tag d offset count (open-view st) (here st) (found-first F live st) (unwaiting st) planned (within st) (same-pieces st (le-ltb (p .transfer .at) (p .transfer .end) e)))
           (performed refl (changed-view l l′ st live F C (onSide d (moving offset count)) (a st)) refl refl)
 
   -- ── a step

@@ -13,8 +13,9 @@ use words::PORT;
 use words::Part;
 use words::STORE;
 use words::commands;
+use words::waiting;
 ghost use mathlib.Core.Path.{_≡_};
-ghost use mathlib.Core.Bool.{true};
+ghost use mathlib.Core.Bool.{true, false};
 ghost use Prim.Native.Nat.{_≤_, _<_, _+_, max};
 ghost use lib.ListN.{length, getD};
 ghost use Rattle.srp.specs.Limits.{mostCopies};
@@ -27,7 +28,7 @@ ghost use Rattle.words.specs.View.{sideOf};
 ghost use Rattle.state.specs.Changes.{FoundAt};
 ghost use Rattle.transfer.specs.Stepping.{Plans, Names, Steps, HandsOut};
 
-// States what a command requires each way. Refused 21, 24, 30.
+// States what a command requires each way. Refused 21, 24, 33, 30.
 pub fn plan(s: &mut [u64; PORT], tag: u64, out: u32, inn: u32) -> Reply
     ensures { λ r. ⌜ Plans (now (s .entry)) (now (s .exit)) tag out inn r ⌝ }
 {
@@ -39,6 +40,9 @@ pub fn plan(s: &mut [u64; PORT], tag: u64, out: u32, inn: u32) -> Reply
     let Found::At(i) = state::find(s, tag) else {
         return Reply::Refused(Refusal::TagNotOpen);
     };
+    if waiting::load_waiting(s, i) {
+        return Reply::Refused(Refusal::Waiting);
+    }
     if commands::load_planned(s, i) {
         return Reply::Refused(Refusal::Planned);
     }
@@ -51,6 +55,7 @@ fn begin(s: &mut [u64], tag: u64, i: usize, d: Direction, offset: u32, count: u3
     requires { ⌜ length (now s) ≡ portWords ⌝ }
     requires { ⌜ headOf (now s) .live ≡ true ⌝ }
     requires { ⌜ FoundAt (now s) tag i ⌝ }
+    requires { ⌜ getD (slots (now s)) i noSlot .awaits .waiting ≡ false ⌝ }
     requires { ⌜ getD (slots (now s)) i noSlot .planned ≡ true ⌝ }
     ensures { λ r. ⌜ Names (now (s .entry)) (now (s .exit)) tag d offset count r ⌝ }
 {
@@ -68,7 +73,7 @@ fn begin(s: &mut [u64], tag: u64, i: usize, d: Direction, offset: u32, count: u3
     Reply::Performed
 }
 
-// Names a move: so many bytes of a direction from an offset on, trimmed at min(R, B). Refused 21, 24, 29, 31, 32.
+// Names a move: so many bytes of a direction from an offset on, trimmed at min(R, B). Refused 21, 24, 33, 29, 31, 32.
 pub fn name_move(s: &mut [u64; PORT], tag: u64, d: Direction, offset: u32, count: u32) -> Reply
     ensures { λ r. ⌜ Names (now (s .entry)) (now (s .exit)) tag d offset count r ⌝ }
 {
@@ -80,6 +85,9 @@ pub fn name_move(s: &mut [u64; PORT], tag: u64, d: Direction, offset: u32, count
     let Found::At(i) = state::find(s, tag) else {
         return Reply::Refused(Refusal::TagNotOpen);
     };
+    if waiting::load_waiting(s, i) {
+        return Reply::Refused(Refusal::Waiting);
+    }
     if !commands::load_planned(s, i) {
         return Reply::Refused(Refusal::Unplanned);
     }
@@ -158,7 +166,7 @@ fn hand_out(s: &mut [u64], store: &[u8], tag: u64, i: usize, d: Direction, terms
     }
 }
 
-// The next piece of a direction's current move, or done, each with the number handed out for the move. Refused 21, 24, 29.
+// The next piece of a direction's current move, or done, each with the number handed out for the move. Refused 21, 24, 33, 29.
 pub fn step(s: &mut [u64; PORT], store: &[u8; STORE], tag: u64, d: Direction) -> Reply
     ensures { λ r. ⌜ Steps (now (s .entry)) (now (s .exit)) (now (store .entry)) tag d r ⌝ }
 {
@@ -170,6 +178,9 @@ pub fn step(s: &mut [u64; PORT], store: &[u8; STORE], tag: u64, d: Direction) ->
     let Found::At(i) = state::find(s, tag) else {
         return Reply::Refused(Refusal::TagNotOpen);
     };
+    if waiting::load_waiting(s, i) {
+        return Reply::Refused(Refusal::Waiting);
+    }
     if !commands::load_planned(s, i) {
         return Reply::Refused(Refusal::Unplanned);
     }

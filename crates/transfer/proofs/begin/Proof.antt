@@ -28,7 +28,7 @@ returns : tie.Need-returns
 returns c =
     let a = c .before .before .before .before .before .before .before .before .args in
     let p = c .before .before .before .before .before .before .before .before .pre in
-    too-far (p .1 .1 .0) (p .1 .0) (a .d) (a .offset) (a .count) (c .before .before .before .before .before .load-part .ensures) (p .1 .1 .1) (rw (c .before .least .ensures) at (c .if1 .taken))
+    too-far (p .1 .1 .0) (p .1 .0) (a .d) (a .offset) (a .count) (c .before .before .before .before .before .load-part .ensures) (p .1 .1 .1 .0) (p .1 .1 .1 .1) (rw (c .before .least .ensures) at (c .if1 .taken))
 
 same-length-2 : tie.Need-same-length-2
 same-length-2 c = search needs
@@ -37,7 +37,7 @@ returns-2 : tie.Need-returns-2
 returns-2 c =
     let a = c .before .before .before .before .before .before .before .before .before .before .args in
     let p = c .before .before .before .before .before .before .before .before .before .before .pre in
-    under-way (p .1 .1 .0) (p .1 .0) (a .d) (a .offset) (a .count) (c .before .before .before .before .before .before .before .load-part .ensures) (p .1 .1 .1) (rw (c .before .before .before .least .ensures) at (c .before .before .if1 .left)) (c .if2 .taken)
+    under-way (p .1 .1 .0) (p .1 .0) (a .d) (a .offset) (a .count) (c .before .before .before .before .before .before .before .load-part .ensures) (p .1 .1 .1 .0) (p .1 .1 .1 .1) (rw (c .before .before .before .least .ensures) at (c .before .before .if1 .left)) (c .if2 .taken)
 
 add-least : tie.Need-add-least
 add-least c = search needs
@@ -60,7 +60,7 @@ returns-3 c =
     let p = c .before .before .before .before .before .before .before .before .before .before .before .before .before .before .before .pre in
     let P = c .before .before .before .before .before .before .before .before .before .before .before .before .load-part .ensures in
     let to = c .before .before .before .before .least2 .result in
-    begun (p .1 .1 .0) (p .1 .0) (a .d) (a .offset) (a .count) P (p .1 .1 .1) (rw (c .before .before .before .before .before .before .before .before .least .ensures) at (c .before .before .before .before .before .before .before .if1 .left)) to (c .before .before .before .before .before .if2 .left) (c .before .before .set-move .ensures)
+    begun (p .1 .1 .0) (p .1 .0) (a .d) (a .offset) (a .count) P (p .1 .1 .1 .0) (p .1 .1 .1 .1) (rw (c .before .before .before .before .before .before .before .before .least .ensures) at (c .before .before .before .before .before .before .before .if1 .left)) to (c .before .before .before .before .before .if2 .left) (c .before .before .set-move .ensures)
     (λ st. named-open st (getD (slots (a .s .now)) (a .i) noSlot) (a .d) (P .whole) (a .offset) (a .count) (c .before .before .before .before .least2 .ensures ∙ ap (λ (k : ℕ). min (a .offset + a .count) k) (c .before .before .before .before .before .before .before .before .least .ensures)))
 
 pub begin-spec : {M : Type 1} → statement M

@@ -7,11 +7,12 @@ use Rattle.words.specs.Head.{headOf}
 use Rattle.words.specs.View.{openOf, view}
 use Rattle.words.proofs.Ports.{view-live}
 use Rattle.state.specs.Changes.{FoundAt}
-use Rattle.srp.specs.declared.Refusal.the-variants.{Closed, TagNotOpen, Unplanned}
+use Rattle.srp.specs.declared.Refusal.the-variants.{Closed, TagNotOpen, Unplanned, Waiting}
 use borrow.Author.Tests.{not-false}
 use Rattle.state.proofs.Promises.{refused, replies-by, found-none, found-first}
 use Rattle.state.proofs.Opened.{head-open, port-closed}
-use Rattle.transfer.proofs.Checks.{move-closed, move-unknown, move-unplanned}
+use Rattle.state.proofs.Waiting.{waits-as}
+use Rattle.transfer.proofs.Checks.{move-closed, move-unknown, move-waiting, move-unplanned}
 use borrow.Author.Needs.{needs}
 use Rattle.transfer.proofs.name_move.Statement.{statement}
 use Rattle.transfer.proofs.name_move.Tie as tie
@@ -41,8 +42,8 @@ returns-2 c =
     let live : headOf l .live ≡ true = head-open (c .before .before .before .before .before .before .get-head .ensures) (c .before .before .before .before .before .if1 .left) in
     λ st. replies-by (move-unknown (view l st) (a .tag) (a .d) (a .offset) (a .count) (view-live l st ∙ live) (found-none l (a .tag) (rw (c .enum-told .given .1) at (c .before .before .find .ensures)) live st)) (refused l st TagNotOpen)
 
-load-planned-requires : tie.Need-load-planned-requires
-load-planned-requires c κs =
+load-waiting-requires : tie.Need-load-waiting-requires
+load-waiting-requires c κs =
     let a = c .before .before .before .before .before .before .before .before .before .before .before .before .args in
     let F : FoundAt (a .s .now) (a .tag) (c .before .before .before .i .given .0 .0) = rw (c .before .before .before .i .given .1) at (c .before .before .before .before .before .find .ensures) in
     (search needs, F .small)
@@ -53,18 +54,34 @@ returns-3 c =
     let l = a .s .now in
     let live : headOf l .live ≡ true = head-open (c .before .before .before .before .before .before .before .before .before .before .before .get-head .ensures) (c .before .before .before .before .before .before .before .before .before .before .if1 .left) in
     let F : FoundAt l (a .tag) (c .before .before .before .before .before .i .given .0 .0) = rw (c .before .before .before .before .before .i .given .1) at (c .before .before .before .before .before .before .before .find .ensures) in
-    λ st. replies-by (move-unplanned (view l st) (a .tag) (a .d) (a .offset) (a .count) (view-live l st ∙ live) (openOf st (getD (slots l) (c .before .before .before .before .before .i .given .0 .0) noSlot)) (found-first F live st) (ap not (sym (c .before .load-planned .ensures)) ∙ c .if2 .taken)) (refused l st Unplanned)
+    let x = getD (slots l) (c .before .before .before .before .before .i .given .0 .0) noSlot in
+    λ st. replies-by (move-waiting (view l st) (a .tag) (a .d) (a .offset) (a .count) (view-live l st ∙ live) (openOf st x) (found-first F live st) (waits-as st x ∙ sym (c .before .load-waiting .ensures) ∙ c .if2 .taken)) (refused l st Waiting)
+
+load-planned-requires : tie.Need-load-planned-requires
+load-planned-requires c κs =
+    let a = c .before .before .before .before .before .before .before .before .before .before .before .before .before .before .before .before .args in
+    let F : FoundAt (a .s .now) (a .tag) (c .before .before .before .before .before .before .before .i .given .0 .0) = rw (c .before .before .before .before .before .before .before .i .given .1) at (c .before .before .before .before .before .before .before .before .before .find .ensures) in
+    (search needs, F .small)
+
+returns-4 : tie.Need-returns-4
+returns-4 c =
+    let a = c .before .before .before .before .before .before .before .before .before .before .before .before .before .before .before .before .before .before .args in
+    let l = a .s .now in
+    let live : headOf l .live ≡ true = head-open (c .before .before .before .before .before .before .before .before .before .before .before .before .before .before .before .get-head .ensures) (c .before .before .before .before .before .before .before .before .before .before .before .before .before .before .if1 .left) in
+    let F : FoundAt l (a .tag) (c .before .before .before .before .before .before .before .before .before .i .given .0 .0) = rw (c .before .before .before .before .before .before .before .before .before .i .given .1) at (c .before .before .before .before .before .before .before .before .before .before .before .find .ensures) in
+    let x = getD (slots l) (c .before .before .before .before .before .before .before .before .before .i .given .0 .0) noSlot in
+    λ st. replies-by (move-unplanned (view l st) (a .tag) (a .d) (a .offset) (a .count) (view-live l st ∙ live) (openOf st x) (found-first F live st) (waits-as st x ∙ sym (c .before .before .before .before .before .load-waiting .ensures) ∙ c .before .before .before .before .if2 .left) (ap not (sym (c .before .load-planned .ensures)) ∙ c .if3 .taken)) (refused l st Unplanned)
 
 begin-requires : tie.Need-begin-requires
 begin-requires c κs =
-    let a = c .before .before .before .before .before .before .before .before .before .before .before .before .before .before .before .args in
+    let a = c .before .before .before .before .before .before .before .before .before .before .before .before .before .before .before .before .before .before .before .args in
     let l = a .s .now in
-    let live : headOf l .live ≡ true = head-open (c .before .before .before .before .before .before .before .before .before .before .before .before .get-head .ensures) (c .before .before .before .before .before .before .before .before .before .before .before .if1 .left) in
-    let F : FoundAt l (a .tag) (c .before .before .before .before .before .before .i .given .0 .0) = rw (c .before .before .before .before .before .before .i .given .1) at (c .before .before .before .before .before .before .before .before .find .ensures) in
-    (search needs, (live, (F, sym (c .before .before .load-planned .ensures) ∙ not-false (c .before .before .load-planned .result) (c .before .if2 .left))))
+    let live : headOf l .live ≡ true = head-open (c .before .before .before .before .before .before .before .before .before .before .before .before .before .before .before .before .get-head .ensures) (c .before .before .before .before .before .before .before .before .before .before .before .before .before .before .before .if1 .left) in
+    let F : FoundAt l (a .tag) (c .before .before .before .before .before .before .before .before .before .before .i .given .0 .0) = rw (c .before .before .before .before .before .before .before .before .before .before .i .given .1) at (c .before .before .before .before .before .before .before .before .before .before .before .before .find .ensures) in
+    (search needs, (live, (F, (sym (c .before .before .before .before .before .before .load-waiting .ensures) ∙ c .before .before .before .before .before .if2 .left, sym (c .before .before .load-planned .ensures) ∙ not-false (c .before .before .load-planned .result) (c .before .if3 .left)))))
 
-returns-4 : tie.Need-returns-4
-returns-4 c = search needs
+returns-5 : tie.Need-returns-5
+returns-5 c = search needs
 
 pub name-move-spec : {M : Type 1} → statement M
 name-move-spec =
@@ -76,7 +93,9 @@ name-move-spec =
     enum-known-i
     enum-told
     returns-2
-    load-planned-requires
+    load-waiting-requires
     returns-3
+    load-planned-requires
+    returns-4
     begin-requires
-    returns-4)
+    returns-5)

@@ -8,10 +8,11 @@ use Rattle.words.specs.View.{openOf, view}
 use Rattle.words.proofs.Ports.{view-live}
 use Rattle.state.specs.Changes.{FoundAt}
 use Rattle.srp.specs.Calls.{planned}
-use Rattle.srp.specs.declared.Refusal.the-variants.{Closed, TagNotOpen, Planned}
+use Rattle.srp.specs.declared.Refusal.the-variants.{Closed, TagNotOpen, Planned, Waiting}
 use Rattle.state.proofs.Promises.{refused, replies-by, performed, changed-view, found-none, found-first}
 use Rattle.state.proofs.Opened.{head-open, port-closed}
-use Rattle.transfer.proofs.Checks.{plan-closed, plan-unknown, plan-again, plan-passed}
+use Rattle.state.proofs.Waiting.{waits-as}
+use Rattle.transfer.proofs.Checks.{plan-closed, plan-unknown, plan-waiting, plan-again, plan-passed}
 use borrow.Author.Needs.{needs}
 use Rattle.transfer.proofs.plan.Statement.{statement}
 use Rattle.transfer.proofs.plan.Tie as tie
@@ -41,8 +42,8 @@ returns-2 c =
     let live : headOf l .live ≡ true = head-open (c .before .before .before .before .before .before .get-head .ensures) (c .before .before .before .before .before .if1 .left) in
     λ st. replies-by (plan-unknown (view l st) (a .tag) (a .out) (a .inn) (view-live l st ∙ live) (found-none l (a .tag) (rw (c .enum-told .given .1) at (c .before .before .find .ensures)) live st)) (refused l st TagNotOpen)
 
-load-planned-requires : tie.Need-load-planned-requires
-load-planned-requires c κs =
+load-waiting-requires : tie.Need-load-waiting-requires
+load-waiting-requires c κs =
     let a = c .before .before .before .before .before .before .before .before .before .before .before .before .args in
     let F : FoundAt (a .s .now) (a .tag) (c .before .before .before .i .given .0 .0) = rw (c .before .before .before .i .given .1) at (c .before .before .before .before .before .find .ensures) in
     (search needs, F .small)
@@ -53,21 +54,38 @@ returns-3 c =
     let l = a .s .now in
     let live : headOf l .live ≡ true = head-open (c .before .before .before .before .before .before .before .before .before .before .before .get-head .ensures) (c .before .before .before .before .before .before .before .before .before .before .if1 .left) in
     let F : FoundAt l (a .tag) (c .before .before .before .before .before .i .given .0 .0) = rw (c .before .before .before .before .before .i .given .1) at (c .before .before .before .before .before .before .before .find .ensures) in
-    λ st. replies-by (plan-again (view l st) (a .tag) (a .out) (a .inn) (view-live l st ∙ live) (openOf st (getD (slots l) (c .before .before .before .before .before .i .given .0 .0) noSlot)) (found-first F live st) (sym (c .before .load-planned .ensures) ∙ c .if2 .taken)) (refused l st Planned)
+    let x = getD (slots l) (c .before .before .before .before .before .i .given .0 .0) noSlot in
+    λ st. replies-by (plan-waiting (view l st) (a .tag) (a .out) (a .inn) (view-live l st ∙ live) (openOf st x) (found-first F live st) (waits-as st x ∙ sym (c .before .load-waiting .ensures) ∙ c .if2 .taken)) (refused l st Waiting)
 
-set-plan-requires : tie.Need-set-plan-requires
-set-plan-requires c κs =
-    let a = c .before .before .before .before .before .before .before .before .before .before .before .before .before .before .before .args in
-    let F : FoundAt (a .s .now) (a .tag) (c .before .before .before .before .before .before .i .given .0 .0) = rw (c .before .before .before .before .before .before .i .given .1) at (c .before .before .before .before .before .before .before .before .find .ensures) in
+load-planned-requires : tie.Need-load-planned-requires
+load-planned-requires c κs =
+    let a = c .before .before .before .before .before .before .before .before .before .before .before .before .before .before .before .before .args in
+    let F : FoundAt (a .s .now) (a .tag) (c .before .before .before .before .before .before .before .i .given .0 .0) = rw (c .before .before .before .before .before .before .before .i .given .1) at (c .before .before .before .before .before .before .before .before .before .find .ensures) in
     (search needs, F .small)
 
 returns-4 : tie.Need-returns-4
 returns-4 c =
-    let a = c .before .before .before .before .before .before .before .before .before .before .before .before .before .before .before .before .args in
+    let a = c .before .before .before .before .before .before .before .before .before .before .before .before .before .before .before .before .before .before .args in
     let l = a .s .now in
-    let live : headOf l .live ≡ true = head-open (c .before .before .before .before .before .before .before .before .before .before .before .before .before .get-head .ensures) (c .before .before .before .before .before .before .before .before .before .before .before .before .if1 .left) in
-    let F : FoundAt l (a .tag) (c .before .before .before .before .before .before .before .i .given .0 .0) = rw (c .before .before .before .before .before .before .before .i .given .1) at (c .before .before .before .before .before .before .before .before .before .find .ensures) in
-    λ st. replies-by (plan-passed (view l st) (a .tag) (a .out) (a .inn) (view-live l st ∙ live) (openOf st (getD (slots l) (c .before .before .before .before .before .before .before .i .given .0 .0) noSlot)) (found-first F live st) (sym (c .before .before .before .load-planned .ensures) ∙ c .before .before .if2 .left))
+    let live : headOf l .live ≡ true = head-open (c .before .before .before .before .before .before .before .before .before .before .before .before .before .before .before .get-head .ensures) (c .before .before .before .before .before .before .before .before .before .before .before .before .before .before .if1 .left) in
+    let F : FoundAt l (a .tag) (c .before .before .before .before .before .before .before .before .before .i .given .0 .0) = rw (c .before .before .before .before .before .before .before .before .before .i .given .1) at (c .before .before .before .before .before .before .before .before .before .before .before .find .ensures) in
+    let x = getD (slots l) (c .before .before .before .before .before .before .before .before .before .i .given .0 .0) noSlot in
+    λ st. replies-by (plan-again (view l st) (a .tag) (a .out) (a .inn) (view-live l st ∙ live) (openOf st x) (found-first F live st) (waits-as st x ∙ sym (c .before .before .before .before .before .load-waiting .ensures) ∙ c .before .before .before .before .if2 .left) (sym (c .before .load-planned .ensures) ∙ c .if3 .taken)) (refused l st Planned)
+
+set-plan-requires : tie.Need-set-plan-requires
+set-plan-requires c κs =
+    let a = c .before .before .before .before .before .before .before .before .before .before .before .before .before .before .before .before .before .before .before .args in
+    let F : FoundAt (a .s .now) (a .tag) (c .before .before .before .before .before .before .before .before .before .before .i .given .0 .0) = rw (c .before .before .before .before .before .before .before .before .before .before .i .given .1) at (c .before .before .before .before .before .before .before .before .before .before .before .before .find .ensures) in
+    (search needs, F .small)
+
+returns-5 : tie.Need-returns-5
+returns-5 c =
+    let a = c .before .before .before .before .before .before .before .before .before .before .before .before .before .before .before .before .before .before .before .before .args in
+    let l = a .s .now in
+    let live : headOf l .live ≡ true = head-open (c .before .before .before .before .before .before .before .before .before .before .before .before .before .before .before .before .before .get-head .ensures) (c .before .before .before .before .before .before .before .before .before .before .before .before .before .before .before .before .if1 .left) in
+    let F : FoundAt l (a .tag) (c .before .before .before .before .before .before .before .before .before .before .before .i .given .0 .0) = rw (c .before .before .before .before .before .before .before .before .before .before .before .i .given .1) at (c .before .before .before .before .before .before .before .before .before .before .before .before .before .find .ensures) in
+    let x = getD (slots l) (c .before .before .before .before .before .before .before .before .before .before .before .i .given .0 .0) noSlot in
+    λ st. replies-by (plan-passed (view l st) (a .tag) (a .out) (a .inn) (view-live l st ∙ live) (openOf st x) (found-first F live st) (waits-as st x ∙ sym (c .before .before .before .before .before .before .before .load-waiting .ensures) ∙ c .before .before .before .before .before .before .if2 .left) (sym (c .before .before .before .load-planned .ensures) ∙ c .before .before .if3 .left))
     (performed refl (changed-view l (c .set-plan .last .0) st live F (c .set-plan .ensures) (planned (a .out) (a .inn)) refl) refl refl)
 
 pub plan-spec : {M : Type 1} → statement M
@@ -80,7 +98,9 @@ plan-spec =
     enum-known-i
     enum-told
     returns-2
-    load-planned-requires
+    load-waiting-requires
     returns-3
+    load-planned-requires
+    returns-4
     set-plan-requires
-    returns-4)
+    returns-5)

@@ -7,11 +7,12 @@ use Rattle.words.specs.Head.{headOf}
 use Rattle.words.specs.View.{openOf, view}
 use Rattle.words.proofs.Ports.{view-live}
 use Rattle.state.specs.Changes.{FoundAt}
-use Rattle.srp.specs.declared.Refusal.the-variants.{Closed, TagNotOpen, Unplanned}
+use Rattle.srp.specs.declared.Refusal.the-variants.{Closed, TagNotOpen, Unplanned, Waiting}
 use Rattle.words.specs.declared.Head.{Head}
 use Rattle.state.proofs.Promises.{refused, replies-by, found-none, found-first}
 use Rattle.state.proofs.Opened.{head-open, port-closed}
-use Rattle.transfer.proofs.Checks.{step-closed, step-unknown, step-unplanned, step-passed}
+use Rattle.state.proofs.Waiting.{waits-as}
+use Rattle.transfer.proofs.Checks.{step-closed, step-unknown, step-waiting, step-unplanned, step-passed}
 use borrow.Author.Needs.{needs}
 use Rattle.transfer.proofs.step.Statement.{statement}
 use Rattle.transfer.proofs.step.Tie as tie
@@ -43,8 +44,8 @@ returns-2 c =
     let live : headOf l .live ≡ true = head-open (c .before .before .before .before .before .before .get-head .ensures) (c .before .before .before .before .before .if1 .left) in
     record { replies = replies-by (step-unknown (view l st) (a .tag) (a .d) (view-live l st ∙ live) (found-none l (a .tag) (rw (c .enum-told .given .1) at (c .before .before .find .ensures)) live st)) (refused l st TagNotOpen); done = λ n e. refl }
 
-load-planned-requires : tie.Need-load-planned-requires
-load-planned-requires c κs =
+load-waiting-requires : tie.Need-load-waiting-requires
+load-waiting-requires c κs =
     let a = c .before .before .before .before .before .before .before .before .before .before .before .before .args in
     let F : FoundAt (a .s .now) (a .tag) (c .before .before .before .i .given .0 .0) = rw (c .before .before .before .i .given .1) at (c .before .before .before .before .before .find .ensures) in
     (search needs, F .small)
@@ -53,28 +54,46 @@ returns-3 : tie.Need-returns-3
 returns-3 c =
     let a = c .before .before .before .before .before .before .before .before .before .before .before .before .before .before .args in
     let l = a .s .now in
+    let st = a .store .now in
     let live : headOf l .live ≡ true = head-open (c .before .before .before .before .before .before .before .before .before .before .before .get-head .ensures) (c .before .before .before .before .before .before .before .before .before .before .if1 .left) in
     let F : FoundAt l (a .tag) (c .before .before .before .before .before .i .given .0 .0) = rw (c .before .before .before .before .before .i .given .1) at (c .before .before .before .before .before .before .before .find .ensures) in
-    let st = a .store .now in
-    record { replies = replies-by (step-unplanned (view l st) (a .tag) (a .d) (view-live l st ∙ live) (openOf st (getD (slots l) (c .before .before .before .before .before .i .given .0 .0) noSlot)) (found-first F live st) (ap not (sym (c .before .load-planned .ensures)) ∙ c .if2 .taken)) (refused l st Unplanned); done = λ n e. refl }
+    let x = getD (slots l) (c .before .before .before .before .before .i .given .0 .0) noSlot in
+    record { replies = replies-by (step-waiting (view l st) (a .tag) (a .d) (view-live l st ∙ live) (openOf st x) (found-first F live st) (waits-as st x ∙ sym (c .before .load-waiting .ensures) ∙ c .if2 .taken)) (refused l st Waiting); done = λ n e. refl }
 
-hand-out-requires : tie.Need-hand-out-requires
-hand-out-requires c κs =
+load-planned-requires : tie.Need-load-planned-requires
+load-planned-requires c κs =
     let a = c .before .before .before .before .before .before .before .before .before .before .before .before .before .before .before .before .args in
-    let l = a .s .now in
-    let live : headOf l .live ≡ true = head-open (c .before .before .before .before .before .before .before .before .before .before .before .before .before .get-head .ensures) (c .before .before .before .before .before .before .before .before .before .before .before .before .if1 .left) in
-    let F : FoundAt l (a .tag) (c .before .before .before .before .before .before .before .i .given .0 .0) = rw (c .before .before .before .before .before .before .before .i .given .1) at (c .before .before .before .before .before .before .before .before .before .find .ensures) in
-    (search needs, (search needs, (live, (F, ap (λ (h : Head). h .terms) (c .before .before .before .before .before .before .before .before .before .before .before .before .before .get-head .ensures .whole)))))
+    let F : FoundAt (a .s .now) (a .tag) (c .before .before .before .before .before .before .before .i .given .0 .0) = rw (c .before .before .before .before .before .before .before .i .given .1) at (c .before .before .before .before .before .before .before .before .before .find .ensures) in
+    (search needs, F .small)
 
 returns-4 : tie.Need-returns-4
 returns-4 c =
-    let a = c .before .before .before .before .before .before .before .before .before .before .before .before .before .before .before .before .before .args in
+    let a = c .before .before .before .before .before .before .before .before .before .before .before .before .before .before .before .before .before .before .args in
     let l = a .s .now in
-    let live : headOf l .live ≡ true = head-open (c .before .before .before .before .before .before .before .before .before .before .before .before .before .before .get-head .ensures) (c .before .before .before .before .before .before .before .before .before .before .before .before .before .if1 .left) in
-    let F : FoundAt l (a .tag) (c .before .before .before .before .before .before .before .before .i .given .0 .0) = rw (c .before .before .before .before .before .before .before .before .i .given .1) at (c .before .before .before .before .before .before .before .before .before .before .find .ensures) in
     let st = a .store .now in
+    let live : headOf l .live ≡ true = head-open (c .before .before .before .before .before .before .before .before .before .before .before .before .before .before .before .get-head .ensures) (c .before .before .before .before .before .before .before .before .before .before .before .before .before .before .if1 .left) in
+    let F : FoundAt l (a .tag) (c .before .before .before .before .before .before .before .before .before .i .given .0 .0) = rw (c .before .before .before .before .before .before .before .before .before .i .given .1) at (c .before .before .before .before .before .before .before .before .before .before .before .find .ensures) in
+    let x = getD (slots l) (c .before .before .before .before .before .before .before .before .before .i .given .0 .0) noSlot in
+    record { replies = replies-by (step-unplanned (view l st) (a .tag) (a .d) (view-live l st ∙ live) (openOf st x) (found-first F live st) (waits-as st x ∙ sym (c .before .before .before .before .before .load-waiting .ensures) ∙ c .before .before .before .before .if2 .left) (ap not (sym (c .before .load-planned .ensures)) ∙ c .if3 .taken)) (refused l st Unplanned); done = λ n e. refl }
+
+hand-out-requires : tie.Need-hand-out-requires
+hand-out-requires c κs =
+    let a = c .before .before .before .before .before .before .before .before .before .before .before .before .before .before .before .before .before .before .before .before .args in
+    let l = a .s .now in
+    let live : headOf l .live ≡ true = head-open (c .before .before .before .before .before .before .before .before .before .before .before .before .before .before .before .before .before .get-head .ensures) (c .before .before .before .before .before .before .before .before .before .before .before .before .before .before .before .before .if1 .left) in
+    let F : FoundAt l (a .tag) (c .before .before .before .before .before .before .before .before .before .before .before .i .given .0 .0) = rw (c .before .before .before .before .before .before .before .before .before .before .before .i .given .1) at (c .before .before .before .before .before .before .before .before .before .before .before .before .before .find .ensures) in
+    (search needs, (search needs, (live, (F, ap (λ (h : Head). h .terms) (c .before .before .before .before .before .before .before .before .before .before .before .before .before .before .before .before .before .get-head .ensures .whole)))))
+
+returns-5 : tie.Need-returns-5
+returns-5 c =
+    let a = c .before .before .before .before .before .before .before .before .before .before .before .before .before .before .before .before .before .before .before .before .before .args in
+    let l = a .s .now in
+    let st = a .store .now in
+    let live : headOf l .live ≡ true = head-open (c .before .before .before .before .before .before .before .before .before .before .before .before .before .before .before .before .before .before .get-head .ensures) (c .before .before .before .before .before .before .before .before .before .before .before .before .before .before .before .before .before .if1 .left) in
+    let F : FoundAt l (a .tag) (c .before .before .before .before .before .before .before .before .before .before .before .before .i .given .0 .0) = rw (c .before .before .before .before .before .before .before .before .before .before .before .before .i .given .1) at (c .before .before .before .before .before .before .before .before .before .before .before .before .before .before .find .ensures) in
+    let x = getD (slots l) (c .before .before .before .before .before .before .before .before .before .before .before .before .i .given .0 .0) noSlot in
     let H = c .hand-out .ensures in
-    record { replies = replies-by (step-passed (view l st) (a .tag) (a .d) (view-live l st ∙ live) (openOf st (getD (slots l) (c .before .before .before .before .before .before .before .before .i .given .0 .0) noSlot)) (found-first F live st) (ap not (sym (c .before .before .before .before .load-planned .ensures)) ∙ c .before .before .before .if2 .left)) (H .replies); done = H .done }
+    record { replies = replies-by (step-passed (view l st) (a .tag) (a .d) (view-live l st ∙ live) (openOf st x) (found-first F live st) (waits-as st x ∙ sym (c .before .before .before .before .before .before .before .before .load-waiting .ensures) ∙ c .before .before .before .before .before .before .before .if2 .left) (ap not (sym (c .before .before .before .before .load-planned .ensures)) ∙ c .before .before .before .if3 .left)) (H .replies); done = H .done }
 
 pub step-spec : {M : Type 1} → statement M
 step-spec =
@@ -86,7 +105,9 @@ step-spec =
     enum-known-i
     enum-told
     returns-2
-    load-planned-requires
+    load-waiting-requires
     returns-3
+    load-planned-requires
+    returns-4
     hand-out-requires
-    returns-4)
+    returns-5)
