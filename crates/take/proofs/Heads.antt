@@ -8,7 +8,7 @@ use native.Mathlib.Omega.{arith}
 use Rattle.srp.specs.Limits.{bufferSize}
 use Rattle.srp.specs.Requests.{readMessage}
 use Rattle.srp.specs.Credit.{Port}
-use Rattle.srp.specs.Take.{Tables, takeDef}
+use Rattle.srp.specs.Take.{takeDef}
 use Rattle.srp.specs.declared.Message.{Message}
 use Rattle.words.specs.Head.{headOf, HeadIs}
 use Rattle.words.specs.View.{view}
@@ -29,6 +29,6 @@ module _ {l : List ℕ} {h : Head} (H : HeadIs l h) where
         ∙ ap (λ (g : Head). readMessage (g .terms .agreed) (g .terms .formats) m) (sym (H .whole))
 
     -- take, with enough room, is that of the message read
-    pub take-of : (room : ℕ) → bufferSize ≤ room → (m : List ℕ) (b : Tables) {x y : Message} → x ≡ readMessage (h .terms .agreed) (h .terms .formats) m → x ≡ y
-        → takeDef (view l st) room m b ≡ laterDef (view l st) m b y
-    take-of room enough m b {x} {y} r q = take-on (view l st) room m b enough (view-live l st ∙ e) y (reading-is m ∙ sym r ∙ q)
+    pub take-of : (room : ℕ) → bufferSize ≤ room → (m : List ℕ) {x y : Message} → x ≡ readMessage (h .terms .agreed) (h .terms .formats) m → x ≡ y
+        → takeDef (view l st) room m ≡ laterDef (view l st) m y
+    take-of room enough m {x} {y} r q = take-on (view l st) room m enough (view-live l st ∙ e) y (reading-is m ∙ sym r ∙ q)

@@ -1,4 +1,4 @@
-// Take: a message from the initiator, with the tables lent for it. Document 01's checks in its order, hang-ups, refusal 10, task management,
+// Take: a message from the initiator. Document 01's checks in its order, hang-ups, refusal 10, task management,
 // credit responses, the initiator's logout.
 mod fresh;
 
@@ -23,7 +23,7 @@ ghost use Rattle.srp.specs.Limits.{bufferSize};
 ghost use Rattle.srp.specs.declared.Message.the-variants.{TskMgmt, CredRsp, ILogout};
 ghost use Rattle.words.specs.Sizes.{portWords};
 ghost use Rattle.words.specs.Head.{headOf};
-ghost use Rattle.take.specs.Taking.{tables, HangsUp, AnswersBad, EndsTask, Decides, Takes};
+ghost use Rattle.take.specs.Taking.{HangsUp, AnswersBad, EndsTask, Decides, Takes};
 
 // The channel is closed, its commands are dropped, and an SRP_T_LOGOUT says so.
 fn hang_up(s: &mut [u64], buf: &mut [u8], f: Refusal) -> Answer
@@ -126,18 +126,16 @@ fn take_logout(s: &mut [u64]) -> Answer
     }
 }
 
-// Takes a message, with both tables lent. Refused 1, 21, 3, 4, 3, 5, 6, 3, 7, 8, 22, 23, 9, 10; a credit response 25.
+// Takes a message. Refused 1, 21, 3, 4, 3, 5, 6, 3, 7, 8, 22, 23, and 10 where no fetch is named; a credit response 25.
 pub fn take<'a>(
     s: &mut [u64; PORT],
     store: &mut [u8; STORE],
     msg: &'a [u8],
-    out: &'a [u8],
-    inn: &'a [u8],
     buf: &mut [u8],
 ) -> Answer
     ensures { λ r. ⌜ Takes
         (now (s .entry)) (now (store .entry)) (now (buf .entry)) (now (s .exit)) (now (store .exit)) (now (buf .exit))
-        (now (msg .entry)) (tables (now (out .entry)) (now (inn .entry))) r ⌝ }
+        (now (msg .entry)) r ⌝ }
 {
     if buf.len() < (LONGEST_WRITTEN_MESSAGE as usize) {
         return answer::refused(Refusal::ShortBuffer);
@@ -150,7 +148,7 @@ pub fn take<'a>(
     let terms = h.terms;
     match request::read_message(msg, terms.agreed, terms.formats) {
         Message::Bad(f) => hang_up(s, buf, f),
-        Message::Cmd(c) => fresh::take_command(s, store, msg, out, inn, buf, c),
+        Message::Cmd(c) => fresh::take_command(s, store, msg, buf, c),
         Message::TskMgmt(t) => take_task(s, buf, t),
         Message::CredRsp(tag) => take_credit(s, buf, tag),
         Message::ILogout => take_logout(s),

@@ -52,13 +52,13 @@ same-length-2 c = search needs
 
 -- src/lib.rt:55:1
 returns : tie.Need-returns
-returns c st m b =
+returns c st m =
     let a = c .before .before .before .before .before .before .before .before .before .before .before .before .before .before .before .before .before .args in
     let k = a .t in
     let l = c .before .before .before .before .before .before .before .before .before .before .drop-commands .last .0 in
     let n = c .before .before .before .before .before .before .before .before .before .before .before .before .before .code-of .ensures in
     let e = altered-view (a .s .now) l st (c .before .before .before .before .before .before .before .before .before .before .before .before .before .before .before .before .before .pre .1 .0) (c .before .before .before .before .before .before .before .before .before .before .drop-commands .ensures) in
-    answers-by (task-ends (view (a .s .now) st) (view l st) m b k e)
+    answers-by (task-ends (view (a .s .now) st) (view l st) m k e)
     (answered (a .s .now) l st (a .buf .now) _ _ (solicited (k .request) (taskCode (k .function))) (k .request .tag) (taskCode (k .function)) (c .before .before .before .before .before .before .settle .result) (TaskAnswered (k .request .tag) (k .request .lun)) (ap (λ (p : Port). p .live) e) (c .before .before .before .before .before .before .before .before .before .before .drop-commands .ensures .live ∙ c .before .before .before .before .before .before .before .before .before .before .before .before .before .before .before .before .before .pre .1 .0) (c .before .before .before .before .before .before .settle .ensures)
     (c .before .before .put-answer .ensures ∙ answer-by (a .buf .now) (k .request .tag) (c .before .before .before .before .before .before .settle .result) (c .before .before .before .before .before .before .before .before .before .before .before .before .solicited .ensures ∙ ap (solicited (k .request)) n) n))
 

@@ -31,9 +31,9 @@ same-length-2 c = search needs
 
 -- src/lib.rt:105:9
 returns : tie.Need-returns
-returns c st m b =
+returns c st m =
     let a = c .before .before .before .before .before .before .before .before .before .before .before .before .args in
-    answers-by (credit-none (view (a .s .now) st) m b (a .tag) (unanswered-is (c .before .before .before .before .before .before .before .before .get-head .ensures) st (c .before .before .before .before .before .before .before .before .before .before .before .before .pre .1 .0) ∙ not-true _ (c .before .before .before .before .before .before .before .if1 .taken))) (c .before .before .before .before .hang-up .ensures st)
+    answers-by (credit-none (view (a .s .now) st) m (a .tag) (unanswered-is (c .before .before .before .before .before .before .before .before .get-head .ensures) st (c .before .before .before .before .before .before .before .before .before .before .before .before .pre .1 .0) ∙ not-true _ (c .before .before .before .before .before .before .before .if1 .taken))) (c .before .before .before .before .hang-up .ensures st)
 
 -- src/lib.rt:108:9
 hang-up-requires-2 : tie.Need-hang-up-requires-2
@@ -49,9 +49,9 @@ same-length-4 c = search needs
 
 -- src/lib.rt:108:9
 returns-2 : tie.Need-returns-2
-returns-2 c st m b =
+returns-2 c st m =
     let a = c .before .before .before .before .before .before .before .before .before .before .before .before .before .args in
-    answers-by (credit-other (view (a .s .now) st) m b (a .tag) (unanswered-is (c .before .before .before .before .before .before .before .before .before .get-head .ensures) st (c .before .before .before .before .before .before .before .before .before .before .before .before .before .pre .1 .0) ∙ not-false _ (c .before .before .before .before .before .before .before .before .if1 .left)) (c .before .before .before .before .before .before .before .if2 .taken)) (c .before .before .before .before .hang-up2 .ensures st)
+    answers-by (credit-other (view (a .s .now) st) m (a .tag) (unanswered-is (c .before .before .before .before .before .before .before .before .before .get-head .ensures) st (c .before .before .before .before .before .before .before .before .before .before .before .before .before .pre .1 .0) ∙ not-false _ (c .before .before .before .before .before .before .before .before .if1 .left)) (c .before .before .before .before .before .before .before .if2 .taken)) (c .before .before .before .before .hang-up2 .ensures st)
 
 -- src/lib.rt:110:5
 set-unanswered-requires : tie.Need-set-unanswered-requires
@@ -63,9 +63,9 @@ same-length-5 c = search needs
 
 -- src/lib.rt:96:1
 returns-3 : tie.Need-returns-3
-returns-3 c st m b =
+returns-3 c st m =
     let a = c .before .before .before .before .before .before .before .before .before .before .args in
-    answers-by (credit-on (view (a .s .now) st) m b (a .tag) (unanswered-is (c .before .before .before .before .before .before .get-head .ensures) st (c .before .before .before .before .before .before .before .before .before .before .pre .1 .0) ∙ not-false _ (c .before .before .before .before .before .if1 .left)) (c .before .before .before .before .if2 .left))
+    answers-by (credit-on (view (a .s .now) st) m (a .tag) (unanswered-is (c .before .before .before .before .before .before .get-head .ensures) st (c .before .before .before .before .before .before .before .before .before .before .pre .1 .0) ∙ not-false _ (c .before .before .before .before .before .if1 .left)) (c .before .before .before .before .if2 .left))
     (accepted refl (altered-view (a .s .now) _ st (c .before .before .before .before .before .before .before .before .before .before .pre .1 .0) (c .before .before .set-unanswered .ensures)) refl refl refl)
 
 pub take-credit-spec : {M : Type 1} → statement M

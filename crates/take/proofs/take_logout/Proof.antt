@@ -18,7 +18,7 @@ same-length c = search needs
 
 -- src/lib.rt:118:1
 returns : tie.Need-returns
-returns c b st m t =
+returns c b st m =
     let cl = c .before .before .clear .ensures in
     accepted-closed refl (closed-view _ st cl) refl refl cl
 

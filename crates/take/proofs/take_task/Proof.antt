@@ -33,9 +33,9 @@ same-length-2 c = search needs
 
 -- src/lib.rt:86:9
 returns : tie.Need-returns
-returns c st m b =
+returns c st m =
     let a = c .before .before .before .before .before .before .before .before .before .before .before .before .before .args in
-    answers-by (task-22 (view (a .s .now) st) m b (a .t) (announced-is (c .before .before .before .before .before .before .before .before .before .get-head .ensures) st (c .before .before .before .before .before .before .before .before .before .before .before .before .before .pre .1 .0) ∙ c .before .before .before .before .before .before .before .if1 .taken)) (c .before .before .before .before .hang-up .ensures st)
+    answers-by (task-22 (view (a .s .now) st) m (a .t) (announced-is (c .before .before .before .before .before .before .before .before .before .get-head .ensures) st (c .before .before .before .before .before .before .before .before .before .before .before .before .before .pre .1 .0) ∙ c .before .before .before .before .before .before .before .if1 .taken)) (c .before .before .before .before .hang-up .ensures st)
 
 -- src/lib.rt:89:11
 find-requires : tie.Need-find-requires
@@ -68,11 +68,11 @@ same-length-4 c = search needs
 
 -- src/lib.rt:78:1
 returns-2 : tie.Need-returns-2
-returns-2 c st m b =
+returns-2 c st m =
     let a = c .before .before .before .before .before .before .before .before .before .before .before .before .before .before .before .before .before .before .args in
     let e = announced-is (c .before .before .before .before .before .before .before .before .before .before .before .before .before .before .get-head .ensures) st (c .before .before .before .before .before .before .before .before .before .before .before .before .before .before .before .before .before .before .pre .1 .0) in
     let f = subst (FoundIs (a .s .now) (a .t .request .tag)) (c .before .before .before .before .before .before .before .enum-told .given .1) (c .before .before .before .before .before .before .before .before .before .find .ensures) in
-    answers-by (task-23 (view (a .s .now) st) m b (a .t) (λ z. c .before .before .before .before .before .before .before .before .before .before .before .before .if1 .left (sym e ∙ z)) (tag-open f (c .before .before .before .before .before .before .before .before .before .before .before .before .before .before .before .before .before .before .pre .1 .0) st)) (c .before .before .before .before .hang-up2 .ensures st)
+    answers-by (task-23 (view (a .s .now) st) m (a .t) (λ z. c .before .before .before .before .before .before .before .before .before .before .before .before .if1 .left (sym e ∙ z)) (tag-open f (c .before .before .before .before .before .before .before .before .before .before .before .before .before .before .before .before .before .before .pre .1 .0) st)) (c .before .before .before .before .hang-up2 .ensures st)
 
 -- src/lib.rt:78:1
 same-length-5 : tie.Need-same-length-5
@@ -84,11 +84,11 @@ same-length-6 c = search needs
 
 -- src/lib.rt:78:1
 returns-3 : tie.Need-returns-3
-returns-3 c st m b =
+returns-3 c st m =
     let a = c .before .before .before .before .before .before .before .before .before .before .before .before .before .before .before .before .before .before .args in
     let e = announced-is (c .before .before .before .before .before .before .before .before .before .before .before .before .before .before .get-head .ensures) st (c .before .before .before .before .before .before .before .before .before .before .before .before .before .before .before .before .before .before .pre .1 .0) in
     let f = subst (FoundIs (a .s .now) (a .t .request .tag)) (c .before .before .before .before .before .before .before .enum-told2 .given .1) (c .before .before .before .before .before .before .before .before .before .find .ensures) in
-    answers-by (task-on (view (a .s .now) st) m b (a .t) (λ z. c .before .before .before .before .before .before .before .before .before .before .before .before .if1 .left (sym e ∙ z)) (tag-free (a .s .now) (a .t .request .tag) f (c .before .before .before .before .before .before .before .before .before .before .before .before .before .before .before .before .before .before .pre .1 .0) st)) (c .before .before .before .before .end-task .ensures st m b)
+    answers-by (task-on (view (a .s .now) st) m (a .t) (λ z. c .before .before .before .before .before .before .before .before .before .before .before .before .if1 .left (sym e ∙ z)) (tag-free (a .s .now) (a .t .request .tag) f (c .before .before .before .before .before .before .before .before .before .before .before .before .before .before .before .before .before .before .pre .1 .0) st)) (c .before .before .before .before .end-task .ensures st m)
 
 pub take-task-spec : {M : Type 1} → statement M
 take-task-spec =
