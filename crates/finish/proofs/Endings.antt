@@ -8,12 +8,14 @@ use Prim.Native.Nat.{ℕ, _+_, _≤_, _<_}
 use lib.ListN.{length, length-append}
 use borrow.Author.Tests.{lt-ltb, le-ltb}
 use Rattle.srp.specs.Limits.{bufferSize}
+use Rattle.srp.specs.Refusals.{firstOf}
 use Rattle.srp.specs.Bytes.{write}
 use Rattle.srp.specs.Messages.{rsp}
 use Rattle.srp.specs.Credit.{Open, Port}
 use Rattle.srp.specs.Writing.{residualOf, Response, responseBytes, responseValues, response, solicited}
 use Rattle.srp.specs.Take.{silent, isOpen}
-use Rattle.srp.specs.Calls.{badSense, finalOf, finalResponse, finishOutcome, finishDef}
+use Rattle.srp.specs.Calls.{unless, openChecks, badSense, finalOf, finalResponse, finishChecks, finishOutcome, finishDef}
+use Rattle.srp.specs.declared.Refusal.{Refusal}
 use Rattle.srp.specs.declared.Refusal.the-variants.{ShortBuffer, Argument, Closed, TagNotOpen}
 use Rattle.srp.specs.declared.Residual.{Residual}
 use Rattle.srp.specs.declared.Reply.the-variants.{Refused}
@@ -42,8 +44,11 @@ module _ (p : Port) (room tag status : ℕ) (sense : List ℕ) where
         pub finish-none : isOpen p tag ≡ false → finishDef p room tag status sense ≡ silent p (Refused TagNotOpen)
         finish-none e = rw (le-ltb room bufferSize enough, o, g, e) refl
 
-        pub finished : isOpen p tag ≡ true → finishDef p room tag status sense ≡ finishOutcome p tag status sense
-        finished e = rw (le-ltb room bufferSize enough, o, g, e) refl
+        -- of an open command, 33 or none of them
+        pub finish-open : {r : Option Refusal} → firstOf (openChecks p tag) ≡ r → finishDef p room tag status sense ≡ unless r p (finishOutcome p tag status sense)
+        finish-open {r} e =
+            let drawn : firstOf (finishChecks p room tag status sense) ≡ r = rw (le-ltb room bufferSize enough, o, g) e in
+            ap (λ (x : Option Refusal). unless x p (finishOutcome p tag status sense)) drawn
 
 -- ── the response
 

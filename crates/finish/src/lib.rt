@@ -13,6 +13,7 @@ use words::PORT;
 use words::Part;
 use words::Slot;
 use words::commands;
+use words::waiting;
 ghost use mathlib.Core.Path.{_≡_};
 ghost use mathlib.Core.Bool.{true};
 ghost use mathlib.Core.List.{List};
@@ -98,7 +99,7 @@ fn end_command(
     }
 }
 
-// Ends a command. Refused 1, 21, 11, 24.
+// Ends a command. Refused 1, 21, 11, 24, 33.
 pub fn finish(s: &mut [u64; PORT], tag: u64, status: u8, sense: &[u8], buf: &mut [u8]) -> Answer
     ensures { λ r. ⌜ Finishes (now (s .entry)) (now (buf .entry)) (now (s .exit)) (now (buf .exit)) tag status (now (sense .entry)) r ⌝ }
 {
@@ -116,5 +117,8 @@ pub fn finish(s: &mut [u64; PORT], tag: u64, status: u8, sense: &[u8], buf: &mut
     let Found::At(i) = state::find(s, tag) else {
         return answer::refused(Refusal::TagNotOpen);
     };
+    if waiting::load_waiting(s, i) {
+        return answer::refused(Refusal::Waiting);
+    }
     end_command(s, i, tag, status, sense, buf)
 }

@@ -52,6 +52,7 @@ module _ {l : List ℕ} {tag i : ℕ} (F : FoundAt l tag i) (live : headOf l .li
     read-side : (st : List ℕ) → of d (here st .sides) ≡ sideOf st (placeAt d (getD (slots l) i noSlot .place)) p
     read-side st = side-read st (getD (slots l) i noSlot) d (P .whole) refl
 
+    -- it does not wait
     unwaiting : (st : List ℕ) → isWaiting (some (here st)) ≡ false
     unwaiting st = waits-as st (getD (slots l) i noSlot) ∙ ready
 

@@ -50,7 +50,7 @@ pub fn plan(s: &mut [u64; PORT], tag: u64, out: u32, inn: u32) -> Reply
     Reply::Performed
 }
 
-// The move of a planned command, in slot i. Refused 31, 32.
+// The move of a planned command that does not wait, in slot i. Refused 31, 32.
 fn begin(s: &mut [u64], tag: u64, i: usize, d: Direction, offset: u32, count: u32) -> Reply
     requires { ⌜ length (now s) ≡ portWords ⌝ }
     requires { ⌜ headOf (now s) .live ≡ true ⌝ }

@@ -1,14 +1,16 @@
 -- `finish::finish` meets its contract. Assumes nothing.
 use mathlib.Core.Path.{refl, sym, _∙_, subst}
-use Rattle.srp.specs.declared.Refusal.the-variants.{ShortBuffer, Argument, Closed, TagNotOpen}
+use mathlib.Core.List.{[]}
+use Rattle.srp.specs.declared.Refusal.the-variants.{ShortBuffer, Argument, Closed, TagNotOpen, Waiting}
 use Rattle.words.specs.View.{view}
 use Rattle.words.proofs.Ports.{view-live}
 use Rattle.state.specs.Changes.{FoundIs}
 use Rattle.state.specs.declared.Found.{Found}
-use Rattle.state.proofs.Promises.{unaltered, answers-by, tag-open, tag-free}
+use Rattle.state.proofs.Promises.{unaltered, answers-by, tag-free}
 use Rattle.state.proofs.Opened.{head-open, port-closed, port-open}
+use Rattle.state.proofs.Waiting.{found-draws}
 use Rattle.finish.proofs.Senses.{sense-fits}
-use Rattle.finish.proofs.Endings.{finish-short, finish-closed, finish-bad, finish-none, finished}
+use Rattle.finish.proofs.Endings.{finish-short, finish-closed, finish-bad, finish-none, finish-open}
 use borrow.Author.Needs.{needs}
 use Rattle.finish.proofs.finish.Statement.{statement}
 use Rattle.finish.proofs.finish.Tie as tie
@@ -81,20 +83,14 @@ returns-4 c =
     (sym (c .before .before .before .before .before .before .before .bad-sense .ensures (a .sense .now) refl) ∙ c .before .before .before .before .before .before .if3 .left) (tag-free l (a .tag) F e st))
     (unaltered l st (a .buf .now) TagNotOpen _ (c .refused4 .ensures))
 
-end-command-requires : tie.Need-end-command-requires
-end-command-requires c κs = (
-  c .before .end-command-arg .given .0 .1,
-  (
-    head-open (c .before .before .before .before .before .before .before .before .before .before .before .get-head .ensures) (c .before .before .before .before .before .before .before .before .before .before .if2 .left),
-    (
-      subst (λ (x : Found). FoundIs (c .before .before .before .before .before .before .before .before .before .before .before .before .before .before .before .before .before .args .s .now) (c .before .before .before .before .before .before .before .before .before .before .before .before .before .before .before .before .before .args .tag) x) (c .before .before .before .i .given .1) (c .before .before .before .before .before .find .ensures),
-      (sense-fits (c .before .before .before .before .before .before .before .before .before .before .before .before .before .before .before .before .before .args .status) (c .before .before .before .before .before .before .before .before .before .before .before .before .before .before .before .before .before .args .sense .now) (sym (c .before .before .before .before .before .before .before .before .before .bad-sense .ensures (c .before .before .before .before .before .before .before .before .before .before .before .before .before .before .before .before .before .args .sense .now) refl) ∙ c .before .before .before .before .before .before .before .before .if3 .left), c .before .before .before .before .before .before .before .before .before .before .before .before .before .before .if1 .left),
-    ),
-  ),
-)
+load-waiting-requires : tie.Need-load-waiting-requires
+load-waiting-requires c κs =
+    let a = c .before .before .before .before .before .before .before .before .before .before .before .before .before .before .before .before .before .args in
+    let F = subst (λ (x : Found). FoundIs (a .s .now) (a .tag) x) (c .before .before .before .i .given .1) (c .before .before .before .before .before .find .ensures) in
+    (search needs, F .small)
 
-same-length : tie.Need-same-length
-same-length c = search needs
+refused-requires-5 : tie.Need-refused-requires-5
+refused-requires-5 c κs = search needs
 
 returns-5 : tie.Need-returns-5
 returns-5 c =
@@ -104,8 +100,29 @@ returns-5 c =
     let e = head-open (c .before .before .before .before .before .before .before .before .before .before .before .before .before .before .get-head .ensures) (c .before .before .before .before .before .before .before .before .before .before .before .before .before .if2 .left) in
     let F = subst (λ (x : Found). FoundIs l (a .tag) x) (c .before .before .before .before .before .before .i .given .1) (c .before .before .before .before .before .before .before .before .find .ensures) in
     answers-by
-    (finished (view l st) _ (a .tag) (a .status) (a .sense .now) (c .before .before .before .before .before .before .before .before .before .before .before .before .before .before .before .before .before .if1 .left) (view-live l st ∙ e)
-    (sym (c .before .before .before .before .before .before .before .before .before .before .before .before .bad-sense .ensures (a .sense .now) refl) ∙ c .before .before .before .before .before .before .before .before .before .before .before .if3 .left) (tag-open F e st))
+    (finish-open (view l st) _ (a .tag) (a .status) (a .sense .now) (c .before .before .before .before .before .before .before .before .before .before .before .before .before .before .before .before .before .if1 .left) (view-live l st ∙ e)
+    (sym (c .before .before .before .before .before .before .before .before .before .before .before .before .bad-sense .ensures (a .sense .now) refl) ∙ c .before .before .before .before .before .before .before .before .before .before .before .if3 .left) (found-draws F e st (sym (c .before .before .load-waiting .ensures) ∙ c .before .if4 .taken) []))
+    (unaltered l st (a .buf .now) Waiting _ (c .refused5 .ensures))
+
+end-command-requires : tie.Need-end-command-requires
+end-command-requires c κs =
+    let a = c .before .before .before .before .before .before .before .before .before .before .before .before .before .before .before .before .before .before .before .before .before .args in
+    let F = subst (λ (x : Found). FoundIs (a .s .now) (a .tag) x) (c .before .before .before .before .before .before .before .i .given .1) (c .before .before .before .before .before .before .before .before .before .find .ensures) in
+    (c .before .end-command-arg .given .0 .1, (head-open (c .before .before .before .before .before .before .before .before .before .before .before .before .before .before .before .get-head .ensures) (c .before .before .before .before .before .before .before .before .before .before .before .before .before .before .if2 .left), (F, (sense-fits (a .status) (a .sense .now) (sym (c .before .before .before .before .before .before .before .before .before .before .before .before .before .bad-sense .ensures (a .sense .now) refl) ∙ c .before .before .before .before .before .before .before .before .before .before .before .before .if3 .left), c .before .before .before .before .before .before .before .before .before .before .before .before .before .before .before .before .before .before .if1 .left))))
+
+same-length : tie.Need-same-length
+same-length c = search needs
+
+returns-6 : tie.Need-returns-6
+returns-6 c =
+    λ st.
+    let a = c .before .before .before .before .before .before .before .before .before .before .before .before .before .before .before .before .before .before .before .before .before .before .before .before .args in
+    let l = a .s .now in
+    let e = head-open (c .before .before .before .before .before .before .before .before .before .before .before .before .before .before .before .before .before .before .get-head .ensures) (c .before .before .before .before .before .before .before .before .before .before .before .before .before .before .before .before .before .if2 .left) in
+    let F = subst (λ (x : Found). FoundIs l (a .tag) x) (c .before .before .before .before .before .before .before .before .before .before .i .given .1) (c .before .before .before .before .before .before .before .before .before .before .before .before .find .ensures) in
+    answers-by
+    (finish-open (view l st) _ (a .tag) (a .status) (a .sense .now) (c .before .before .before .before .before .before .before .before .before .before .before .before .before .before .before .before .before .before .before .before .before .if1 .left) (view-live l st ∙ e)
+    (sym (c .before .before .before .before .before .before .before .before .before .before .before .before .before .before .before .before .bad-sense .ensures (a .sense .now) refl) ∙ c .before .before .before .before .before .before .before .before .before .before .before .before .before .before .before .if3 .left) (found-draws F e st (sym (c .before .before .before .before .before .before .load-waiting .ensures) ∙ c .before .before .before .before .before .if4 .left) []))
     (c .before .before .end-command .ensures st)
 
 pub finish-spec : {M : Type 1} → statement M
@@ -126,6 +143,9 @@ finish-spec =
     enum-told
     refused-requires-4
     returns-4
+    load-waiting-requires
+    refused-requires-5
+    returns-5
     end-command-requires
     same-length
-    returns-5)
+    returns-6)
