@@ -44,7 +44,7 @@ pub fn standing(msg: &[u8], d: Descriptor) -> &[u8]
     &msg[0..0]
 }
 
-// A descriptor without its place, which nothing reads behind the message.
+// A descriptor as it is kept without its message: its place there is gone.
 pub fn placeless(d: Descriptor) -> Descriptor
     ensures { λ r. ⌜ r ≡ placeless d ⌝ }
 {
