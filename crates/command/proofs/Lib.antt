@@ -3,3 +3,4 @@ pub mod Formats
 pub mod Tables
 pub mod Sums
 pub mod Refusing
+pub mod Judged

@@ -112,15 +112,6 @@ module _ (d : Descriptor) where
     pub size-none : (d .format ≡ 2 → ⊥) → 0 ≡ standingSize d
     size-none q = rw (ne-eqb (d .format) 1 p, ne-eqb (d .format) 2 q)
 
-  short : (a b : Bool) → d .count ≤ 32 → cond a 16 (cond b (16 * d .count) 0) ≤ 512
-  short true b h = omega arith
-  short false true h = omega arith
-  short false false h = omega arith
-
-  -- at most 32 memory descriptors
-  pub standing-short : d .count ≤ 32 → standingSize d ≤ 512
-  standing-short h = short (eqb (d .format) 1) (eqb (d .format) 2) h
-
   module _ (s : List ℕ) (w : LiesIn s d) where
     abbrev Stands : List ℕ → Type 0
     Stands l = (l ≡ standing d s) × (length l ≡ standingSize d)

@@ -4,15 +4,20 @@ use mathlib.Core.Path.{_≡_, refl, ap, subst}
 use mathlib.Core.Bool.{Bool, true, false, cond}
 use mathlib.Core.List.{List, [], _∷_, _++_, map}
 use mathlib.Core.Option.{some, Option·map, Option·none-ne-some, Option·some-injective}
-use Prim.Native.Nat.{ℕ, zero, suc, _≤_}
+use Prim.Native.Nat.{ℕ, zero, suc, _≤_, _<_}
 use native.Mathlib.Omega.{arith}
-use lib.ListN.{length, take, drop}
+use lib.ListN.{length, getD, take, drop}
 use Rattle.srp.specs.Lists.{find, change, without, All}
 
 -- a function goes out of a choice
 pub cond-out : {X Y : Type 0} (g : X → Y) (b : Bool) (x y : X) → cond b (g x) (g y) ≡ g (cond b x y)
 cond-out g true x y = refl
 cond-out g false x y = refl
+
+-- maps that agree on the elements of a list
+pub map-same : {A B : Type 0} (f g : A → B) (l : List A) (d : A) → ((j : ℕ) → j < length l → f (getD l j d) ≡ g (getD l j d)) → map f l ≡ map g l
+map-same f g [] d h = refl
+map-same f g (x ∷ xs) d h = rw (h 0 (omega arith), map-same f g xs d (λ j q. h (suc j) (omega arith))) refl
 
 module _ {A B : Type 0} (f : A → B) where
   -- the first that passes of the images is the image of the first

@@ -33,6 +33,15 @@ fetched-short d = go (eqb (d .format) 2 && (goodTable (d .len) && not (whole d))
     go true e = table-short (d .len) (both (goodTable (d .len)) (not (whole d)) (both (eqb (d .format) 2) _ e .1) .0)
     go false e = omega arith
 
+-- of at most 32 copies no more than 512 bytes stand in a message
+pub standing-short : (d : Descriptor) → d .count ≤ mostCopies → standingSize d ≤ longestTable
+standing-short d h = go (eqb (d .format) 1) (eqb (d .format) 2)
+  where
+    go : (x y : Bool) → cond x 16 (cond y (16 * d .count) 0) ≤ longestTable
+    go true y = omega arith
+    go false true = omega arith
+    go false false = omega arith
+
 -- a message has no more of a direction's memory descriptors than its descriptor says
 pub given-short : (d : Descriptor) (s : List ℕ) → length (standing d s) ≤ standingSize d
 given-short d s = go (eqb (d .format) 1) (eqb (d .format) 2)

@@ -16,7 +16,7 @@ use lib.Seq.{drop-cons, getD-take, getD-drop, drop-drop, take-suc-set, take-take
 use Rattle.srp.specs.Lists.{find, change, without}
 use Rattle.srp.specs.Credit.{Open, withHeld}
 use Rattle.srp.specs.Take.{hasTag}
-use Rattle.srp.proofs.ListLaws.{without-map}
+use Rattle.srp.proofs.ListLaws.{map-same, without-map}
 use Rattle.words.specs.declared.Slot.{Slot}
 use Rattle.words.specs.declared.Head.{Head}
 use Rattle.srp.specs.declared.Request.{Request}
@@ -49,13 +49,14 @@ module _ {A B : Type 0} (p : B → Bool) (f : A → B) (d : A) where
   none-there (x ∷ xs) zero h N = let z : ⊥ = omega arith in absurd z
   none-there (x ∷ xs) (suc i) h N = rw (N 0 (omega arith)) (none-there xs i (omega arith) (λ j k. N (suc j) (omega arith)))
 
-  -- a change of the first that passes is one at i
-  pub change-there : (l : List A) (i : ℕ) → i < length l → NoneOf l i → p (f (getD l i d)) ≡ true → (g : B → B) (c : A) → f c ≡ g (f (getD l i d))
-      → change p g (map f l) ≡ map f (set l i c)
-  change-there [] i h N e g c q = let z : ⊥ = omega arith in absurd z
-  change-there (x ∷ xs) zero h N e g c q = rw (e, q) refl
-  change-there (x ∷ xs) (suc i) h N e g c q =
-      rw (N 0 (omega arith)) (ap (λ (r : List B). f x ∷ r) (change-there xs i (omega arith) (λ j k. N (suc j) (omega arith)) e g c q))
+  -- a change of the first that passes is one at i, also where all images are of another function, which agrees on the others
+  pub change-there : (f′ : A → B) (l : List A) (i : ℕ) → i < length l → NoneOf l i → p (f (getD l i d)) ≡ true → (g : B → B) (c : A) → f′ c ≡ g (f (getD l i d))
+      → ((j : ℕ) → j < length l → (j ≡ i → ⊥) → f′ (getD l j d) ≡ f (getD l j d)) → change p g (map f l) ≡ map f′ (set l i c)
+  change-there f′ [] i h N e g c q s = let z : ⊥ = omega arith in absurd z
+  change-there f′ (x ∷ xs) zero h N e g c q s = rw (e, q, map-same f′ f xs d (λ j k. s (suc j) (omega arith) (λ z. omega arith))) refl
+  change-there f′ (x ∷ xs) (suc i) h N e g c q s =
+      rw (N 0 (omega arith), s 0 (omega arith) (λ z. omega arith))
+      (ap (λ (r : List B). f x ∷ r) (change-there f′ xs i (omega arith) (λ j k. N (suc j) (omega arith)) e g c q (λ j k ne. s (suc j) (omega arith) (λ z. ne (omega arith)))))
 
 -- ── the search for a tag
 
@@ -96,7 +97,7 @@ module _ (l : List ℕ) (tag held i : ℕ) (S : Searching l tag held i) where
         others = S .others;
         first = λ st. first-there (hasTag tag) (openOf st) noSlot (opens l) i long (S .others) this ∙ ap (λ (c : Slot). some (openOf st c)) slot;
         changes = λ st g c e.
-            change-there (hasTag tag) (openOf st) noSlot (opens l) i long (S .others) this g c (e ∙ ap (λ (x : Slot). g (openOf st x)) (sym slot))
+            change-there (hasTag tag) (openOf st) noSlot (openOf st) (opens l) i long (S .others) this g c (e ∙ ap (λ (x : Slot). g (openOf st x)) (sym slot)) (λ j k ne. refl)
             ∙ ap (map (openOf st)) (sym (take-set-lt (headOf l .held) (slots l) i c n));
       }
 

@@ -13,6 +13,7 @@ use Rattle.srp.specs.Descriptors.{standingSize}
 use Rattle.srp.specs.Credit.{Open}
 use Rattle.srp.specs.declared.Descriptor.{Descriptor}
 use Rattle.srp.specs.declared.Request.{Request}
+use Rattle.srp.proofs.ListLaws.{map-same}
 use Rattle.words.specs.declared.Head.{Head}
 use Rattle.words.specs.declared.Part.{Part}
 use Rattle.words.specs.declared.Awaited.{Awaited}
@@ -25,11 +26,6 @@ use Rattle.words.proofs.Slots.{slots-long}
 use Rattle.words.proofs.Ports.{opens-long, slot-fits}
 use Rattle.store.specs.Places.{Free, Holds, OwnPlace, Entered, placeOf, newSlot, openIn}
 use Rattle.store.proofs.Placing.{with-both, both-long, outside, here, others, before, behind}
-
--- maps that agree on the elements of a list
-map-same : {A B : Type 0} (f g : A → B) (l : List A) (d : A) → ((j : ℕ) → j < length l → f (getD l j d) ≡ g (getD l j d)) → map f l ≡ map g l
-map-same f g [] d h = refl
-map-same f g (x ∷ xs) d h = rw (h 0 (omega arith), map-same f g xs d (λ j q. h (suc j) (omega arith))) refl
 
 -- an open command is in its ranges
 pub open-fits : (l : List ℕ) (j : ℕ) → j < headOf l .held → SlotFits (getD (opens l) j noSlot)

@@ -7,7 +7,6 @@ use mathlib.Core.Logic.{_⊎_, inl, inr, ⊎-elim}
 use mathlib.Core.Option.{Option, none, some}
 use Prim.Native.Nat.{ℕ, _+_, _*_, _≤_, _<_}
 use native.Mathlib.Omega.{arith}
-use lib.Dec.{eqb}
 use lib.ListN.{length, take, drop, length-drop}
 use lib.Seq.{paste, length-paste, drop-paste, drop-drop, take-all, take-append-le, take-take}
 use Rattle.srp.specs.Lists.{over}
@@ -16,6 +15,7 @@ use Rattle.srp.specs.Descriptors.{standingSize, Given}
 use Rattle.srp.specs.Credit.{Side}
 use Rattle.srp.specs.declared.Descriptor.{Descriptor}
 use Rattle.srp.specs.declared.Direction.the-variants.{Out, In}
+use Rattle.srp.proofs.Segments.{standing-short}
 use Rattle.words.specs.declared.Part.{Part}
 use Rattle.words.specs.declared.Slot.{Slot}
 use Rattle.words.specs.Sizes.{mostSlots, listSize, placeSize, storeSize}
@@ -23,15 +23,6 @@ use Rattle.words.specs.Slots.{PartFits, TableFits, SlotFits, placeAt, placeFor}
 use Rattle.words.specs.View.{sideOf, givenOf, openOf}
 use Rattle.words.proofs.Slots.{apart, from-written, either}
 use Rattle.store.specs.Places.{openIn}
-
--- what a descriptor in its ranges keeps is at most 512 bytes
-pub standing-short : (d : Descriptor) → TableFits d → standingSize d ≤ listSize
-standing-short d F = go (eqb (d .format) 1) (eqb (d .format) 2)
-  where
-    go : (x y : Bool) → cond x 16 (cond y (16 * d .count) 0) ≤ listSize
-    go true y = omega arith
-    go false true = omega (arith, F .few)
-    go false false = omega arith
 
 -- ── what a command reads of its directions' bytes
 
@@ -43,7 +34,7 @@ pub side-alike : (a b : List ℕ) (p : Part) → PartFits p → Alike a b → si
 side-alike a b p F e = rw (e (16 * p .segments) (omega (arith, F .few))) refl
 
 pub given-alike : (a b : List ℕ) (d : Descriptor) → TableFits d → Alike a b → givenOf a 0 d ≡ givenOf b 0 d
-given-alike a b d F e = rw (e (standingSize d) (standing-short d F)) refl
+given-alike a b d F e = rw (e (standingSize d) (standing-short d (F .few))) refl
 
 pub open-alike : (a b a′ b′ : List ℕ) (c : Slot) → SlotFits c → Alike a a′ → Alike b b′ → openIn a b c ≡ openIn a′ b′ c
 open-alike a b a′ b′ c F e f =

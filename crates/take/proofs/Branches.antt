@@ -5,10 +5,10 @@ use mathlib.Core.Bool.{Bool, true, false, cond, not, _&&_, _||_}
 use mathlib.Core.List.{List, [], _∷_}
 use Prim.Native.Nat.{ℕ, _≤_, _<_}
 use lib.Dec.{eqb}
-use borrow.Author.Tests.{eq-eqb, ne-eqb, lt-ltb, le-ltb, eqb-true, not-false}
+use borrow.Author.Tests.{eq-eqb, ne-eqb, lt-ltb, le-ltb}
 use Rattle.srp.specs.Limits.{bufferSize}
 use Rattle.srp.specs.Refusals.{Conduct, hangsUp, conductOf, reasonIn, firstOf}
-use Rattle.srp.specs.Descriptors.{Given, given, segments, sumOf, fetched, goodFields}
+use Rattle.srp.specs.Descriptors.{given, goodFields}
 use Rattle.srp.specs.Requests.{readMessage}
 use Rattle.srp.specs.Credit.{Port}
 use Rattle.srp.specs.Take.{silent, hangUp, isOpen, noTables, givenIn, waits, fieldsFit, accepted, conducted, takeBy, takeRead, takeDef}
@@ -19,10 +19,6 @@ use Rattle.srp.specs.declared.TaskRequest.{TaskRequest}
 use Rattle.srp.specs.declared.Message.{Message}
 use Rattle.srp.specs.declared.Message.the-variants.{Bad, Cmd, TskMgmt, CredRsp}
 use Rattle.srp.specs.declared.Reply.the-variants.{Refused}
-use Rattle.srp.proofs.FieldLaws.{both}
-use Rattle.cut.specs.declared.Total.the-variants.{Sum, Wrong}
-use Rattle.cut.proofs.Refusing.{no-sum, is-sum}
-use Rattle.command.specs.Reading.{fieldsOf}
 use Rattle.take.specs.Taking.{laterDef, fieldsDef, badDef}
 
 -- ── 1 and 21
@@ -125,20 +121,3 @@ module _ (p : Port) (m : List ℕ) where
         -- no check hits
         pub fields-on : goodFields (given (c .inn) m) [] ≡ true → fieldsDef p m c ≡ accepted p m (Cmd c)
         fields-on e = by-fields true (ap (λ (x : Bool). x && goodFields (given (c .inn) m) []) good ∙ e)
-
--- no table is to be fetched for a command that does not wait
-pub none-fetched : (c : Command) → waits c ≡ false → (fetched (c .out) ≡ 0) × (fetched (c .inn) ≡ 0)
-none-fetched c w =
-    let q = both (eqb (fetched (c .out)) 0) (eqb (fetched (c .inn)) 0) (not-false _ w) in
-    (eqb-true (fetched (c .out)) 0 (q .0), eqb-true (fetched (c .inn)) 0 (q .1))
-
--- ── a direction's fields
-
-module _ (g : Given) (t : List ℕ) where
-  -- without a sum they are bad
-  pub fields-wrong : fieldsOf g t ≡ Wrong → goodFields g t ≡ false
-  fields-wrong e = no-sum (goodFields g t) (sumOf (segments g t)) e
-
-  -- with a sum they are good, and it is B
-  pub fields-right : (k : ℕ) → fieldsOf g t ≡ Sum k → (goodFields g t ≡ true) × (k ≡ sumOf (segments g t))
-  fields-right k e = is-sum (goodFields g t) (sumOf (segments g t)) k e

@@ -3,25 +3,21 @@
 use mathlib.Core.Path.{_≡_, refl, sym, _∙_, ap, subst}
 use mathlib.Core.Bool.{Bool, true, false}
 use mathlib.Core.List.{List, [], _∷_}
-use mathlib.Core.Option.{some}
 use Prim.Native.Nat.{ℕ, _+_, _*_, _/_, _≤_}
 use native.Mathlib.Omega.{arith}
-use lib.ListN.{length, length-append}
+use lib.ListN.{length}
 use lib.Seq.{take-all, take-length}
-use Rattle.srp.specs.Bytes.{write}
-use Rattle.srp.specs.Messages.{rsp}
 use Rattle.srp.specs.Descriptors.{standing, standingSize, placeless, giving, given, chosen}
 use Rattle.srp.specs.Credit.{Open, Port, due}
-use Rattle.srp.specs.Writing.{responseValues, answer, solicited, placed}
+use Rattle.srp.specs.Writing.{answer, solicited, placed}
 use Rattle.srp.specs.Take.{answering, waits, newOpen, taskCode, accepted}
 use Rattle.srp.specs.declared.Descriptor.{Descriptor}
 use Rattle.srp.specs.declared.Command.{Command}
 use Rattle.srp.specs.declared.TaskRequest.{TaskRequest}
 use Rattle.srp.specs.declared.Message.the-variants.{Cmd, TskMgmt}
-use Rattle.srp.specs.declared.Residual.the-variants.{Even}
 use Rattle.srp.specs.declared.Reply.{Reply}
 use Rattle.srp.specs.declared.Reply.the-variants.{TaskAnswered}
-use Rattle.message.proofs.Laying.{long}
+use Rattle.message.proofs.Answers.{answer-long}
 use Rattle.words.specs.declared.Part.{Part}
 use Rattle.words.specs.declared.Awaited.{Awaited}
 use Rattle.words.specs.Sizes.{listSize}
@@ -35,19 +31,14 @@ use Rattle.state.specs.declared.Ending.the-variants.{Aborted}
 use Rattle.state.proofs.Answering as settling
 use Rattle.message.specs.Header.{answerSize}
 use Rattle.store.specs.Places.{Holds, Entered, newPart, newSlot, openIn, withOneMore}
-use Rattle.store.proofs.Placing.{standing-short}
+use Rattle.srp.proofs.Segments.{standing-short}
 use Rattle.cut.specs.declared.Total.{Total}
 use Rattle.cut.specs.declared.Total.the-variants.{Sum}
 use Rattle.command.specs.Reading.{LiesIn, ListFits, FieldsRead}
 use Rattle.take.specs.Taking.{Summed}
-use Rattle.take.proofs.Branches.{fields-right}
+use Rattle.command.proofs.Judged.{fields-right}
 
 -- ── an answer
-
-answer-long : (x : Bool) (tag code d : ℕ) → length (answer x tag code d) ≡ answerSize
-answer-long x tag code d =
-    let vs = responseValues (record { solnt = x; delta = d; tag = tag; status = 0; out = Even; inn = Even; code = some code; sense = [] }) in
-    length-append (write rsp vs) (0 ∷ 0 ∷ 0 ∷ code ∷ []) ∙ ap (λ (n : ℕ). n + 4) (long rsp vs refl)
 
 -- a request that ends at once uses its own credit, and its answer carries what is due
 pub answered : (l₀ l st b l′ b′ : List ℕ) (x : Bool) (tag code d : ℕ) (y : Reply) → view l st .live ≡ view l₀ st .live → headOf l .live ≡ true → Settled 1 d l l′
@@ -76,7 +67,7 @@ answer-by b tag d {x} {y} {m} {n} e f = ap (λ (z : Bool). placed (answer z tag 
 pub holds-standing : (s list : List ℕ) (d : Descriptor) → LiesIn s d → length list ≡ standingSize d → Holds list (newPart 0 0) (placeless d)
 holds-standing s list d L e =
     let T : TableFits (placeless d) = record { format = L .format; few = L .count; unplaced = refl } in
-    record { short = omega (arith, e, standing-short (placeless d) T); segments = omega arith; standing = omega arith; counted = omega arith; table = T }
+    record { short = omega (arith, e, standing-short d (L .count)); segments = omega arith; standing = omega arith; counted = omega arith; table = T }
 
 -- so do the segments of one that is ready
 pub holds-segments : (list : List ℕ) (total : ℕ) → length list ≤ listSize → Holds list (newPart (length list / 16) total) noTable

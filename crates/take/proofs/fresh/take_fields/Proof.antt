@@ -6,8 +6,10 @@ use Rattle.cut.specs.declared.Total.{Total}
 use Rattle.command.specs.Reading.{ListFits, FieldsRead}
 use Rattle.words.specs.View.{view}
 use Rattle.state.proofs.Promises.{answers-by}
+use Rattle.command.proofs.Tables.{none-awaited}
+use Rattle.command.proofs.Judged.{fields-wrong, fields-right}
 use Rattle.take.proofs.Stored.{not-taken}
-use Rattle.take.proofs.Branches.{fields-wait, out-10, in-10, fields-on, fields-wrong, fields-right, none-fetched}
+use Rattle.take.proofs.Branches.{fields-wait, out-10, in-10, fields-on}
 use Rattle.take.proofs.Endings.{fields-told}
 use borrow.Author.Needs.{needs}
 use Rattle.take.proofs.fresh.take_fields.Statement.{statement}
@@ -66,7 +68,7 @@ standing-requires c κs = search needs
 fields-requires : tie.Need-fields-requires
 fields-requires c κs =
     let w = sym (c .before .before .before .waits .ensures) ∙ c .before .before .if1 .left in
-    (c .standing .ensures .1, (c .before .before .before .before .before .before .before .before .before .before .before .pre .1 .1 .1 .1 .1 .out .count, sym (none-fetched (c .before .before .before .before .before .before .before .before .before .before .before .args .c) w .0)))
+    (c .standing .ensures .1, (c .before .before .before .before .before .before .before .before .before .before .before .pre .1 .1 .1 .1 .1 .out .count, sym (none-awaited (c .before .before .before .before .before .before .before .before .before .before .before .args .c) w .0)))
 
 -- src/fresh.rt:118:20
 enum-known-out-total : tie.Need-enum-known-out-total
@@ -105,7 +107,7 @@ standing-requires-2 c κs = search needs
 fields-requires-2 : tie.Need-fields-requires-2
 fields-requires-2 c κs =
     let w = sym (c .before .before .before .before .before .before .before .before .waits .ensures) ∙ c .before .before .before .before .before .before .before .if1 .left in
-    (c .standing2 .ensures .1, (c .before .before .before .before .before .before .before .before .before .before .before .before .before .before .before .before .pre .1 .1 .1 .1 .1 .inn .count, sym (none-fetched (c .before .before .before .before .before .before .before .before .before .before .before .before .before .before .before .before .args .c) w .1)))
+    (c .standing2 .ensures .1, (c .before .before .before .before .before .before .before .before .before .before .before .before .before .before .before .before .pre .1 .1 .1 .1 .1 .inn .count, sym (none-awaited (c .before .before .before .before .before .before .before .before .before .before .before .before .before .before .before .before .args .c) w .1)))
 
 -- src/fresh.rt:121:20
 enum-known-in-total : tie.Need-enum-known-in-total
