@@ -17,4 +17,3 @@ pub answer-long : (x : Bool) (tag code d : ℕ) → length (answer x tag code d)
 answer-long x tag code d =
     let vs = responseValues (record { solnt = x; delta = d; tag = tag; status = 0; out = Even; inn = Even; code = some code; sense = [] }) in
     length-append (write rsp vs) (0 ∷ 0 ∷ 0 ∷ code ∷ []) ∙ ap (λ (n : ℕ). n + 4) (long rsp vs refl)
-

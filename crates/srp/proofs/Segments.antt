@@ -26,7 +26,7 @@ table-short : (n : ℕ) → goodTable n ≡ true → n ≤ longestTable
 table-short n e = leb-true n longestTable (both (leb n longestTable) _ (both (leb 16 n) _ e .1) .0)
 
 -- F is at most 512
-fetched-short : (d : Descriptor) → fetched d ≤ longestTable
+pub fetched-short : (d : Descriptor) → fetched d ≤ longestTable
 fetched-short d = go (eqb (d .format) 2 && (goodTable (d .len) && not (whole d))) refl
   where
     go : (b : Bool) → (eqb (d .format) 2 && (goodTable (d .len) && not (whole d))) ≡ b → cond b (d .len) 0 ≤ longestTable

@@ -62,7 +62,7 @@ unsummed st at at′ e d table r R s =
 -- ── the command
 
 module _ (l st b : List ℕ) (tag i : ℕ) (out inn : List ℕ) (live : headOf l .live ≡ true) (F : FoundAt l tag i) (c : Slot) (S : SlotIs l i c)
-  (w : getD (slots l) i noSlot .awaits .waiting ≡ true) (enough : bufferSize ≤ length b) where
+    (w : getD (slots l) i noSlot .awaits .waiting ≡ true) (enough : bufferSize ≤ length b) where
   -- what its tables are judged by
   abbrev given-out : Given
   given-out = givenOf st (placeFor Out c) (c .awaits .out)
@@ -70,36 +70,39 @@ module _ (l st b : List ℕ) (tag i : ℕ) (out inn : List ℕ) (live : headOf l
   abbrev given-in : Given
   given-in = givenOf st (placeFor In c) (c .awaits .inn)
 
+  abbrev awaited : Both Given
+  awaited = record { out = given-out; inn = given-in }
+
   waits : c .awaits .waiting ≡ true
   waits = ap (λ (x : Slot). x .awaits .waiting) (S .whole) ∙ w
 
-  judged : tablesDef (view l st) (length b) tag (tables out inn) ≡ judgedDef (view l st) tag (tables out inn) (record { out = given-out; inn = given-in })
+  judged : tablesDef (view l st) (length b) tag (tables out inn) ≡ judgedDef (view l st) tag (tables out inn) awaited
   judged =
       tables-judged (view l st) (length b) tag (tables out inn) enough (view-live l st ∙ live) {c = openOf st c} (found-slot F live st S)
-      (record { out = given-out; inn = given-in }) (rw waits refl)
+      awaited (rw waits refl)
 
   pub unfit-out : (length out ≡ fetched (c .awaits .out) → ⊥) → tablesDef (view l st) (length b) tag (tables out inn) ≡ silent (view l st) (Refused TableLength)
-  unfit-out ne = judged ∙ out-9 (view l st) tag (tables out inn) _ ne
+  unfit-out ne = judged ∙ out-9 (view l st) tag (tables out inn) awaited ne
 
   module _ (lo : length out ≡ fetched (c .awaits .out)) where
     pub unfit-in : (length inn ≡ fetched (c .awaits .inn) → ⊥) → tablesDef (view l st) (length b) tag (tables out inn) ≡ silent (view l st) (Refused TableLength)
-    unfit-in ne = judged ∙ in-9 (view l st) tag (tables out inn) _ lo ne
+    unfit-in ne = judged ∙ in-9 (view l st) tag (tables out inn) awaited lo ne
 
     module _ (li : length inn ≡ fetched (c .awaits .inn)) where
       pub bad-out : (r : Total) → FieldsRead (givenOf st (c .place * placeSize) (c .awaits .out)) out r → r ≡ Wrong
           → tablesDef (view l st) (length b) tag (tables out inn) ≡ badDef tag (view l st)
-      bad-out r R e = judged ∙ out-10 (view l st) tag (tables out inn) _ lo li (unsummed st (c .place * placeSize) (placeFor Out c) (omega arith) (c .awaits .out) out r R e)
+      bad-out r R e = judged ∙ out-10 (view l st) tag (tables out inn) awaited lo li (unsummed st (c .place * placeSize) (placeFor Out c) (omega arith) (c .awaits .out) out r R e)
 
       module _ (n : ℕ) (So : Summed given-out out n) where
         pub bad-in : (r : Total) → FieldsRead (givenOf st (c .place * placeSize + listSize) (c .awaits .inn)) inn r → r ≡ Wrong
             → tablesDef (view l st) (length b) tag (tables out inn) ≡ badDef tag (view l st)
         bad-in r R e =
             judged
-            ∙ in-10 (view l st) tag (tables out inn) _ lo li (So .good) (unsummed st (c .place * placeSize + listSize) (placeFor In c) (omega arith) (c .awaits .inn) inn r R e)
+            ∙ in-10 (view l st) tag (tables out inn) awaited lo li (So .good) (unsummed st (c .place * placeSize + listSize) (placeFor In c) (omega arith) (c .awaits .inn) inn r R e)
 
         module _ (m : ℕ) (Si : Summed given-in inn m) where
           pub accepted : tablesDef (view l st) (length b) tag (tables out inn) ≡ tablesOutcome (view l st) tag (tables out inn)
-          accepted = judged ∙ tables-on (view l st) tag (tables out inn) _ lo li (So .good) (Si .good)
+          accepted = judged ∙ tables-on (view l st) tag (tables out inn) awaited lo li (So .good) (Si .good)
 
           -- the port with the command's segments
           pub port-after : (l′ st′ : List ℕ)
@@ -110,5 +113,5 @@ module _ (l st b : List ℕ) (tag i : ℕ) (out inn : List ℕ) (live : headOf l
               let fi = both (goodFormat given-in inn) (reachable (segments given-in inn)) (Si .good) .0 in
               supplied-view l st l′ st′ tag i live F (newPart (segmentsIn out (c .awaits .out)) n) (newPart (segmentsIn inn (c .awaits .inn)) m) out inn X (brought newSide (tables out inn))
               (rw (← S .whole)
-              (brought-as st c waits _ _ out inn (new-side st (placeFor Out c) (c .awaits .out) out lo fo n (So .whole) (So .total))
+              (brought-as st c waits (newPart (segmentsIn out (c .awaits .out)) n) (newPart (segmentsIn inn (c .awaits .inn)) m) out inn (new-side st (placeFor Out c) (c .awaits .out) out lo fo n (So .whole) (So .total))
               (new-side st (placeFor In c) (c .awaits .inn) inn li fi m (Si .whole) (Si .total))))

@@ -53,17 +53,17 @@ same-length-2 c = search needs
 returns : tie.Need-returns
 returns c =
     λ st.
-        let a = c .before .before .before .before .before .before .before .before .before .before .before .before .before .before .args in
-        let l = a .s .now in
-        let x = openOf st (getD (slots l) (a .i) noSlot) in
-        let p : Port = withoutEnded (Finished (a .q .tag)) (view l st) in
-        let live : headOf l .live ≡ true = c .before .before .before .before .before .before .before .before .before .before .before .before .before .before .pre .1 .0 in
-        let A = c .before .before .before .before .before .before .before .before .before .before .drop-commands .ensures in
-        answers-by (ap (λ (o : Option Open). answering p (Refused Fields) (badResponse o)) (found-first (c .before .before .before .before .before .before .before .before .before .before .before .before .before .before .pre .1 .1 .0) live st))
-        (answered {p = p} (Refused Fields) (badResponse (some x)) (altered-view l (c .before .before .before .before .before .before .before .before .before .before .drop-commands .last .0) st live A) (unused p) refl (A .live ∙ live) (c .before .before .before .before .before .before .settle .ensures)
-        (c .before .before .put-answer .ensures ∙ ap (λ (r : Request). placed (answer (r .ucsolnt) (r .tag) 0x02 (c .before .before .before .before .before .before .settle .result) ∷ []) (a .buf .now)) (c .before .before .before .before .before .before .before .before .before .before .before .before .before .before .pre .1 .1 .1 .0))
-        (ap (λ (n : ℕ). record { reply = Refused Fields; wrote = n }) (sym (answer-long (x .request .ucsolnt) (x .request .tag) 0x02 (due p))))
-        (rw (answer-long (x .request .ucsolnt) (x .request .tag) 0x02 (due p)) (omega arith)))
+    let a = c .before .before .before .before .before .before .before .before .before .before .before .before .before .before .args in
+    let l = a .s .now in
+    let x = openOf st (getD (slots l) (a .i) noSlot) in
+    let p : Port = withoutEnded (Finished (a .q .tag)) (view l st) in
+    let live : headOf l .live ≡ true = c .before .before .before .before .before .before .before .before .before .before .before .before .before .before .pre .1 .0 in
+    let A = c .before .before .before .before .before .before .before .before .before .before .drop-commands .ensures in
+    answers-by (ap (λ (o : Option Open). answering p (Refused Fields) (badResponse o)) (found-first (c .before .before .before .before .before .before .before .before .before .before .before .before .before .before .pre .1 .1 .0) live st))
+    (answered {p = p} (Refused Fields) (badResponse (some x)) (altered-view l (c .before .before .before .before .before .before .before .before .before .before .drop-commands .last .0) st live A) (unused p) refl (A .live ∙ live) (c .before .before .before .before .before .before .settle .ensures)
+    (c .before .before .put-answer .ensures ∙ ap (λ (r : Request). placed (answer (r .ucsolnt) (r .tag) 0x02 (c .before .before .before .before .before .before .settle .result) ∷ []) (a .buf .now)) (c .before .before .before .before .before .before .before .before .before .before .before .before .before .before .pre .1 .1 .1 .0))
+    (ap (λ (n : ℕ). record { reply = Refused Fields; wrote = n }) (sym (answer-long (x .request .ucsolnt) (x .request .tag) 0x02 (due p))))
+    (rw (answer-long (x .request .ucsolnt) (x .request .tag) 0x02 (due p)) (omega arith)))
 
 pub end-bad-spec : {M : Type 1} → statement M
 end-bad-spec =

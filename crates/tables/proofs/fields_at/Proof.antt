@@ -41,8 +41,8 @@ fields-requires c κs = search needs
 returns : tie.Need-returns
 returns c =
     let a = c .before .before .before .before .before .args in
-        let n : a .at + standingSize (a .d) - a .at ≡ standingSize (a .d) = omega arith in
-        rw (c .before .before .standing-size .ensures, n) at (c .fields .ensures)
+    let n : a .at + standingSize (a .d) - a .at ≡ standingSize (a .d) = omega arith in
+    rw (c .before .before .standing-size .ensures, n) at (c .fields .ensures)
 
 pub fields-at-spec : {M : Type 1} → statement M
 fields-at-spec =

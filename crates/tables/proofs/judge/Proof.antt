@@ -1,3 +1,19 @@
+use mathlib.Core.Path.{_≡_, refl, sym, _∙_, ap}
+use Prim.Native.Nat.{_+_, _*_, _≤_}
+use native.Mathlib.Omega.{arith}
+use lib.ListN.{length}
+use Rattle.srp.specs.declared.Refusal.the-variants.{TableLength, Fields}
+use Rattle.srp.specs.declared.Request.{Request}
+use Rattle.words.specs.declared.Slot.{Slot}
+use Rattle.words.specs.Sizes.{placeSize, listSize}
+use Rattle.words.specs.Slots.{placeFor}
+use Rattle.srp.specs.declared.Direction.the-variants.{Out, In}
+use Rattle.srp.specs.declared.Answer.{Answer}
+use Rattle.words.specs.View.{view}
+use Rattle.state.proofs.Promises as promises
+use Rattle.srp.proofs.Segments.{fetched-short}
+use Rattle.tables.proofs.Brought.{kept, placed, not-performed}
+use Rattle.tables.proofs.Judged.{summed, unfit-out, unfit-in, bad-out, bad-in, accepted, port-after}
 use borrow.Author.Needs.{needs}
 use Rattle.tables.proofs.judge.Statement.{statement}
 use Rattle.tables.proofs.judge.Tie as tie
@@ -34,7 +50,14 @@ same-length c = search needs
 
 -- src/lib.rt:100:9
 returns : tie.Need-returns
-returns c = ?
+returns c =
+    let a = c .before .before .before .before .before .before .before .before .before .before .before .before .before .before .args in
+    let p = c .before .before .before .before .before .before .before .before .before .before .before .before .before .before .pre in
+    let A = promises.unaltered (a .s .now) (a .store .now) (a .buf .now) TableLength _ (c .refused .ensures) in
+    record {
+      answers = promises.answers-by (unfit-out (a .s .now) (a .store .now) (a .buf .now) (a .tag) (a .i) (a .out .now) (a .inn .now) (p .1 .1 .0) (p .1 .1 .1 .0) (c .before .before .before .before .before .before .before .load .result) (c .before .before .before .before .before .before .before .load .ensures) (p .1 .1 .1 .1 .0) (p .1 .1 .1 .1 .1) (λ z. c .before .if1 .taken (z ∙ sym (c .before .before .fetched-length .ensures)))) A;
+      store = kept (λ e. not-performed TableLength (sym (ap (λ (r : Answer). r .reply) (c .refused .ensures)) ∙ e));
+    }
 
 -- src/lib.rt:102:22
 fetched-length-requires-2 : tie.Need-fetched-length-requires-2
@@ -54,7 +77,14 @@ same-length-2 c = search needs
 
 -- src/lib.rt:103:9
 returns-2 : tie.Need-returns-2
-returns-2 c = ?
+returns-2 c =
+    let a = c .before .before .before .before .before .before .before .before .before .before .before .before .before .before .before .before .args in
+    let p = c .before .before .before .before .before .before .before .before .before .before .before .before .before .before .before .before .pre in
+    let A = promises.unaltered (a .s .now) (a .store .now) (a .buf .now) TableLength _ (c .refused2 .ensures) in
+    record {
+      answers = promises.answers-by (unfit-in (a .s .now) (a .store .now) (a .buf .now) (a .tag) (a .i) (a .out .now) (a .inn .now) (p .1 .1 .0) (p .1 .1 .1 .0) (c .before .before .before .before .before .before .before .before .before .load .result) (c .before .before .before .before .before .before .before .before .before .load .ensures) (p .1 .1 .1 .1 .0) (p .1 .1 .1 .1 .1) (c .before .before .before .if1 .left ∙ c .before .before .before .before .fetched-length .ensures) (λ z. c .before .if2 .taken (z ∙ sym (c .before .before .fetched-length2 .ensures)))) A;
+      store = kept (λ e. not-performed TableLength (sym (ap (λ (r : Answer). r .reply) (c .refused2 .ensures)) ∙ e));
+    }
 
 -- src/lib.rt:105:15
 cast-at : tie.Need-cast-at
@@ -66,7 +96,8 @@ mul-at c = search needs
 
 -- src/lib.rt:106:33
 fields-at-requires : tie.Need-fields-at-requires
-fields-at-requires c κs = ?
+fields-at-requires c κs =
+    (c .before .before .before .before .before .before .before .before .before .before .before .before .before .before .before .before .before .pre .1 .0, (omega (arith, c .before .before .before .before .before .before .before .before .before .before .load .ensures .fits .place), (c .before .before .before .before .before .before .before .before .before .before .load .ensures .fits .awaits .out, c .before .before .before .before .if1 .left ∙ c .before .before .before .before .before .fetched-length .ensures)))
 
 -- src/lib.rt:106:20
 enum-known-out-total : tie.Need-enum-known-out-total
@@ -78,7 +109,12 @@ enum-told c = search needs
 
 -- src/lib.rt:107:9
 end-bad-requires : tie.Need-end-bad-requires
-end-bad-requires c κs = ?
+end-bad-requires c κs =
+    let p = c .before .before .before .before .before .before .before .before .before .before .before .before .before .before .before .before .before .before .before .before .before .before .pre in
+    let e = ap (λ (c : Slot). c .request) (c .before .before .before .before .before .before .before .before .before .before .before .before .before .before .before .load .ensures .whole) in
+    let F = p .1 .1 .1 .0 in
+    let t = ap (λ (r : Request). r .tag) e ∙ F .tagged in
+    (p .0, (p .1 .1 .0, (rw t F, (e, p .1 .1 .1 .1 .1))))
 
 -- src/lib.rt:107:9
 same-length-3 : tie.Need-same-length-3
@@ -94,7 +130,15 @@ same-length-5 c = search needs
 
 -- src/lib.rt:107:9
 returns-3 : tie.Need-returns-3
-returns-3 c = ?
+returns-3 c =
+    let a = c .before .before .before .before .before .before .before .before .before .before .before .before .before .before .before .before .before .before .before .before .before .before .before .before .before .before .before .args in
+    let p = c .before .before .before .before .before .before .before .before .before .before .before .before .before .before .before .before .before .before .before .before .before .before .before .before .before .before .before .pre in
+    let t = ap (λ (c : Slot). c .request .tag) (c .before .before .before .before .before .before .before .before .before .before .before .before .before .before .before .before .before .before .before .before .load .ensures .whole) ∙ p .1 .1 .1 .0 .tagged in
+    let A = rw t at (c .before .before .before .before .end-bad .ensures) (a .store .now) in
+    record {
+      answers = promises.answers-by (bad-out (a .s .now) (a .store .now) (a .buf .now) (a .tag) (a .i) (a .out .now) (a .inn .now) (p .1 .1 .0) (p .1 .1 .1 .0) (c .before .before .before .before .before .before .before .before .before .before .before .before .before .before .before .before .before .before .before .before .load .result) (c .before .before .before .before .before .before .before .before .before .before .before .before .before .before .before .before .before .before .before .before .load .ensures) (p .1 .1 .1 .1 .0) (p .1 .1 .1 .1 .1) (c .before .before .before .before .before .before .before .before .before .before .before .before .before .before .if1 .left ∙ c .before .before .before .before .before .before .before .before .before .before .before .before .before .before .before .fetched-length .ensures) (c .before .before .before .before .before .before .before .before .before .before .before .before .if2 .left ∙ c .before .before .before .before .before .before .before .before .before .before .before .before .before .fetched-length2 .ensures) _ (c .before .before .before .before .before .before .before .before .before .fields-at .ensures) (c .before .before .before .before .before .before .before .enum-told .given .1)) A;
+      store = kept (λ e. not-performed Fields (sym (ap (λ (r : Answer). r .reply) (A .answer)) ∙ e));
+    }
 
 -- src/lib.rt:109:49
 add-fields-at : tie.Need-add-fields-at
@@ -102,7 +146,8 @@ add-fields-at c = search needs
 
 -- src/lib.rt:109:32
 fields-at-requires-2 : tie.Need-fields-at-requires-2
-fields-at-requires-2 c κs = ?
+fields-at-requires-2 c κs =
+    (c .before .before .before .before .before .before .before .before .before .before .before .before .before .before .before .before .before .before .before .before .before .before .pre .1 .0, (omega (arith, c .before .before .before .before .before .before .before .before .before .before .before .before .before .before .before .load .ensures .fits .place), (c .before .before .before .before .before .before .before .before .before .before .before .before .before .before .before .load .ensures .fits .awaits .inn, c .before .before .before .before .before .before .before .if2 .left ∙ c .before .before .before .before .before .before .before .before .fetched-length2 .ensures)))
 
 -- src/lib.rt:109:20
 enum-known-in-total : tie.Need-enum-known-in-total
@@ -114,7 +159,12 @@ enum-told-2 c = search needs
 
 -- src/lib.rt:110:9
 end-bad-requires-2 : tie.Need-end-bad-requires-2
-end-bad-requires-2 c κs = ?
+end-bad-requires-2 c κs =
+    let p = c .before .before .before .before .before .before .before .before .before .before .before .before .before .before .before .before .before .before .before .before .before .before .before .before .before .before .before .pre in
+    let e = ap (λ (c : Slot). c .request) (c .before .before .before .before .before .before .before .before .before .before .before .before .before .before .before .before .before .before .before .before .load .ensures .whole) in
+    let F = p .1 .1 .1 .0 in
+    let t = ap (λ (r : Request). r .tag) e ∙ F .tagged in
+    (p .0, (p .1 .1 .0, (rw t F, (e, p .1 .1 .1 .1 .1))))
 
 -- src/lib.rt:110:9
 same-length-6 : tie.Need-same-length-6
@@ -130,15 +180,28 @@ same-length-8 c = search needs
 
 -- src/lib.rt:110:9
 returns-4 : tie.Need-returns-4
-returns-4 c = ?
+returns-4 c =
+    let a = c .before .before .before .before .before .before .before .before .before .before .before .before .before .before .before .before .before .before .before .before .before .before .before .before .before .before .before .before .before .before .before .before .args in
+    let p = c .before .before .before .before .before .before .before .before .before .before .before .before .before .before .before .before .before .before .before .before .before .before .before .before .before .before .before .before .before .before .before .before .pre in
+    let k = c .before .before .before .before .before .before .before .before .before .before .before .before .before .before .before .before .before .before .before .before .before .before .before .before .before .load .result in
+    let t = ap (λ (c : Slot). c .request .tag) (c .before .before .before .before .before .before .before .before .before .before .before .before .before .before .before .before .before .before .before .before .before .before .before .before .before .load .ensures .whole) ∙ p .1 .1 .1 .0 .tagged in
+    let A = rw t at (c .before .before .before .before .end-bad2 .ensures) (a .store .now) in
+    let So = summed (a .store .now) (k .place * placeSize) (placeFor Out k) (omega arith) (k .awaits .out) (a .out .now) _ _ (c .before .before .before .before .before .before .before .before .before .before .before .before .before .before .fields-at .ensures) (c .before .before .before .before .before .before .before .before .before .before .before .before .out-total .given .1) in
+    record {
+      answers = promises.answers-by (bad-in (a .s .now) (a .store .now) (a .buf .now) (a .tag) (a .i) (a .out .now) (a .inn .now) (p .1 .1 .0) (p .1 .1 .1 .0) k (c .before .before .before .before .before .before .before .before .before .before .before .before .before .before .before .before .before .before .before .before .before .before .before .before .before .load .ensures) (p .1 .1 .1 .1 .0) (p .1 .1 .1 .1 .1) (c .before .before .before .before .before .before .before .before .before .before .before .before .before .before .before .before .before .before .before .if1 .left ∙ c .before .before .before .before .before .before .before .before .before .before .before .before .before .before .before .before .before .before .before .before .fetched-length .ensures) (c .before .before .before .before .before .before .before .before .before .before .before .before .before .before .before .before .before .if2 .left ∙ c .before .before .before .before .before .before .before .before .before .before .before .before .before .before .before .before .before .before .fetched-length2 .ensures) _ So _ (c .before .before .before .before .before .before .before .before .before .fields-at2 .ensures) (c .before .before .before .before .before .before .before .enum-told2 .given .1)) A;
+      store = kept (λ e. not-performed Fields (sym (ap (λ (r : Answer). r .reply) (A .answer)) ∙ e));
+    }
 
 -- src/lib.rt:112:36
 segment-count-requires : tie.Need-segment-count-requires
-segment-count-requires c κs = ?
+segment-count-requires c κs =
+    (c .before .before .before .before .before .before .before .before .before .before .before .before .before .before .before .before .before .before .before .load .ensures .fits .awaits .out, omega (arith, c .before .before .before .before .before .before .before .before .before .before .before .before .before .if1 .left ∙ c .before .before .before .before .before .before .before .before .before .before .before .before .before .before .fetched-length .ensures, fetched-short (c .before .before .before .before .before .before .before .before .before .before .before .before .before .before .before .before .before .before .before .load .result .awaits .out)))
 
 -- src/lib.rt:112:59
 cast-new-part : tie.Need-cast-new-part
-cast-new-part c = ?
+cast-new-part c =
+    let k = c .before .before .before .before .before .before .before .before .before .before .before .before .before .before .before .before .before .before .before .before .load .result in
+    omega (arith, summed (c .before .before .before .before .before .before .before .before .before .before .before .before .before .before .before .before .before .before .before .before .before .before .before .before .before .before .before .args .store .now) (k .place * placeSize) (placeFor Out k) (omega arith) (k .awaits .out) (c .before .before .before .before .before .before .before .before .before .before .before .before .before .before .before .before .before .before .before .before .before .before .before .before .before .before .before .args .out .now) _ _ (c .before .before .before .before .before .before .before .before .before .fields-at .ensures) (c .before .before .before .before .before .before .before .out-total .given .1) .small)
 
 -- src/lib.rt:112:9
 new-part-requires : tie.Need-new-part-requires
@@ -146,11 +209,14 @@ new-part-requires c κs = search needs
 
 -- src/lib.rt:113:35
 segment-count-requires-2 : tie.Need-segment-count-requires-2
-segment-count-requires-2 c κs = ?
+segment-count-requires-2 c κs =
+    (c .before .before .before .before .before .before .before .before .before .before .before .before .before .before .before .before .before .before .before .before .before .load .ensures .fits .awaits .inn, omega (arith, c .before .before .before .before .before .before .before .before .before .before .before .before .before .if2 .left ∙ c .before .before .before .before .before .before .before .before .before .before .before .before .before .before .fetched-length2 .ensures, fetched-short (c .before .before .before .before .before .before .before .before .before .before .before .before .before .before .before .before .before .before .before .before .before .load .result .awaits .inn)))
 
 -- src/lib.rt:113:58
 cast-new-part-2 : tie.Need-cast-new-part-2
-cast-new-part-2 c = ?
+cast-new-part-2 c =
+    let k = c .before .before .before .before .before .before .before .before .before .before .before .before .before .before .before .before .before .before .before .before .before .before .load .result in
+    omega (arith, summed (c .before .before .before .before .before .before .before .before .before .before .before .before .before .before .before .before .before .before .before .before .before .before .before .before .before .before .before .before .before .args .store .now) (k .place * placeSize + listSize) (placeFor In k) (omega arith) (k .awaits .inn) (c .before .before .before .before .before .before .before .before .before .before .before .before .before .before .before .before .before .before .before .before .before .before .before .before .before .before .before .before .before .args .inn .now) _ _ (c .before .before .before .before .before .before .fields-at2 .ensures) (c .before .before .before .before .in-total .given .1) .small)
 
 -- src/lib.rt:113:9
 new-part-requires-2 : tie.Need-new-part-requires-2
@@ -158,7 +224,20 @@ new-part-requires-2 c κs = search needs
 
 -- src/lib.rt:114:5
 bring-requires : tie.Need-bring-requires
-bring-requires c κs = ?
+bring-requires c κs =
+    let p = c .before .before .before .before .before .before .before .before .before .before .before .before .before .before .before .before .before .before .before .before .before .before .before .before .before .before .before .before .before .before .before .before .pre in
+    let ho : length (c .before .before .before .before .before .before .before .before .before .before .before .before .before .before .before .before .before .before .before .before .before .before .before .before .before .before .before .before .before .before .before .before .args .out .now) ≤ listSize = omega (arith, c .before .before .before .before .before .before .before .before .before .before .before .before .before .before .before .before .before .before .before .if1 .left ∙ c .before .before .before .before .before .before .before .before .before .before .before .before .before .before .before .before .before .before .before .before .fetched-length .ensures, fetched-short (c .before .before .before .before .before .before .before .before .before .before .before .before .before .before .before .before .before .before .before .before .before .before .before .before .before .load .result .awaits .out)) in
+    let hi : length (c .before .before .before .before .before .before .before .before .before .before .before .before .before .before .before .before .before .before .before .before .before .before .before .before .before .before .before .before .before .before .before .before .args .inn .now) ≤ listSize = omega (arith, c .before .before .before .before .before .before .before .before .before .before .before .before .before .before .before .before .before .if2 .left ∙ c .before .before .before .before .before .before .before .before .before .before .before .before .before .before .before .before .before .before .fetched-length2 .ensures, fetched-short (c .before .before .before .before .before .before .before .before .before .before .before .before .before .before .before .before .before .before .before .before .before .before .before .before .before .load .result .awaits .inn)) in (
+      p .0,
+      (
+        p .1 .0,
+        (
+          p .1 .1 .1 .0 .inside,
+          rw (c .before .before .before .before .new-part .ensures, c .before .before .new-part2 .ensures)
+              (record { short = ho; few = c .before .before .before .before .before .segment-count .ensures .1; counted = omega arith }, record { short = hi; few = c .before .before .before .segment-count2 .ensures .1; counted = omega arith }),
+        ),
+      ),
+    )
 
 -- src/lib.rt:75:1
 same-length-9 : tie.Need-same-length-9
@@ -170,7 +249,20 @@ same-length-10 c = search needs
 
 -- src/lib.rt:75:1
 returns-5 : tie.Need-returns-5
-returns-5 c = ?
+returns-5 c =
+    let a = c .before .before .before .before .before .before .before .before .before .before .before .before .before .before .before .before .before .before .before .before .before .before .before .before .before .before .before .before .before .before .before .before .before .before .before .before .before .args in
+    let p = c .before .before .before .before .before .before .before .before .before .before .before .before .before .before .before .before .before .before .before .before .before .before .before .before .before .before .before .before .before .before .before .before .before .before .before .before .before .pre in
+    let k = c .before .before .before .before .before .before .before .before .before .before .before .before .before .before .before .before .before .before .before .before .before .before .before .before .before .before .before .before .before .before .load .result in
+    let lo = c .before .before .before .before .before .before .before .before .before .before .before .before .before .before .before .before .before .before .before .before .before .before .before .before .if1 .left ∙ c .before .before .before .before .before .before .before .before .before .before .before .before .before .before .before .before .before .before .before .before .before .before .before .before .before .fetched-length .ensures in
+    let li = c .before .before .before .before .before .before .before .before .before .before .before .before .before .before .before .before .before .before .before .before .before .before .if2 .left ∙ c .before .before .before .before .before .before .before .before .before .before .before .before .before .before .before .before .before .before .before .before .before .before .before .fetched-length2 .ensures in
+    let So = summed (a .store .now) (k .place * placeSize) (placeFor Out k) (omega arith) (k .awaits .out) (a .out .now) _ _ (c .before .before .before .before .before .before .before .before .before .before .before .before .before .before .before .before .before .before .before .fields-at .ensures) (c .before .before .before .before .before .before .before .before .before .before .before .before .before .before .before .before .before .out-total .given .1) in
+    let Si = summed (a .store .now) (k .place * placeSize + listSize) (placeFor In k) (omega arith) (k .awaits .inn) (a .inn .now) _ _ (c .before .before .before .before .before .before .before .before .before .before .before .before .before .before .fields-at2 .ensures) (c .before .before .before .before .before .before .before .before .before .before .before .before .in-total .given .1) in
+    let X = rw (c .before .before .before .before .before .before .before .before .before .new-part .ensures, c .before .before .before .before .before .before .before .new-part2 .ensures, c .before .before .before .before .before .before .before .before .before .before .segment-count .ensures .0, c .before .before .before .before .before .before .before .before .segment-count2 .ensures .0) at (c .before .before .before .before .bring .ensures) in
+    record {
+      answers = promises.answers-by (accepted (a .s .now) (a .store .now) (a .buf .now) (a .tag) (a .i) (a .out .now) (a .inn .now) (p .1 .1 .0) (p .1 .1 .1 .0) k (c .before .before .before .before .before .before .before .before .before .before .before .before .before .before .before .before .before .before .before .before .before .before .before .before .before .before .before .before .before .before .load .ensures) (p .1 .1 .1 .1 .0) (p .1 .1 .1 .1 .1) lo li _ So _ Si)
+          (promises.accepted refl (port-after (a .s .now) (a .store .now) (a .buf .now) (a .tag) (a .i) (a .out .now) (a .inn .now) (p .1 .1 .0) (p .1 .1 .1 .0) k (c .before .before .before .before .before .before .before .before .before .before .before .before .before .before .before .before .before .before .before .before .before .before .before .before .before .before .before .before .before .before .load .ensures) (p .1 .1 .1 .1 .0) (p .1 .1 .1 .1 .1) lo li _ So _ Si _ _ X) refl refl refl);
+      store = placed (p .1 .1 .1 .0) (X .place);
+    }
 
 pub judge-spec : {M : Type 1} → statement M
 judge-spec =
