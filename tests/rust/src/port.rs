@@ -12,5 +12,6 @@ pub mod machine;
 pub mod plain;
 pub mod rows;
 pub mod side_by_side;
+pub mod slots;
 
 pub use call::{Call, Outcome, Target};
