@@ -13,5 +13,6 @@ pub mod plain;
 pub mod rows;
 pub mod side_by_side;
 pub mod slots;
+pub mod waiting;
 
 pub use call::{Call, Outcome, Target};

@@ -20,7 +20,7 @@ const TABLES: [&str; 5] = ["accepted", "accepted, none fetched", "bad fields", "
 #[test]
 fn any_words_are_a_port() {
     let mut garbage = Garbage::new(Library::new(21), 21);
-    while garbage.tally.total() < 100_000 {
+    while garbage.tally.total() < 250_000 {
         garbage.round();
     }
     garbage.tally.print("garbage");
@@ -87,7 +87,7 @@ fn the_number_in_altered_words() {
                 assert_eq!(number, 3, "done, word {at} holds {word}");
                 done += 1;
             }
-            _ => assert!([21, 24, 29].contains(&stepped.returned), "{stepped:x?}"),
+            _ => assert!([21, 24, 29, 33].contains(&stepped.returned), "{stepped:?}"),
         }
     }
     println!("altered words: {pieces} pieces, {done} done");

@@ -132,11 +132,11 @@ fn run(name: &str, seed: u64, fair: bool, count: u64, events: &[&str], states: &
 
 #[test]
 fn a_fair_initiator() {
-    run("machine, a fair initiator", 11, true, 220_000, &[], &[]);
+    run("machine, a fair initiator", 17, true, 240_000, &[], &[]);
 }
 
 #[test]
 fn an_initiator_below_its_limit() {
     let unfair = ["send: a request below a limit of 1", "take: refused 22", "take: refused 25"];
-    run("machine, an initiator below its limit", 12, false, 150_000, &unfair, &["limit below 0"]);
+    run("machine, an initiator below its limit", 12, false, 180_000, &unfair, &["limit below 0"]);
 }

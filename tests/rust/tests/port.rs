@@ -20,7 +20,7 @@ fn words_of_a_port() {
 fn generated_calls() {
     let mut random = Random::new(0x5350_5233);
     let mut ports = [1, 2, 3].map(SideBySide::new);
-    for _ in 0..350_000 {
+    for _ in 0..400_000 {
         ports[random.below(3)].call();
     }
     let (mut outcomes, mut features) = (Tally::default(), Tally::default());

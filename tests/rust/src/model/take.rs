@@ -11,7 +11,10 @@ pub const SRP_CRED_RSP: u8 = 0x41;
 
 /// What take says of a message that it does not refuse, or refuses and answers.
 enum Taken {
-    Command { command: Command, waits: bool },
+    Command {
+        command: Command,
+        waits: bool,
+    },
     /// A command with bad fields, and its answer.
     BadFields(Vec<u8>),
     /// A task request, and its answer.

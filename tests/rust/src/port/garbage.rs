@@ -65,7 +65,7 @@ impl<T: InMemory> Garbage<T> {
     pub fn round(&mut self) {
         self.make_port();
         for _ in 0..16 {
-            let call = match self.random.one_in(6) {
+            let call = match self.random.one_in(10) {
                 true => waiting::tables(&mut self.random, self.target.memory()),
                 false => self.generator.call(&self.guide),
             };
@@ -110,7 +110,7 @@ impl<T: InMemory> Garbage<T> {
         if random.one_in(3) {
             memory.store = random.bytes(memory.store.len());
         }
-        if random.one_in(2) {
+        if random.one_in(5) {
             waiting::write_words(random, memory);
         }
     }

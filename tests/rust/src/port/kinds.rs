@@ -212,10 +212,7 @@ pub fn features(call: &Call, outcome: &Outcome, before: &Port) -> Vec<String> {
 
 fn of_command(msg: &[u8], channel: &Channel) -> Vec<String> {
     let mut found = vec![format!("command, formats {} and {}", msg[5] >> 4, msg[5] & 0x0f)];
-    let kinds = [
-        (msg[31] >> 2 != 0, "command, longer CDB"),
-        (channel.commands.len() == 15, "command, the 16th"),
-    ];
+    let kinds = [(msg[31] >> 2 != 0, "command, longer CDB"), (channel.commands.len() == 15, "command, the 16th")];
     found.extend(kinds.into_iter().filter(|(fits, _)| *fits).map(|(_, kind)| kind.into()));
     found
 }

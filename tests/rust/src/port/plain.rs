@@ -64,7 +64,12 @@ fn indirect(segments: &[MemoryDescriptor], copied: usize) -> Descriptor {
 
 /// None of the segments in the message.
 pub fn fetched(segments: &[MemoryDescriptor]) -> Data {
-    Data { descriptor: indirect(segments, 0), table: list_of(segments) }
+    fetched_beside(segments, 0)
+}
+
+/// The first of the segments, so many and not all, in the message too.
+pub fn fetched_beside(segments: &[MemoryDescriptor], copied: usize) -> Data {
+    Data { descriptor: indirect(segments, copied), table: list_of(segments) }
 }
 
 /// All of the segments, one at least, in the message: nothing is to be fetched.

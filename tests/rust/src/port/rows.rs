@@ -212,9 +212,7 @@ fn take_answer(msg: &[u8], kind: &str, fields: &[&str]) -> Answer {
         ("command", [tag, lun, at, length]) | ("command", [tag, lun, at, length, "ready"]) => {
             [0, 1, long(tag), long(lun), long(at), long(length), 0, 0]
         }
-        ("command", [tag, lun, at, length, "waiting"]) => {
-            [0, 1, long(tag), long(lun), long(at), long(length), 1, 0]
-        }
+        ("command", [tag, lun, at, length, "waiting"]) => [0, 1, long(tag), long(lun), long(at), long(length), 1, 0],
         ("task", []) => [0, 2, field(&msg[8..16]), field(&msg[20..28]), 0, 0, 0, 0],
         ("credit", []) => [0, 3, 0, 0, 0, 0, 0, 0],
         ("logout", []) => [0, 4, 0, 0, 0, 0, 0, 0],

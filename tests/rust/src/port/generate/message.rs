@@ -60,10 +60,14 @@ fn some_command(random: &mut Random, channel: &Channel, careful: bool) -> Sent {
     let (tag, lun) = (tag(random, channel, careful), random.of(&LUNS));
     let (mut msg, mut data) = (Vec::new(), [Data::none(), Data::none()]);
     for most in [32, 8, 2, 1] {
-        data = [0, 1].map(|_| Data::lawful(random, agreement.formats, agreement.limits, most));
+        let lawful = |random: &mut Random| Data::lawful(random, agreement.formats, agreement.limits, most);
+        data = [0, 1].map(|_| lawful(random));
         if random.one_in(if careful { 8 } else { 3 }) {
             let at = random.below(2);
             damage(random, &mut data[at], careful, agreement.formats);
+            if random.one_in(2) {
+                data[1 - at] = fetched(random, lawful);
+            }
         }
         let n = if random.one_in(4) { random.below(64) as u8 } else { 0 };
         msg = command(random, tag, lun, n, &data);
@@ -77,6 +81,12 @@ fn some_command(random: &mut Random, channel: &Channel, careful: bool) -> Sent {
         damage_message(random, &mut msg, agreement.length as usize);
     }
     Sent { msg, tables: Some((tag, data.map(|data| data.table))) }
+}
+
+/// One of these, with a table to fetch if that comes up in a few tries.
+fn fetched(random: &mut Random, lawful: impl Fn(&mut Random) -> Data) -> Data {
+    let mut tried = (0..6).map(|_| lawful(random));
+    tried.find(|data| !data.table.is_empty()).unwrap_or(Data::none())
 }
 
 /// Careful damage draws 10, or nothing, and never closes the channel.
