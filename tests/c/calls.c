@@ -6,8 +6,10 @@
 static uint64_t (*const words_of_header)(void) = srp_target_words;
 static uint32_t (*const login_of_header)(uint64_t *, const uint32_t *, uint64_t, const uint8_t *, const uint8_t *,
                                          size_t, uint8_t *, size_t, uint64_t *) = srp_target_login;
-static uint32_t (*const take_of_header)(uint64_t *, uint8_t *, const uint8_t *, size_t, const uint8_t *, size_t,
-                                        const uint8_t *, size_t, uint8_t *, size_t, uint64_t *) = srp_target_take;
+static uint32_t (*const take_of_header)(uint64_t *, uint8_t *, const uint8_t *, size_t, uint8_t *, size_t,
+                                        uint64_t *) = srp_target_take;
+static uint32_t (*const tables_of_header)(uint64_t *, uint8_t *, uint64_t, const uint8_t *, size_t, const uint8_t *,
+                                          size_t, uint8_t *, size_t, uint64_t *) = srp_target_tables;
 static uint32_t (*const plan_of_header)(uint64_t *, uint64_t, uint32_t, uint32_t) = srp_target_plan;
 static uint32_t (*const move_of_header)(uint64_t *, uint64_t, uint32_t, uint32_t, uint32_t) = srp_target_move;
 static uint32_t (*const step_of_header)(uint64_t *, const uint8_t *, uint64_t, uint32_t, uint64_t *) = srp_target_step;
@@ -110,17 +112,30 @@ void login(const char *name, uint32_t number, struct after after, const uint32_t
     judge(name, returned, number, &after);
 }
 
-void take(const char *name, uint32_t number, struct after after, struct bytes msg, struct bytes out, struct bytes in,
-          size_t buf_len)
+/* The message's memory holds something else as soon as take returns. */
+void take(const char *name, uint32_t number, struct after after, struct bytes msg, size_t buf_len)
 {
     uint32_t returned;
     lay(MSG, msg.at, msg.len);
+    lend_answers();
+    returned = take_of_header(lent_words(PORT), lent(STORE), lent(MSG), msg.len, lent(BUF), buf_len,
+                              lent_words(ANSWER));
+    if (after.answer[1] == SRP_KIND_COMMAND)
+        let_change(STORE, SRP_STORE_BYTES);
+    judge(name, returned, number, &after);
+    lay(MSG, NULL, 0);
+}
+
+void tables(const char *name, uint32_t number, struct after after, uint64_t tag, struct bytes out, struct bytes in,
+            size_t buf_len)
+{
+    uint32_t returned;
     lay(OUT, out.at, out.len);
     lay(IN, in.at, in.len);
     lend_answers();
-    returned = take_of_header(lent_words(PORT), lent(STORE), lent(MSG), msg.len, lent(OUT), out.len, lent(IN), in.len,
-                              lent(BUF), buf_len, lent_words(ANSWER));
-    if (after.answer[1] == SRP_KIND_COMMAND)
+    returned = tables_of_header(lent_words(PORT), lent(STORE), tag, lent(OUT), out.len, lent(IN), in.len, lent(BUF),
+                                buf_len, lent_words(ANSWER));
+    if (number == 0)
         let_change(STORE, SRP_STORE_BYTES);
     judge(name, returned, number, &after);
 }
@@ -227,11 +242,25 @@ static uint64_t number_at(const uint8_t *bytes, size_t at)
     return value;
 }
 
+static void took(const char *name, struct bytes msg, uint64_t w)
+{
+    uint64_t cdb = 16 + 4 * (uint64_t)(msg.at[31] >> 2), tag = number_at(msg.at, 8), lun = number_at(msg.at, 20);
+    take(name, 0, (struct after){OTHER, {0, SRP_KIND_COMMAND, tag, lun, 32, cdb, w}, NULL}, msg, SRP_MESSAGE_BYTES);
+}
+
 void taken(const char *name, struct bytes msg)
 {
-    uint64_t cdb = 16 + 4 * (uint64_t)(msg.at[31] >> 2);
-    struct after after = {OTHER, {0, SRP_KIND_COMMAND, number_at(msg.at, 8), number_at(msg.at, 20), 32, cdb}, NULL};
-    take(name, 0, after, msg, NO_BYTES, NO_BYTES, SRP_MESSAGE_BYTES);
+    took(name, msg, 0);
+}
+
+void waits(const char *name, struct bytes msg)
+{
+    took(name, msg, 1);
+}
+
+void brought(const char *name, uint64_t tag, struct bytes out, struct bytes in)
+{
+    tables(name, 0, (struct after){OTHER, {0}, NULL}, tag, out, in, SRP_MESSAGE_BYTES);
 }
 
 void named(const char *name, uint64_t tag, uint32_t direction, uint32_t offset, uint32_t count)
