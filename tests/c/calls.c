@@ -126,6 +126,20 @@ void take(const char *name, uint32_t number, struct after after, struct bytes ms
     lay(MSG, NULL, 0);
 }
 
+/* Of the store a place has the tables, out at its start and in from its middle on; no other byte is written. */
+static void expect_tables(struct bytes out, struct bytes in)
+{
+    enum { PLACE = SRP_STORE_BYTES / SRP_MOST_BUFFERS };
+    size_t at;
+    for (at = 0; at < SRP_STORE_BYTES; at += PLACE) {
+        const uint8_t *place = lent(STORE) + at;
+        if (memcmp(place, lent(OUT), out.len) || memcmp(place + PLACE / 2, lent(IN), in.len))
+            continue;
+        expect(STORE, at, lent(OUT), out.len);
+        expect(STORE, at + PLACE / 2, lent(IN), in.len);
+    }
+}
+
 void tables(const char *name, uint32_t number, struct after after, uint64_t tag, struct bytes out, struct bytes in,
             size_t buf_len)
 {
@@ -136,7 +150,7 @@ void tables(const char *name, uint32_t number, struct after after, uint64_t tag,
     returned = tables_of_header(lent_words(PORT), lent(STORE), tag, lent(OUT), out.len, lent(IN), in.len, lent(BUF),
                                 buf_len, lent_words(ANSWER));
     if (number == 0)
-        let_change(STORE, SRP_STORE_BYTES);
+        expect_tables(out, in);
     judge(name, returned, number, &after);
 }
 
@@ -157,6 +171,15 @@ void move(const char *name, uint32_t number, uint64_t tag, uint32_t direction, u
 {
     begin();
     judge_plain(name, move_of_header(lent_words(PORT), tag, direction, offset, count), number);
+}
+
+void named(const char *name, uint64_t tag, uint32_t direction, uint32_t offset, uint32_t count)
+{
+    uint32_t returned;
+    begin();
+    returned = move_of_header(lent_words(PORT), tag, direction, offset, count);
+    judge_port(name, ANY);
+    compare(name, returned, 0);
 }
 
 void step(const char *name, uint32_t number, struct after after, uint64_t tag, uint32_t direction)
@@ -218,82 +241,4 @@ void list(const char *name, uint32_t number, size_t words, size_t count, const u
         fail(name, "other records");
     let_change(RECORDS, 8 * SRP_RECORD_WORDS * count);
     judge(name, returned, number, &after);
-}
-
-void opened_with(uint32_t n, uint32_t m, uint64_t boundary)
-{
-    struct bytes request = login_request(9, SRP_LONGEST_AGREED, 0x0006, CRSOLNT | LOSOLNT, own_identifier);
-    struct after after = {OTHER, {52, 0}, login_response(n, 9, SRP_LONGEST_AGREED, 0x0006, 0x10)};
-    lay(STORE, NULL, 0);
-    login("login", 0, after, SETTINGS_OF(n, m, SRP_LONGEST_AGREED, 1, 1), boundary, request, SRP_MESSAGE_BYTES);
-}
-
-void opened(uint32_t n, uint32_t m)
-{
-    opened_with(n, m, 0);
-}
-
-static uint64_t number_at(const uint8_t *bytes, size_t at)
-{
-    uint64_t value = 0;
-    size_t i;
-    for (i = 0; i < 8; i++)
-        value = value << 8 | bytes[at + i];
-    return value;
-}
-
-static void took(const char *name, struct bytes msg, uint64_t w)
-{
-    uint64_t cdb = 16 + 4 * (uint64_t)(msg.at[31] >> 2), tag = number_at(msg.at, 8), lun = number_at(msg.at, 20);
-    take(name, 0, (struct after){OTHER, {0, SRP_KIND_COMMAND, tag, lun, 32, cdb, w}, NULL}, msg, SRP_MESSAGE_BYTES);
-}
-
-void taken(const char *name, struct bytes msg)
-{
-    took(name, msg, 0);
-}
-
-void waits(const char *name, struct bytes msg)
-{
-    took(name, msg, 1);
-}
-
-void brought(const char *name, uint64_t tag, struct bytes out, struct bytes in)
-{
-    tables(name, 0, (struct after){OTHER, {0}, NULL}, tag, out, in, SRP_MESSAGE_BYTES);
-}
-
-void named(const char *name, uint64_t tag, uint32_t direction, uint32_t offset, uint32_t count)
-{
-    uint32_t returned;
-    begin();
-    returned = move_of_header(lent_words(PORT), tag, direction, offset, count);
-    judge_port(name, ANY);
-    compare(name, returned, 0);
-}
-
-void planned(const char *name, uint64_t tag, uint32_t r_out, uint32_t r_in)
-{
-    plan(name, 0, tag, r_out, r_in);
-    named(name, tag, SRP_DIRECTION_OUT, 0, r_out);
-    named(name, tag, SRP_DIRECTION_IN, 0, r_in);
-}
-
-void piece(const char *name, uint64_t tag, uint32_t direction, uint64_t handle, uint64_t address, uint64_t length,
-           uint64_t offset, uint64_t number)
-{
-    uint64_t operation = direction ? SRP_RDMA_WRITE : SRP_RDMA_READ;
-    struct after after = {OTHER, {1, operation, handle, address, length, offset, number}, NULL};
-    step(name, 0, after, tag, direction);
-}
-
-void done(const char *name, uint64_t tag, uint32_t direction, uint64_t number)
-{
-    step(name, 0, (struct after){SAME, {0, 0, 0, 0, 0, 0, number}, NULL}, tag, direction);
-}
-
-void finished(const char *name, uint64_t tag, uint32_t delta, struct residuals residuals)
-{
-    struct after after = {OTHER, {36}, response(0, delta, tag, 0, residuals, NO_BYTES)};
-    finish(name, 0, after, tag, 0, NO_BYTES, SRP_MESSAGE_BYTES);
 }
