@@ -111,9 +111,7 @@ impl Batch {
             }
             Batch::Add(k) => each(ports, &[()], after, |lent, ()| unsafe { (side.add)(lent.port, *k) }),
             Batch::Withdraw(k) => each(ports, &[()], after, |lent, ()| unsafe { (side.withdraw)(lent.port, *k) }),
-            Batch::Grant => each(ports, &[()], after, |lent, ()| unsafe {
-                (side.grant)(lent.port, lent.buf.as_mut_ptr(), lent.buf.len(), &mut *lent.answer)
-            }),
+            Batch::Grant => each(ports, &[()], after, |lent, ()| unsafe { grant(side, lent) }),
             Batch::Close => each(ports, &[()], after, |lent, ()| unsafe { close(side, lent) }),
             Batch::Counters(calls) => each(ports, &vec![(); *calls], after, |lent, ()| unsafe { counters(side, lent) }),
             Batch::List(calls) => each(ports, &vec![(); *calls], after, |lent, ()| unsafe { list(side, lent) }),
@@ -167,6 +165,11 @@ unsafe fn tables(side: &Side, lent: &mut Lent, Tables { tag, out, inn }: &Tables
 unsafe fn finish(side: &Side, lent: &mut Lent, tag: u64, status: u8, sense: &[u8]) -> u32 {
     let (buf, buf_len, answer) = (lent.buf.as_mut_ptr(), lent.buf.len(), &mut *lent.answer);
     unsafe { (side.finish)(lent.port, tag, status, sense.as_ptr(), sense.len(), buf, buf_len, answer) }
+}
+
+#[inline(always)]
+unsafe fn grant(side: &Side, lent: &mut Lent) -> u32 {
+    unsafe { (side.grant)(lent.port, lent.buf.as_mut_ptr(), lent.buf.len(), &mut *lent.answer) }
 }
 
 #[inline(always)]

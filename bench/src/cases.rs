@@ -180,6 +180,13 @@ fn by_segments(of: fn(Part, u32) -> Case) -> impl Iterator<Item = Case> {
     [Part::FirstPiece, Part::LastByte].into_iter().flat_map(move |part| [1, 8, 16, 32].map(|count| of(part, count)))
 }
 
+/// Entries of a table, and how many of them are in the message too.
+fn with_tables() -> Vec<Case> {
+    let tables = [(2, 0), (32, 0), (32, 16)];
+    let [waiting, brought] = [waiting_case, tables_case].map(|of| tables.map(|(entries, copies)| of(entries, copies)));
+    waiting.into_iter().chain(brought).collect()
+}
+
 impl Case {
     /// All its batches, in order.
     pub fn batches(&self) -> Vec<&Batch> {
@@ -202,18 +209,13 @@ pub fn cases() -> Vec<Case> {
         take_case("no data", no_data),
         take_case("direct", direct),
         take_case("32 copies each way, 1,364 bytes", longest),
-        waiting_case(2, 0),
-        waiting_case(32, 0),
-        waiting_case(32, 16),
-        tables_case(2, 0),
-        tables_case(32, 0),
-        tables_case(32, 16),
         task_case(),
         plan_case(),
         move_case("oldest", 0x100),
         move_case("newest", 0x10f),
         far_move_case(),
     ];
+    cases.splice(4..4, with_tables());
     cases.extend(by_segments(step_case));
     cases.extend([
         bounded_step_case(),
