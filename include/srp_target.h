@@ -40,7 +40,8 @@
  *     stop, and its table is brought no more: a command is known by its tag alone, and the tag may be used again.
  *   - Where a fetch fails, no call ends its command with a status: srp_target_finish draws 33 while it waits. The owner
  *     leaves it open, held and listed, until a task request aborts it; or brings F bytes of FFh for the table, which
- *     draw 10 whatever the message says (see there what Linux's initiator makes of it); or closes the channel.
+ *     draw 10 whatever the message says (srp_target_take has what Linux's initiator makes of 10); or closes the
+ *     channel.
  *   - For a command taken that does not wait, or not any more: srp_target_plan; then for each part of its data, in the
  *     order in which the device has them, srp_target_move, and srp_target_step in that direction until done, each piece
  *     posted as the RDMA operation that the answer names; then srp_target_finish. One move of offset 0 and count R is
@@ -84,9 +85,8 @@ extern "C" {
  * listed oldest first, where version 4 promises no order; their libraries are the same. Version 6 has address
  * boundaries: srp_target_login and srp_cut take one argument more, and where it is 0 all else is as in version 5.
  * Version 7 has commands that wait for their tables: srp_target_take is lent none and has a word more in its answer,
- * srp_target_tables is new, and draws the refusals 9 and 10 of such commands; for commands without a fetch all is as in
- * version 6. But for versions 4 and 5, the words that a library of one version made are not promised to be a port of
- * another. */
+ * srp_target_tables is new, and draws the refusals 9 and 10 of such commands; all else is as in version 6. But for
+ * versions 4 and 5, the words that a library of one version made are not promised to be a port of another. */
 #define SRP_TARGET_VERSION 7
 
 /* Refusals: from the message or the caller. */
@@ -248,9 +248,9 @@ uint32_t srp_target_login(uint64_t *port, const uint32_t settings[5], uint64_t b
  *   22  SRP_CMD, SRP_TSK_MGMT: A = 0
  *   23  SRP_CMD, SRP_TSK_MGMT: its own tag (bytes 8-15) is that of an open command
  *   25  SRP_CRED_RSP: no SRP_CRED_REQ is unanswered, or a tag other than 1
- *   10  SRP_CMD without a fetch, in either direction: a table's length not a multiple of 16 from 16 to 512; a total
+ *   10  SRP_CMD without a fetch: in either direction a table's length not a multiple of 16 from 16 to 512; a total
  *       length unlike the sum of the segments' lengths; a segment with address + length above 2^64 (equal is fine).
- *       With a fetch, srp_target_tables judges both directions
+ *       With a fetch srp_target_tables judges all that, of both directions
  *
  *   returned            answer                                after the call
  *   0, a command        0, 1, tag, LUN, 32, CDB's length, w   the command is open: A - 1, H + 1
@@ -264,7 +264,8 @@ uint32_t srp_target_login(uint64_t *port, const uint32_t settings[5], uint64_t b
  * command taken changes the bytes of its own place there, 1,024 that no other open command uses, and no other byte.
  *
  * Command: the whole CDB is part of msg, from byte 32 on, 16 + 4n long; n is byte 31 bits 7-2. The port keeps nothing
- * of msg: it may be lent again when the owner is done with the CDB, also while the command waits.
+ * of msg: it may be lent again when the owner is done with the CDB and srp_look has named the fetches, also while the
+ * command waits.
  *
  * w is 1 where the command waits for its tables, else 0. A command that waits is open: it counts as held from here on,
  * a request with its tag draws 23, it is listed, with 0 bytes each way, and it can be aborted. Until srp_target_tables
