@@ -19,9 +19,9 @@
  *   - Calls on different ports, and on none, may run at the same time. Calls on one port are made one after the other,
  *     srp_target_counters and srp_target_list too, and nobody else writes its words or its store between them: the
  *     owner sees to that. A port holds no address: words and store may be copied elsewhere together.
- *   - A refusal alters nothing: port, store, buf and records are as they were. There are two exceptions, as said
- *     beside the calls: srp_target_login always writes the port, and some refusals of srp_target_take come with a
- *     message.
+ *   - A refusal alters nothing: port, store, buf and records are as they were. There are three exceptions, as said
+ *     beside the calls: srp_target_login always writes the port, and some refusals of srp_target_take, and refusal 10
+ *     of srp_target_tables, come with a message.
  *   - answer is written whole by every call that has one. Words that its data sheet does not name are 0. After a
  *     refusal that alters nothing all eight are 0.
  *   - A message is written from byte 0 of buf on. Every other byte of buf is as it was. Calls that can write a message
@@ -31,13 +31,21 @@
  *   - It takes messages from the initiator in the order in which they came, and sends messages in the order of the
  *     calls that wrote them, with a solicited event where the adapter has them and SOLNT (byte 1 bit 0) is 1. A buf
  *     may be lent again when its message has been sent.
- *   - For an SRP_CMD, srp_look first. It names the tables to fetch. They are fetched by RDMA Read in both directions;
- *     where the adapter has a boundary, the owner splits a Read that would cross it. When these Reads are complete:
- *     srp_target_take, with both tables; later messages wait. All other messages, and commands that srp_look refuses,
- *     are taken without tables.
- *   - For a command taken: srp_target_plan; then for each part of its data, in the order in which the device has them,
- *     srp_target_move, and srp_target_step in that direction until done, each piece posted as the RDMA operation that
- *     the answer names; then srp_target_finish. One move of offset 0 and count R is all of a direction.
+ *   - A command that waits for its tables, as srp_target_take says of it, has the fetches that srp_look names for its
+ *     message. They are RDMA Reads, for data-in too; where the adapter has a boundary, the owner splits a Read that
+ *     would cross it. Meanwhile further messages are taken, and other commands carried out and fetched for: the
+ *     fetches of all commands may be under way side by side. When those of a command are complete:
+ *     srp_target_tables, by its tag, whichever command was taken first.
+ *   - A fetch that was started for a command which then ended, by an abort or a closed channel, is the owner's to
+ *     stop, and its table is brought no more: a command is known by its tag alone, and the tag may be used again.
+ *   - Where a fetch fails, no call ends its command with a status: srp_target_finish draws 33 while it waits. The owner
+ *     leaves it open, held and listed, until a task request aborts it; or brings F bytes of FFh for the table, which
+ *     draw 10 whatever the message says (srp_target_take has what Linux's initiator makes of 10); or closes the
+ *     channel.
+ *   - For a command taken that does not wait, or not any more: srp_target_plan; then for each part of its data, in the
+ *     order in which the device has them, srp_target_move, and srp_target_step in that direction until done, each piece
+ *     posted as the RDMA operation that the answer names; then srp_target_finish. One move of offset 0 and count R is
+ *     all of a direction.
  *   - Each piece needs a slot of the adapter until its operation is complete; the slots are common to the moves of all
  *     commands and to the fetches of tables. A move of k bytes has at most 32 + k / M pieces, rounded down, with a
  *     boundary Q another 32 + k / Q at most, and as few as can be: srp_target_step says more. An owner with fewer slots
@@ -75,9 +83,11 @@ extern "C" {
  * document 02 that changed the interface, and job 3 did not. Version 4 has the number of pieces in the answer of
  * srp_target_step, where version 2 has 0; all else is as in version 2. Version 5 promises that the open commands are
  * listed oldest first, where version 4 promises no order; their libraries are the same. Version 6 has address
- * boundaries: srp_target_login and srp_cut take one argument more, and where it is 0 all else is as in version 5. But
- * for versions 4 and 5, the words that a library of one version made are not promised to be a port of another. */
-#define SRP_TARGET_VERSION 6
+ * boundaries: srp_target_login and srp_cut take one argument more, and where it is 0 all else is as in version 5.
+ * Version 7 has commands that wait for their tables: srp_target_take is lent none and has a word more in its answer,
+ * srp_target_tables is new, and draws the refusals 9 and 10 of such commands; all else is as in version 6. But for
+ * versions 4 and 5, the words that a library of one version made are not promised to be a port of another. */
+#define SRP_TARGET_VERSION 7
 
 /* Refusals: from the message or the caller. */
 #define SRP_REFUSED_SHORT_BUFFER 1  /* lent buffer too short */
@@ -105,6 +115,7 @@ extern "C" {
 #define SRP_REFUSED_PLANNED         30 /* planned already */
 #define SRP_REFUSED_OFFSET          31 /* offset above min(R, B) */
 #define SRP_REFUSED_UNFINISHED      32 /* the direction's earlier move still has pieces */
+#define SRP_REFUSED_WAITING         33 /* the command waits for its tables; or tables, and it does not */
 
 /* Sizes: of a port, of the answers, of lent buffers and lists. */
 #define SRP_PORT_WORDS    528   /* words of a port */
@@ -220,12 +231,11 @@ uint32_t srp_target_login(uint64_t *port, const uint32_t settings[5], uint64_t b
                           const uint8_t *msg, size_t msg_len, uint8_t *buf, size_t buf_len, uint64_t answer[8]);
 
 /*
- * Take: a message from the initiator, after the login.
+ * Take: a message from the initiator, after the login. It is lent no table: a command for which srp_look names a fetch,
+ * in either direction, is taken all the same, and waits for its tables.
  *
  *   port, store    the port
  *   msg, msg_len   the message
- *   out, out_len   the table fetched for data-out, F bytes as srp_look names it; 0 bytes where it names none
- *   in, in_len     the table fetched for data-in, likewise. Both tables are unread but for an SRP_CMD
  *   buf, buf_len   where a message goes
  *
  * Refusals, in the order of checking:
@@ -238,24 +248,28 @@ uint32_t srp_target_login(uint64_t *port, const uint32_t settings[5], uint64_t b
  *   22  SRP_CMD, SRP_TSK_MGMT: A = 0
  *   23  SRP_CMD, SRP_TSK_MGMT: its own tag (bytes 8-15) is that of an open command
  *   25  SRP_CRED_RSP: no SRP_CRED_REQ is unanswered, or a tag other than 1
- *    9  SRP_CMD: out_len or in_len other than F of its direction
- *   10  SRP_CMD, in either direction: a table's length not a multiple of 16 from 16 to 512; a copy in the message
- *       unlike its entry in the table; a total length unlike the sum of the segments' lengths; a segment with
- *       address + length above 2^64 (equal is fine)
+ *   10  SRP_CMD without a fetch: in either direction a table's length not a multiple of 16 from 16 to 512; a total
+ *       length unlike the sum of the segments' lengths; a segment with address + length above 2^64 (equal is fine).
+ *       With a fetch srp_target_tables judges all that, of both directions
  *
- *   returned            answer                             after the call
- *   0, a command        0, 1, tag, LUN, 32, CDB's length   the command is open: A - 1, H + 1
- *   0, a task request   40, 2, tag, LUN                    it is carried out and answered: buf has its SRP_RSP
- *   0, SRP_CRED_RSP     0, 3                               the SRP_CRED_REQ is answered; W, A, H and D as they were
- *   0, SRP_I_LOGOUT     0, 4                               the port is closed
- *   3 to 8, 22, 23, 25  16                                 the port is closed: buf has an SRP_T_LOGOUT with tag 0
- *   10                  40                                 the command is answered: buf has its SRP_RSP
- *   1, 9, 21            0                                  all is as it was
+ *   returned            answer                                after the call
+ *   0, a command        0, 1, tag, LUN, 32, CDB's length, w   the command is open: A - 1, H + 1
+ *   0, a task request   40, 2, tag, LUN                       it is carried out and answered: buf has its SRP_RSP
+ *   0, SRP_CRED_RSP     0, 3                                  the SRP_CRED_REQ is answered; W, A, H and D as they were
+ *   0, SRP_I_LOGOUT     0, 4                                  the port is closed
+ *   3 to 8, 22, 23, 25  16                                    the port is closed: buf has an SRP_T_LOGOUT with tag 0
+ *   10                  40                                    the command is answered: buf has its SRP_RSP
+ *   1, 21               0                                     all is as it was
  * Where no message is named, buf is as it was. Unless a command was taken every byte of the store is as it was; a
  * command taken changes the bytes of its own place there, 1,024 that no other open command uses, and no other byte.
  *
  * Command: the whole CDB is part of msg, from byte 32 on, 16 + 4n long; n is byte 31 bits 7-2. The port keeps nothing
- * of msg, out and in: they may be lent again when the owner is done with the CDB.
+ * of msg: it may be lent again when the owner is done with the CDB and srp_look has named the fetches, also while the
+ * command waits.
+ *
+ * w is 1 where the command waits for its tables, else 0. A command that waits is open: it counts as held from here on,
+ * a request with its tag draws 23, it is listed, with 0 bytes each way, and it can be aborted. Until srp_target_tables
+ * has brought its tables, srp_target_plan, srp_target_move, srp_target_step and srp_target_finish draw 33.
  *
  * Task request, by its function (byte 30): 01h aborts the open command with the task tag (bytes 32-39) and the LUN;
  * 02h, 04h and 08h abort all open commands of the LUN. They answer RSP_CODE 00h, also where nothing was open; 40h
@@ -266,19 +280,70 @@ uint32_t srp_target_login(uint64_t *port, const uint32_t settings[5], uint64_t b
  *
  * What the owner does next:
  *   a command           carries it out, as said at the top
- *   a task request      sends the message; operations posted for aborted commands are its own to stop
+ *   a command, w = 1    starts its fetches and takes the next message; srp_target_tables when they are complete
+ *   a task request      sends the message; operations and fetches posted for aborted commands are its own to stop
  *   SRP_I_LOGOUT        disconnects
  *   3 to 8, 22, 23, 25  sends the message, waits until it is sent, disconnects: Linux's initiator heeds the disconnect
  *                       alone. The reason is 0, but 6, 7, 8, 9 after 5, 6, 7, 8
  *   10                  sends the message. Linux's initiator does not heed RSP_CODE in a command's response: it sees
  *                       status GOOD
- *   1, 9                takes the message again, with a longer buffer or with the tables that srp_look names: it is
- *                       still to be taken
+ *   1                   takes the message again, with a longer buffer: it is still to be taken
  *   21                  drops the message
  */
-uint32_t srp_target_take(uint64_t *port, uint8_t *store, const uint8_t *msg, size_t msg_len, const uint8_t *out,
-                         size_t out_len, const uint8_t *in, size_t in_len, uint8_t *buf, size_t buf_len,
-                         uint64_t answer[8]);
+uint32_t srp_target_take(uint64_t *port, uint8_t *store, const uint8_t *msg, size_t msg_len, uint8_t *buf,
+                         size_t buf_len, uint64_t answer[8]);
+
+/*
+ * Tables: brings a command that waits for them its tables, of both directions in one call. Commands may get theirs in
+ * any order.
+ *
+ *   port, store    the port
+ *   tag            the command's tag
+ *   out, out_len   the table fetched for data-out, F bytes as srp_look names it; 0 bytes where it names none
+ *   in, in_len     the table fetched for data-in, likewise
+ *   buf, buf_len   where a message goes
+ *
+ * Refusals, in the order of checking:
+ *    1  buf_len under 132
+ *   21  channel closed
+ *   24  tag not open
+ *   33  the command does not wait: it had no fetch, or has its tables
+ *    9  out_len or in_len other than F of its direction, whatever the tables hold
+ *   10  in either direction, also in one without a fetch: a table's length not a multiple of 16 from 16 to 512; a copy
+ *       in the message unlike its entry in the table; a total length unlike the sum of the segments' lengths; a segment
+ *       with address + length above 2^64 (equal is fine)
+ *
+ *   returned            answer   after the call
+ *   0                   0        the command has its segments and waits no more; W, A, H and D as they were
+ *   10                  40       the command is answered and not open any more: buf has its SRP_RSP
+ *   1, 9, 21, 24, 33    0        all is as it was: after 1 and 9 the command waits on
+ * Where no message is named, buf is as it was. After 0 each table of F bytes stands in the command's place of the
+ * store; no other byte of the store is written, and none after a refusal. The port keeps nothing of out and in: they
+ * may be lent again.
+ *
+ * After 0 the command is as one that take took without waiting: it can be planned, and nothing was handed out. Its age
+ * in the listing counts from its take.
+ *
+ * Refusal 10: the answer has RSP_CODE 02h, and its SOLNT is the command's UCSOLNT (byte 1 bit 2 of the SRP_CMD). H - 1,
+ * D + 1, then the delta.
+ *
+ * What the owner does next:
+ *   0      carries the command out, as said at the top
+ *   10     sends the message, as after 10 of srp_target_take
+ *   1, 9   brings the tables again, with a longer buffer, or of the lengths that srp_look named
+ *   24     drops the tables: the command was aborted
+ *
+ * Four commands, the fetches of three of them side by side; a[6] is the word w of take's answer:
+ *   srp_target_take of tag 1     a[6] = 1: srp_look names a table for data-out, its Read is posted
+ *   srp_target_take of tag 2     a[6] = 1: a table each way, two Reads are posted
+ *   srp_target_take of tag 3     a[6] = 0: planned, moved and finished at once
+ *   srp_target_take of tag 4     a[6] = 1: a table for data-in, its Read is posted
+ *   the Reads of 4 complete      srp_target_tables of tag 4, out_len 0; then its plan, moves and finish
+ *   a task request aborts 1      the Read under way is the owner's to stop; tag 1 draws 24
+ *   the Reads of 2 complete      srp_target_tables of tag 2 with both tables
+ */
+uint32_t srp_target_tables(uint64_t *port, uint8_t *store, uint64_t tag, const uint8_t *out, size_t out_len,
+                           const uint8_t *in, size_t in_len, uint8_t *buf, size_t buf_len, uint64_t answer[8]);
 
 /*
  * Plan: states what an open command requires, once.
@@ -291,6 +356,7 @@ uint32_t srp_target_take(uint64_t *port, uint8_t *store, const uint8_t *msg, siz
  * Refusals, in the order of checking:
  *   21  channel closed
  *   24  tag not open
+ *   33  the command waits for its tables
  *   30  planned already
  *
  * After 0 moves of the first min(R, B) bytes of each direction can be named; none is yet, and step says done. R above
@@ -311,6 +377,7 @@ uint32_t srp_target_plan(uint64_t *port, uint64_t tag, uint32_t r_out, uint32_t 
  * Refusals, in the order of checking:
  *   21  channel closed
  *   24  tag not open
+ *   33  the command waits for its tables
  *   29  not planned
  *   31  offset above min(R, B)
  *   32  the earlier move of this direction still has pieces
@@ -332,6 +399,7 @@ uint32_t srp_target_move(uint64_t *port, uint64_t tag, uint32_t direction, uint3
  * Refusals, in the order of checking:
  *   21  channel closed
  *   24  tag not open
+ *   33  the command waits for its tables
  *   29  not planned
  *
  * answer after 0, with a piece:   1, operation (1 RDMA Read, 2 RDMA Write), handle, address, length, offset, number
@@ -357,7 +425,7 @@ uint32_t srp_target_move(uint64_t *port, uint64_t tag, uint32_t direction, uint3
 uint32_t srp_target_step(uint64_t *port, const uint8_t *store, uint64_t tag, uint32_t direction, uint64_t answer[8]);
 
 /*
- * Finish: ends an open command, planned or not, and writes its SRP_RSP.
+ * Finish: ends an open command, planned or not, that does not wait for its tables, and writes its SRP_RSP.
  *
  *   port               the port
  *   tag                the command's tag
@@ -371,6 +439,7 @@ uint32_t srp_target_step(uint64_t *port, const uint8_t *store, uint64_t tag, uin
  *   21  channel closed
  *   11  sense_len above 96, or above 0 with a status other than 02h
  *   24  tag not open
+ *   33  the command waits for its tables
  *
  * answer after 0: 36 + sense_len, the bytes of the message. The tag is not open any more: H - 1, D + 1, then the
  * delta. Its residual in a direction: R above B gives over, R - B; else h below B gives under, B - h, also where bytes
@@ -447,7 +516,8 @@ uint32_t srp_target_close(uint64_t *port, uint32_t reason, uint8_t *buf, size_t 
 uint32_t srp_target_counters(const uint64_t *port, uint64_t answer[8]);
 
 /*
- * List: the open commands, each once, as they were taken, oldest first. A tag used again counts as taken anew.
+ * List: the open commands, each once, as they were taken, oldest first; those too that wait for their tables. A tag
+ * used again counts as taken anew.
  *
  *   records, words   where the records go, four words each; 64 words have room for all
  *
@@ -487,8 +557,9 @@ uint32_t srp_target_list(const uint64_t *port, uint64_t *records, size_t words, 
  *   32-     as before
  * F is the table's length, and all of the table is to be fetched, if that is a multiple of 16 from 16 to 512 and not
  * 16c. Otherwise nothing is to be fetched, and all 16 bytes are 0: the format is 0 or 1, or the copies in the message
- * are the whole table, or the table's length is bad (taking such a command draws 10). Look is given no boundary: the
- * fetch that it names may cross a multiple of the login's Q, and is the owner's to split.
+ * are the whole table, or the table's length is bad (such a command draws 10, when it is taken or, where the other
+ * direction has a fetch, when its tables are brought). Look is given no boundary: the fetch that it names may cross a
+ * multiple of the login's Q, and is the owner's to split.
  */
 uint32_t srp_look(const uint8_t *msg, size_t msg_len, uint32_t agreed, uint32_t formats, uint8_t *buf, size_t buf_len);
 

@@ -8,10 +8,14 @@ use srp_target_sys::{
 
 use crate::sides::Side;
 
-/// A message to take, and the tables fetched for it.
+/// A message to take.
 #[derive(Clone)]
-pub struct Message {
-    pub bytes: Vec<u8>,
+pub struct Message(pub Vec<u8>);
+
+/// The tables fetched for a command that waits.
+#[derive(Clone)]
+pub struct Tables {
+    pub tag: u64,
     pub out: Vec<u8>,
     pub inn: Vec<u8>,
 }
@@ -20,6 +24,7 @@ pub struct Message {
 pub enum Batch {
     Login { messages: Vec<[u8; 64]>, boundary: u64 },
     Take(Vec<Message>),
+    Tables(Vec<Tables>),
     Plan { tags: Vec<u64>, required: u32 },
     Move { tags: Vec<u64>, direction: u32, offset: u32, count: u32 },
     Step { tags: Vec<u64>, direction: u32 },
@@ -67,6 +72,7 @@ impl Batch {
         match self {
             Batch::Login { messages, .. } => messages.len(),
             Batch::Take(messages) => messages.len(),
+            Batch::Tables(tables) => tables.len(),
             Batch::Plan { tags, .. } | Batch::Move { tags, .. } => tags.len(),
             Batch::Step { tags, .. } | Batch::Finish { tags, .. } => tags.len(),
             Batch::Look(messages) => messages.len(),
@@ -88,6 +94,9 @@ impl Batch {
                 each(ports, messages, after, |lent, msg| unsafe { login(side, lent, *boundary, msg) })
             }
             Batch::Take(messages) => each(ports, messages, after, |lent, message| unsafe { take(side, lent, message) }),
+            Batch::Tables(brought) => {
+                each(ports, brought, after, |lent, brought| unsafe { tables(side, lent, brought) })
+            }
             Batch::Plan { tags, required } => {
                 each(ports, tags, after, |lent, tag| unsafe { (side.plan)(lent.port, *tag, *required, *required) })
             }
@@ -102,9 +111,7 @@ impl Batch {
             }
             Batch::Add(k) => each(ports, &[()], after, |lent, ()| unsafe { (side.add)(lent.port, *k) }),
             Batch::Withdraw(k) => each(ports, &[()], after, |lent, ()| unsafe { (side.withdraw)(lent.port, *k) }),
-            Batch::Grant => each(ports, &[()], after, |lent, ()| unsafe {
-                (side.grant)(lent.port, lent.buf.as_mut_ptr(), lent.buf.len(), &mut *lent.answer)
-            }),
+            Batch::Grant => each(ports, &[()], after, |lent, ()| unsafe { grant(side, lent) }),
             Batch::Close => each(ports, &[()], after, |lent, ()| unsafe { close(side, lent) }),
             Batch::Counters(calls) => each(ports, &vec![(); *calls], after, |lent, ()| unsafe { counters(side, lent) }),
             Batch::List(calls) => each(ports, &vec![(); *calls], after, |lent, ()| unsafe { list(side, lent) }),
@@ -140,20 +147,29 @@ unsafe fn login(side: &Side, lent: &mut Lent, boundary: u64, msg: &[u8]) -> u32 
 }
 
 #[inline(always)]
-unsafe fn take(side: &Side, lent: &mut Lent, message: &Message) -> u32 {
-    let Message { bytes, out, inn } = message;
+unsafe fn take(side: &Side, lent: &mut Lent, Message(bytes): &Message) -> u32 {
+    let (store, answer) = (&mut *lent.store, &mut *lent.answer);
+    let (buf, buf_len) = (lent.buf.as_mut_ptr(), lent.buf.len());
+    unsafe { (side.take)(lent.port, store, bytes.as_ptr(), bytes.len(), buf, buf_len, answer) }
+}
+
+#[inline(always)]
+unsafe fn tables(side: &Side, lent: &mut Lent, Tables { tag, out, inn }: &Tables) -> u32 {
     let (store, answer) = (&mut *lent.store, &mut *lent.answer);
     let (buf, buf_len) = (lent.buf.as_mut_ptr(), lent.buf.len());
     let (out, out_len, inn, in_len) = (out.as_ptr(), out.len(), inn.as_ptr(), inn.len());
-    unsafe {
-        (side.take)(lent.port, store, bytes.as_ptr(), bytes.len(), out, out_len, inn, in_len, buf, buf_len, answer)
-    }
+    unsafe { (side.tables)(lent.port, store, *tag, out, out_len, inn, in_len, buf, buf_len, answer) }
 }
 
 #[inline(always)]
 unsafe fn finish(side: &Side, lent: &mut Lent, tag: u64, status: u8, sense: &[u8]) -> u32 {
     let (buf, buf_len, answer) = (lent.buf.as_mut_ptr(), lent.buf.len(), &mut *lent.answer);
     unsafe { (side.finish)(lent.port, tag, status, sense.as_ptr(), sense.len(), buf, buf_len, answer) }
+}
+
+#[inline(always)]
+unsafe fn grant(side: &Side, lent: &mut Lent) -> u32 {
+    unsafe { (side.grant)(lent.port, lent.buf.as_mut_ptr(), lent.buf.len(), &mut *lent.answer) }
 }
 
 #[inline(always)]

@@ -52,6 +52,24 @@ fn take_case(name: &str, message: impl Fn(u64) -> Message) -> Case {
     case(&format!("take, {name}"), vec![], take_all(message), vec![finish_all(tags())])
 }
 
+fn bring_all(entries: u32) -> Batch {
+    Batch::Tables(tags().into_iter().map(|tag| table(entries, tag)).collect())
+}
+
+/// Commands that wait for a table of so many entries.
+fn waiting_case(entries: u32, copies: u32) -> Case {
+    let name = format!("take, waits for a table of {entries} entries, {copies} copies");
+    let after = vec![bring_all(entries), finish_all(tags())];
+    case(&name, vec![], take_all(|tag| fetched(entries, copies, tag)), after)
+}
+
+/// Their tables, the oldest command's first.
+fn tables_case(entries: u32, copies: u32) -> Case {
+    let name = format!("tables, {entries} entries, {copies} copies, 16 commands open");
+    let before = vec![take_all(|tag| fetched(entries, copies, tag))];
+    case(&name, before, bring_all(entries), vec![finish_all(tags())])
+}
+
 fn task_case() -> Case {
     let commands = tags().into_iter().take(15).map(direct).collect();
     let timed = Batch::Take(vec![abort_task_set()]);
@@ -133,7 +151,7 @@ fn grant_case() -> Case {
 }
 
 fn look_case(name: &str, message: Message) -> Case {
-    case(&format!("look, {name}"), vec![], Batch::Look(vec![message.bytes; REPEATED]), vec![])
+    case(&format!("look, {name}"), vec![], Batch::Look(vec![message.0; REPEATED]), vec![])
 }
 
 fn cut_case(part: Part, count: u32) -> Case {
@@ -153,13 +171,20 @@ fn bounded_cut_case() -> Case {
 
 /// Towards the port or from it.
 fn trace_case(name: &str, message: Message, direction: u32) -> Case {
-    let timed = Batch::Trace { messages: vec![message.bytes; REPEATED], direction };
+    let timed = Batch::Trace { messages: vec![message.0; REPEATED], direction };
     case(&format!("trace, {name}"), vec![], timed, vec![])
 }
 
 /// A case for each number of segments, of the first piece and of the last byte.
 fn by_segments(of: fn(Part, u32) -> Case) -> impl Iterator<Item = Case> {
     [Part::FirstPiece, Part::LastByte].into_iter().flat_map(move |part| [1, 8, 16, 32].map(|count| of(part, count)))
+}
+
+/// Entries of a table, and how many of them are in the message too.
+fn with_tables() -> Vec<Case> {
+    let tables = [(2, 0), (32, 0), (32, 16)];
+    let [waiting, brought] = [waiting_case, tables_case].map(|of| tables.map(|(entries, copies)| of(entries, copies)));
+    waiting.into_iter().chain(brought).collect()
 }
 
 impl Case {
@@ -184,14 +209,13 @@ pub fn cases() -> Vec<Case> {
         take_case("no data", no_data),
         take_case("direct", direct),
         take_case("32 copies each way, 1,364 bytes", longest),
-        take_case("fetched table of 32 entries, 0 copies", |tag| fetched(0, tag)),
-        take_case("fetched table of 32 entries, 16 copies", |tag| fetched(16, tag)),
         task_case(),
         plan_case(),
         move_case("oldest", 0x100),
         move_case("newest", 0x10f),
         far_move_case(),
     ];
+    cases.splice(4..4, with_tables());
     cases.extend(by_segments(step_case));
     cases.extend([
         bounded_step_case(),

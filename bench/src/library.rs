@@ -16,6 +16,7 @@ pub static LIBRARY: Side = Side {
     new_port: library_port,
     login: srp_target_login,
     take: srp_target_take,
+    tables: srp_target_tables,
     plan: srp_target_plan,
     name_move: srp_target_move,
     step: srp_target_step,

@@ -1,6 +1,6 @@
 //! The messages and lists of the cases.
 
-use crate::batch::Message;
+use crate::batch::{Message, Tables};
 
 /// Bytes of a segment: two pieces.
 pub const SEGMENT: u32 = 700;
@@ -29,16 +29,12 @@ pub fn segments(count: u32) -> Vec<u8> {
     (0..u64::from(count)).flat_map(|i| memory(0x10_0000 + i * 4096, SEGMENT)).collect()
 }
 
-fn plain(bytes: Vec<u8>) -> Message {
-    Message { bytes, out: Vec::new(), inn: Vec::new() }
-}
-
 pub fn no_data(tag: u64) -> Message {
-    plain(command(0x00, 0, 0, tag))
+    Message(command(0x00, 0, 0, tag))
 }
 
 pub fn direct(tag: u64) -> Message {
-    plain([command(0x01, 0, 0, tag), memory(0x1000, 1300).to_vec()].concat())
+    Message([command(0x01, 0, 0, tag), memory(0x1000, 1300).to_vec()].concat())
 }
 
 /// A segment whose first 256 bytes, half a piece, lie before a multiple of 4,096.
@@ -48,7 +44,7 @@ pub fn before_multiple() -> Vec<u8> {
 
 /// Data-in of that segment.
 pub fn direct_before_multiple(tag: u64) -> Message {
-    plain([command(0x01, 0, 0, tag), before_multiple()].concat())
+    Message([command(0x01, 0, 0, tag), before_multiple()].concat())
 }
 
 /// A table descriptor, the total length, and the first entries.
@@ -59,18 +55,22 @@ fn indirect(entries: u32, copies: u32) -> Vec<u8> {
 
 /// Data-in of so many segments, all in the message.
 pub fn all_copied(count: u32, tag: u64) -> Message {
-    plain([command(0x02, count as u8, 0, tag), indirect(count, count)].concat())
+    Message([command(0x02, count as u8, 0, tag), indirect(count, count)].concat())
 }
 
 /// n = 63, and both ways a table of which all 32 entries are in the message: 1,364 bytes.
 pub fn longest(tag: u64) -> Message {
-    plain([command(0x22, 32, 63, tag), indirect(32, 32), indirect(32, 32)].concat())
+    Message([command(0x22, 32, 63, tag), indirect(32, 32), indirect(32, 32)].concat())
 }
 
-/// Data-in by a table of 32 entries that was fetched, some of them in the message too.
-pub fn fetched(copies: u32, tag: u64) -> Message {
-    let bytes = [command(0x02, copies as u8, 0, tag), indirect(32, copies)].concat();
-    Message { bytes, out: Vec::new(), inn: segments(32) }
+/// Data-in by a table of so many entries that is to be fetched, some of them in the message too.
+pub fn fetched(entries: u32, copies: u32, tag: u64) -> Message {
+    Message([command(0x02, copies as u8, 0, tag), indirect(entries, copies)].concat())
+}
+
+/// That table.
+pub fn table(entries: u32, tag: u64) -> Tables {
+    Tables { tag, out: Vec::new(), inn: segments(entries) }
 }
 
 /// An SRP_TSK_MGMT that aborts all commands of LUN 0.
@@ -79,7 +79,7 @@ pub fn abort_task_set() -> Message {
     msg[0] = 0x01;
     msg[15] = 0xff;
     msg[30] = 0x02;
-    plain(msg)
+    Message(msg)
 }
 
 /// The SRP_CRED_RSP to a grant.
@@ -87,7 +87,7 @@ pub fn credit_response() -> Message {
     let mut msg = vec![0; 16];
     msg[0] = 0x41;
     msg[15] = 1;
-    plain(msg)
+    Message(msg)
 }
 
 /// An SRP_RSP with a delta and RSP_CODE 4.
@@ -99,12 +99,12 @@ pub fn response() -> Message {
     msg[18] = 1;
     msg[35] = 4;
     msg[39] = 4;
-    plain(msg)
+    Message(msg)
 }
 
 /// An SRP_AER_REQ, of a type that document 01 does not have.
 pub fn other_type() -> Message {
     let mut msg = vec![0; 52];
     msg[0] = 0x82;
-    plain(msg)
+    Message(msg)
 }

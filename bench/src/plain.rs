@@ -62,6 +62,30 @@ pub unsafe extern "C" fn plain_take(
     _store: *mut Store,
     msg: *const u8,
     msg_len: usize,
+    buf: *mut u8,
+    buf_len: usize,
+    answer: *mut Answer,
+) -> u32 {
+    let (port, msg) = unsafe { (&mut *port.cast::<Port>(), slice::from_raw_parts(msg, msg_len)) };
+    let buf = unsafe { slice::from_raw_parts_mut(buf, buf_len) };
+    let (number, words) = match port.take(msg, buf) {
+        Ok(Taken::Command { tag, lun, cdb_at, cdb_length, waits }) => {
+            (0, [0, 1, tag, lun, cdb_at as u64, cdb_length as u64, waits.into()])
+        }
+        Ok(Taken::Task { tag, lun, wrote }) => (0, [wrote as u64, 2, tag, lun, 0, 0, 0]),
+        Ok(Taken::CreditResponse) => (0, [0, 3, 0, 0, 0, 0, 0]),
+        Ok(Taken::Logout) => (0, [0, 4, 0, 0, 0, 0, 0]),
+        Err(Refused { refusal, wrote }) => (refusal as u32, [wrote as u64, 0, 0, 0, 0, 0, 0]),
+    };
+    unsafe { put(answer, words) };
+    number
+}
+
+#[inline(never)]
+pub unsafe extern "C" fn plain_tables(
+    port: *mut Words,
+    _store: *mut Store,
+    tag: u64,
     out: *const u8,
     out_len: usize,
     inn: *const u8,
@@ -70,17 +94,13 @@ pub unsafe extern "C" fn plain_take(
     buf_len: usize,
     answer: *mut Answer,
 ) -> u32 {
-    let (port, msg) = unsafe { (&mut *port.cast::<Port>(), slice::from_raw_parts(msg, msg_len)) };
+    let (port, buf) = unsafe { (&mut *port.cast::<Port>(), slice::from_raw_parts_mut(buf, buf_len)) };
     let (out, inn) = unsafe { (slice::from_raw_parts(out, out_len), slice::from_raw_parts(inn, in_len)) };
-    let buf = unsafe { slice::from_raw_parts_mut(buf, buf_len) };
-    let (number, words) = match port.take(msg, out, inn, buf) {
-        Ok(Taken::Command { tag, lun, cdb_at, cdb_length }) => (0, [0, 1, tag, lun, cdb_at as u64, cdb_length as u64]),
-        Ok(Taken::Task { tag, lun, wrote }) => (0, [wrote as u64, 2, tag, lun, 0, 0]),
-        Ok(Taken::CreditResponse) => (0, [0, 3, 0, 0, 0, 0]),
-        Ok(Taken::Logout) => (0, [0, 4, 0, 0, 0, 0]),
-        Err(Refused { refusal, wrote }) => (refusal as u32, [wrote as u64, 0, 0, 0, 0, 0]),
+    let (number, wrote) = match port.tables(tag, [out, inn], buf) {
+        Ok(()) => (0, 0),
+        Err(Refused { refusal, wrote }) => (refusal as u32, wrote),
     };
-    unsafe { put(answer, words) };
+    unsafe { put(answer, [wrote as u64]) };
     number
 }
 

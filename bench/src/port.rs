@@ -8,6 +8,7 @@ mod refusal;
 mod request;
 mod take;
 mod transfer;
+mod waiting;
 
 pub use login::{Login, Settings};
 pub use refusal::{Refusal, Refused};
@@ -16,6 +17,7 @@ pub use transfer::{Direction, Piece};
 
 use crate::search::Search;
 use transfer::{SegmentList, Transfer};
+use waiting::Awaited;
 
 /// The most buffers, and so the most commands open at a time.
 const MAX_BUFFERS: usize = 16;
@@ -23,13 +25,15 @@ const MAX_BUFFERS: usize = 16;
 /// The least lent buffer: the longest message written, 36 bytes and 96 of sense.
 const BUFFER_BYTES: usize = 132;
 
+#[derive(Clone)]
 pub struct Port {
     /// None is the closed port.
     channel: Option<Channel>,
-    /// Segments of the command with the same place in `commands`, out and in.
+    /// Segments of the command with the same place in `commands`, out and in; while it waits, those of its message.
     lists: [[SegmentList; 2]; MAX_BUFFERS],
 }
 
+#[derive(Clone)]
 struct Channel {
     agreed_length: usize,
     formats: u32,
@@ -55,6 +59,8 @@ struct Command {
     lun: u64,
     ucsolnt: bool,
     scsolnt: bool,
+    /// What it waits for.
+    awaited: Option<[Awaited; 2]>,
     planned: bool,
     transfers: [Transfer; 2],
 }
@@ -74,6 +80,7 @@ impl Port {
     /// States what the SCSI command requires each way, once per command.
     pub fn plan(&mut self, tag: u64, required_out: u32, required_in: u32) -> Result<(), Refusal> {
         let command = self.open()?.command(tag)?;
+        command.check_ready()?;
         if command.planned {
             return Err(Refusal::Planned);
         }
@@ -88,6 +95,7 @@ impl Port {
         let channel = self.channel.as_mut().ok_or(Refusal::Closed)?;
         let slot = channel.slot(tag)?;
         let command = channel.commands[slot].as_mut().ok_or(Refusal::TagNotOpen)?;
+        command.check_ready()?;
         if !command.planned {
             return Err(Refusal::Unplanned);
         }
@@ -100,6 +108,7 @@ impl Port {
         let channel = self.channel.as_mut().ok_or(Refusal::Closed)?;
         let slot = channel.slot(tag)?;
         let command = channel.commands[slot].as_mut().ok_or(Refusal::TagNotOpen)?;
+        command.check_ready()?;
         if !command.planned {
             return Err(Refusal::Unplanned);
         }
@@ -117,7 +126,9 @@ impl Port {
             return Err(Refusal::Argument);
         }
         let slot = channel.slot(tag)?;
-        let command = channel.commands[slot].take().ok_or(Refusal::TagNotOpen)?;
+        let command = channel.commands[slot].ok_or(Refusal::TagNotOpen)?;
+        command.check_ready()?;
+        channel.commands[slot] = None;
         channel.owed += 1;
         let residuals = command.transfers.map(|transfer| transfer.residual());
         let solnt = if status != 0 { command.ucsolnt } else { command.scsolnt };

@@ -2,9 +2,10 @@
 
 use srp_target_sys::{Store, Words, STORE_BYTES};
 use srp_tests::limits::Limits;
-use srp_tests::port::call::{Call, Outcome, Target, UNWRITTEN};
-use srp_tests::{port, rows};
+use srp_tests::port::call::{Call, Outcome, Restore, Target, UNWRITTEN};
+use srp_tests::{port as ports, rows};
 
+use crate::port::Port;
 use crate::sides::{Side, PLAIN, YARDSTICK};
 
 /// The current port of a side, and its store.
@@ -33,8 +34,9 @@ impl Current {
             Call::Login { settings, boundary, own, .. } => {
                 (side.login)(port, settings, *boundary, own, msg, msg_len, buf, buf_len, answer)
             }
-            Call::Take { .. } => {
-                (side.take)(port, store, msg, msg_len, out, out_len, inn, in_len, buf, buf_len, answer)
+            Call::Take { .. } => (side.take)(port, store, msg, msg_len, buf, buf_len, answer),
+            Call::Tables { tag, .. } => {
+                (side.tables)(port, store, *tag, out, out_len, inn, in_len, buf, buf_len, answer)
             }
             Call::Plan { tag, r_out, r_in } => (side.plan)(port, *tag, *r_out, *r_in),
             Call::Move { tag, direction, offset, count } => (side.name_move)(port, *tag, *direction, *offset, *count),
@@ -50,28 +52,47 @@ impl Current {
     }
 }
 
+/// The sides that rows are put to have a plain port each.
+impl Restore for Current {
+    type State = Port;
+
+    fn state(&self) -> Port {
+        // SAFETY: it is a plain port.
+        unsafe { (*self.port.cast::<Port>()).clone() }
+    }
+
+    fn restore(&mut self, state: Port) {
+        // SAFETY: as above.
+        unsafe { *self.port.cast::<Port>() = state }
+    }
+}
+
 fn closed_port(side: &'static Side) -> Current {
     Current { side, port: (side.new_port)(), store: Box::new([0; STORE_BYTES]) }
 }
 
 fn run_port(side: &'static Side) {
-    port::rows::run_base(&mut closed_port(side), side.name);
+    ports::rows::run_base(&mut closed_port(side), side.name);
 }
 
 fn run_moves(side: &'static Side) {
-    port::rows::run_job_1(&mut closed_port(side), side.name);
+    ports::rows::run_job_1(&mut closed_port(side), side.name);
 }
 
 fn run_numbers(side: &'static Side) {
-    port::rows::run_job_4(&mut closed_port(side), side.name);
+    ports::rows::run_job_4(&mut closed_port(side), side.name);
 }
 
 fn run_order(side: &'static Side) {
-    port::rows::run_job_5(&mut closed_port(side), side.name);
+    ports::rows::run_job_5(&mut closed_port(side), side.name);
 }
 
 fn run_boundary(side: &'static Side) {
-    port::rows::run_job_6(&mut closed_port(side), side.name);
+    ports::rows::run_job_6(&mut closed_port(side), side.name);
+}
+
+fn run_waiting(side: &'static Side) {
+    ports::rows::run_job_7(&mut closed_port(side), side.name);
 }
 
 fn run_cut(side: &'static Side) {
@@ -105,6 +126,11 @@ fn order_rows() {
 #[test]
 fn boundary_rows() {
     run_boundary(&PLAIN);
+}
+
+#[test]
+fn waiting_rows() {
+    run_waiting(&PLAIN);
 }
 
 #[test]
@@ -151,6 +177,11 @@ fn order_rows_by_the_yardstick() {
 #[test]
 fn boundary_rows_by_the_yardstick() {
     run_boundary(&YARDSTICK);
+}
+
+#[test]
+fn waiting_rows_by_the_yardstick() {
+    run_waiting(&YARDSTICK);
 }
 
 #[test]

@@ -19,11 +19,11 @@ pub type Login = unsafe extern "C" fn(
     usize,
     *mut Answer,
 ) -> u32;
-pub type Take = unsafe extern "C" fn(
+pub type Take = unsafe extern "C" fn(*mut Words, *mut Store, *const u8, usize, *mut u8, usize, *mut Answer) -> u32;
+pub type Tables = unsafe extern "C" fn(
     *mut Words,
     *mut Store,
-    *const u8,
-    usize,
+    u64,
     *const u8,
     usize,
     *const u8,
@@ -51,6 +51,7 @@ pub struct Side {
     pub new_port: fn() -> *mut Words,
     pub login: Login,
     pub take: Take,
+    pub tables: Tables,
     pub plan: Plan,
     pub name_move: Move,
     pub step: Step,
@@ -81,6 +82,7 @@ const fn plain_side<S: Search>(name: &'static str) -> Side {
         new_port: plain_port,
         login: plain::plain_login,
         take: plain::plain_take,
+        tables: plain::plain_tables,
         plan: plain::plain_plan,
         name_move: plain::plain_move,
         step: plain::plain_step::<S>,

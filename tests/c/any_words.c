@@ -2,60 +2,32 @@
  * Any words are a port, and any bytes its store: every call returns 0 or a refusal of its own, and writes nothing but
  * what it is lent to write.
  */
+#include "arbitrary.h"
 #include "calls.h"
 #include "cases.h"
 
-/* The word of a port that has Q. */
-enum { M = 512, BOUNDARY = 10 };
+enum { M = 512 };
 
-static uint64_t state;
-
-/* Numbers by a fixed rule (xorshift). */
-static uint64_t next(void)
-{
-    state ^= state << 13;
-    state ^= state >> 7;
-    state ^= state << 17;
-    return state;
-}
-
-/* None, some, and numbers that are no boundary. */
-static uint64_t some_boundary(void)
-{
-    static const uint64_t some[8] = {0, 512, 4096, SRP_GREATEST_BOUNDARY, 1, 511, 768, 2 * SRP_GREATEST_BOUNDARY};
-    return some[next() >> 61];
-}
-
-/* Arbitrary words, large numbers and small ones; an odd first word is an open port's, and most are. */
-static void arbitrary_port(void)
-{
-    static const uint64_t masks[4] = {3, 15, 31, UINT64_MAX};
-    uint64_t words[SRP_PORT_WORDS];
-    unsigned i;
-    for (i = 0; i < SRP_PORT_WORDS; i++)
-        words[i] = next() & masks[next() >> 62];
-    words[0] |= next() >> 62 != 0;
-    words[BOUNDARY] = some_boundary();
-    lay(PORT, words, sizeof words);
-    lay(STORE, NULL, 0);
-}
-
-enum call { PLAN, MOVE, STEP_OUT, STEP_IN, FINISH, ADD, GRANT, WITHDRAW, LIST, COUNTERS, TAKE, CLOSE, LOGIN, CALLS };
+enum call {
+    PLAN, MOVE, STEP_OUT, STEP_IN, FINISH, ADD, GRANT, WITHDRAW, LIST, COUNTERS, TABLES, TAKE, CLOSE, LOGIN, CALLS
+};
 
 #define BIT(n)        ((uint64_t)1 << (n))
 #define WITH_A_LOGOUT (BIT(3) | BIT(4) | BIT(5) | BIT(6) | BIT(7) | BIT(8) | BIT(22) | BIT(23) | BIT(25))
 
-/* Of each call what it is lent to write, and its refusals in the papers; no argument here draws 1, 9 or 11. */
+/* Of each call what it is lent to write, and its refusals in the papers; no argument here draws 1 or 11. */
 static const struct {
     const char *name;
     uint64_t writes, refusals;
 } rules[CALLS] = {
     [TAKE] = {"any words, take", BIT(PORT) | BIT(STORE) | BIT(BUF) | BIT(ANSWER), WITH_A_LOGOUT | BIT(10) | BIT(21)},
-    [PLAN] = {"any words, plan", BIT(PORT), BIT(21) | BIT(24) | BIT(30)},
-    [MOVE] = {"any words, move", BIT(PORT), BIT(21) | BIT(24) | BIT(29) | BIT(31) | BIT(32)},
-    [STEP_OUT] = {"any words, step out", BIT(PORT) | BIT(ANSWER), BIT(21) | BIT(24) | BIT(29)},
-    [STEP_IN] = {"any words, step in", BIT(PORT) | BIT(ANSWER), BIT(21) | BIT(24) | BIT(29)},
-    [FINISH] = {"any words, finish", BIT(PORT) | BIT(BUF) | BIT(ANSWER), BIT(21) | BIT(24)},
+    [TABLES] = {"any words, tables", BIT(PORT) | BIT(STORE) | BIT(BUF) | BIT(ANSWER),
+                BIT(9) | BIT(10) | BIT(21) | BIT(24) | BIT(33)},
+    [PLAN] = {"any words, plan", BIT(PORT), BIT(21) | BIT(24) | BIT(30) | BIT(33)},
+    [MOVE] = {"any words, move", BIT(PORT), BIT(21) | BIT(24) | BIT(29) | BIT(31) | BIT(32) | BIT(33)},
+    [STEP_OUT] = {"any words, step out", BIT(PORT) | BIT(ANSWER), BIT(21) | BIT(24) | BIT(29) | BIT(33)},
+    [STEP_IN] = {"any words, step in", BIT(PORT) | BIT(ANSWER), BIT(21) | BIT(24) | BIT(29) | BIT(33)},
+    [FINISH] = {"any words, finish", BIT(PORT) | BIT(BUF) | BIT(ANSWER), BIT(21) | BIT(24) | BIT(33)},
     [ADD] = {"any words, add", BIT(PORT), BIT(21) | BIT(28)},
     [GRANT] = {"any words, grant", BIT(PORT) | BIT(BUF) | BIT(ANSWER), BIT(21) | BIT(26) | BIT(27)},
     [WITHDRAW] = {"any words, withdraw", BIT(PORT), BIT(21) | BIT(28)},
@@ -77,7 +49,7 @@ static void let_write(enum call call, uint32_t returned)
     const uint64_t *answer = lent_words(ANSWER), writes = rules[call].writes;
     if (writes & BIT(PORT))
         let_change(PORT, 8 * SRP_PORT_WORDS);
-    if (writes & BIT(STORE) && returned == 0 && answer[1] == SRP_KIND_COMMAND)
+    if (writes & BIT(STORE) && returned == 0 && (call == TABLES || answer[1] == SRP_KIND_COMMAND))
         let_change(STORE, SRP_STORE_BYTES);
     if (writes & BIT(BUF) && answer[0] <= SRP_MESSAGE_BYTES)
         let_change(BUF, answer[0]);
@@ -86,6 +58,9 @@ static void let_write(enum call call, uint32_t returned)
     if (writes & BIT(ANSWER))
         let_change(ANSWER, 8 * SRP_ANSWER_WORDS);
 }
+
+/* Tables that a command was waiting for, and with which one was answered. */
+static unsigned accepted_tables, answered_tables;
 
 /* Steps that had a piece numbered above 1, and that said done with a number above 0. */
 static unsigned later_pieces, numbered_dones;
@@ -120,12 +95,14 @@ static void judge(enum call call, uint32_t returned)
 {
     static const uint64_t zeros[SRP_PORT_WORDS];
     int logout = call == TAKE && among(WITH_A_LOGOUT, returned);
-    if (returned == 0 || logout || (call == TAKE && returned == SRP_REFUSED_FIELDS))
+    if (returned == 0 || logout || returned == SRP_REFUSED_FIELDS)
         let_write(call, returned);
     else if (rules[call].writes & BIT(ANSWER))
         expect(ANSWER, 0, zeros, 8 * SRP_ANSWER_WORDS);
     if (logout || (call == CLOSE && returned == 0) || (call == LOGIN && returned))
         expect(PORT, 0, zeros, sizeof zeros);
+    accepted_tables += call == TABLES && returned == 0;
+    answered_tables += call == TABLES && returned == SRP_REFUSED_FIELDS;
     if (returned == 0 && (call == STEP_OUT || call == STEP_IN)) {
         judge_number(rules[call].name);
         judge_boundary(rules[call].name);
@@ -149,10 +126,25 @@ static struct bytes some_message(uint64_t tag)
     }
 }
 
-/* Small numbers and large ones. */
-static uint32_t any_size(void)
+/* F of a direction, by the words of its slot: a table without a copy. */
+static size_t fetched(const uint64_t *words)
 {
-    return (uint32_t)next() >> (next() >> 59);
+    return words[0] % 3 == 2 && words[1] == 0 ? (size_t)(words[2] % 528) : 0;
+}
+
+/* Tables of 0 bytes each, as long as the words of the command's slot say: no entry has a byte. */
+static uint32_t made_tables(uint64_t tag)
+{
+    static const uint8_t zeros[528];
+    const uint64_t *slot = lent_words(PORT) + SLOTS;
+    unsigned i;
+    for (i = 0; i < 15 && slot[0] != tag; i++)
+        slot += SLOT;
+    lay(OUT, zeros, sizeof zeros);
+    lay(IN, zeros, sizeof zeros);
+    begin();
+    return srp_target_tables(lent_words(PORT), lent(STORE), tag, lent(OUT), fetched(slot + OUT_WORDS), lent(IN),
+                             fetched(slot + IN_WORDS), lent(BUF), 132, lent_words(ANSWER));
 }
 
 static uint32_t made(enum call call, uint64_t tag, size_t msg_len)
@@ -161,7 +153,9 @@ static uint32_t made(enum call call, uint64_t tag, size_t msg_len)
     uint8_t *buf = lent(BUF);
     switch (call) {
     case TAKE:
-        return srp_target_take(port, lent(STORE), lent(MSG), msg_len, lent(OUT), 0, lent(IN), 0, buf, 132, answer);
+        return srp_target_take(port, lent(STORE), lent(MSG), msg_len, buf, 132, answer);
+    case TABLES:
+        return made_tables(tag);
     case PLAN:
         return srp_target_plan(port, tag, (uint32_t)next(), (uint32_t)next());
     case MOVE:
@@ -223,8 +217,8 @@ static void step_again(enum call call, uint64_t tag)
 static void some_calls(void)
 {
     unsigned i;
-    for (i = 0; i < 34; i++) {
-        enum call call = i < 33 ? (enum call)(i % CLOSE) : CLOSE;
+    for (i = 0; i < 37; i++) {
+        enum call call = i < 36 ? (enum call)(i % CLOSE) : CLOSE;
         uint64_t tag;
         lay(RECORDS, NULL, 0);
         if (!in_ranges())
@@ -250,7 +244,6 @@ static void some_login(void)
 void any_words_cases(void)
 {
     unsigned i;
-    state = 0x9e3779b97f4a7c15;
     for (i = 0; i < 200; i++) {
         arbitrary_port();
         some_calls();
@@ -261,4 +254,6 @@ void any_words_cases(void)
         fail("any words", "no step with a number to judge");
     if (!bounded_pieces)
         fail("any words", "no piece up to a boundary");
+    if (!accepted_tables || !answered_tables)
+        fail("any words", "no tables to judge");
 }

@@ -6,8 +6,10 @@
 static uint64_t (*const words_of_header)(void) = srp_target_words;
 static uint32_t (*const login_of_header)(uint64_t *, const uint32_t *, uint64_t, const uint8_t *, const uint8_t *,
                                          size_t, uint8_t *, size_t, uint64_t *) = srp_target_login;
-static uint32_t (*const take_of_header)(uint64_t *, uint8_t *, const uint8_t *, size_t, const uint8_t *, size_t,
-                                        const uint8_t *, size_t, uint8_t *, size_t, uint64_t *) = srp_target_take;
+static uint32_t (*const take_of_header)(uint64_t *, uint8_t *, const uint8_t *, size_t, uint8_t *, size_t,
+                                        uint64_t *) = srp_target_take;
+static uint32_t (*const tables_of_header)(uint64_t *, uint8_t *, uint64_t, const uint8_t *, size_t, const uint8_t *,
+                                          size_t, uint8_t *, size_t, uint64_t *) = srp_target_tables;
 static uint32_t (*const plan_of_header)(uint64_t *, uint64_t, uint32_t, uint32_t) = srp_target_plan;
 static uint32_t (*const move_of_header)(uint64_t *, uint64_t, uint32_t, uint32_t, uint32_t) = srp_target_move;
 static uint32_t (*const step_of_header)(uint64_t *, const uint8_t *, uint64_t, uint32_t, uint64_t *) = srp_target_step;
@@ -110,18 +112,45 @@ void login(const char *name, uint32_t number, struct after after, const uint32_t
     judge(name, returned, number, &after);
 }
 
-void take(const char *name, uint32_t number, struct after after, struct bytes msg, struct bytes out, struct bytes in,
-          size_t buf_len)
+/* The message's memory holds something else as soon as take returns. */
+void take(const char *name, uint32_t number, struct after after, struct bytes msg, size_t buf_len)
 {
     uint32_t returned;
     lay(MSG, msg.at, msg.len);
+    lend_answers();
+    returned = take_of_header(lent_words(PORT), lent(STORE), lent(MSG), msg.len, lent(BUF), buf_len,
+                              lent_words(ANSWER));
+    if (after.answer[1] == SRP_KIND_COMMAND)
+        let_change(STORE, SRP_STORE_BYTES);
+    judge(name, returned, number, &after);
+    lay(MSG, NULL, 0);
+}
+
+/* Of the store a place has the tables, out at its start and in from its middle on; no other byte is written. */
+static void expect_tables(struct bytes out, struct bytes in)
+{
+    enum { PLACE = SRP_STORE_BYTES / SRP_MOST_BUFFERS };
+    size_t at;
+    for (at = 0; at < SRP_STORE_BYTES; at += PLACE) {
+        const uint8_t *place = lent(STORE) + at;
+        if (memcmp(place, lent(OUT), out.len) || memcmp(place + PLACE / 2, lent(IN), in.len))
+            continue;
+        expect(STORE, at, lent(OUT), out.len);
+        expect(STORE, at + PLACE / 2, lent(IN), in.len);
+    }
+}
+
+void tables(const char *name, uint32_t number, struct after after, uint64_t tag, struct bytes out, struct bytes in,
+            size_t buf_len)
+{
+    uint32_t returned;
     lay(OUT, out.at, out.len);
     lay(IN, in.at, in.len);
     lend_answers();
-    returned = take_of_header(lent_words(PORT), lent(STORE), lent(MSG), msg.len, lent(OUT), out.len, lent(IN), in.len,
-                              lent(BUF), buf_len, lent_words(ANSWER));
-    if (after.answer[1] == SRP_KIND_COMMAND)
-        let_change(STORE, SRP_STORE_BYTES);
+    returned = tables_of_header(lent_words(PORT), lent(STORE), tag, lent(OUT), out.len, lent(IN), in.len, lent(BUF),
+                                buf_len, lent_words(ANSWER));
+    if (number == 0)
+        expect_tables(out, in);
     judge(name, returned, number, &after);
 }
 
@@ -142,6 +171,15 @@ void move(const char *name, uint32_t number, uint64_t tag, uint32_t direction, u
 {
     begin();
     judge_plain(name, move_of_header(lent_words(PORT), tag, direction, offset, count), number);
+}
+
+void named(const char *name, uint64_t tag, uint32_t direction, uint32_t offset, uint32_t count)
+{
+    uint32_t returned;
+    begin();
+    returned = move_of_header(lent_words(PORT), tag, direction, offset, count);
+    judge_port(name, ANY);
+    compare(name, returned, 0);
 }
 
 void step(const char *name, uint32_t number, struct after after, uint64_t tag, uint32_t direction)
@@ -203,68 +241,4 @@ void list(const char *name, uint32_t number, size_t words, size_t count, const u
         fail(name, "other records");
     let_change(RECORDS, 8 * SRP_RECORD_WORDS * count);
     judge(name, returned, number, &after);
-}
-
-void opened_with(uint32_t n, uint32_t m, uint64_t boundary)
-{
-    struct bytes request = login_request(9, SRP_LONGEST_AGREED, 0x0006, CRSOLNT | LOSOLNT, own_identifier);
-    struct after after = {OTHER, {52, 0}, login_response(n, 9, SRP_LONGEST_AGREED, 0x0006, 0x10)};
-    lay(STORE, NULL, 0);
-    login("login", 0, after, SETTINGS_OF(n, m, SRP_LONGEST_AGREED, 1, 1), boundary, request, SRP_MESSAGE_BYTES);
-}
-
-void opened(uint32_t n, uint32_t m)
-{
-    opened_with(n, m, 0);
-}
-
-static uint64_t number_at(const uint8_t *bytes, size_t at)
-{
-    uint64_t value = 0;
-    size_t i;
-    for (i = 0; i < 8; i++)
-        value = value << 8 | bytes[at + i];
-    return value;
-}
-
-void taken(const char *name, struct bytes msg)
-{
-    uint64_t cdb = 16 + 4 * (uint64_t)(msg.at[31] >> 2);
-    struct after after = {OTHER, {0, SRP_KIND_COMMAND, number_at(msg.at, 8), number_at(msg.at, 20), 32, cdb}, NULL};
-    take(name, 0, after, msg, NO_BYTES, NO_BYTES, SRP_MESSAGE_BYTES);
-}
-
-void named(const char *name, uint64_t tag, uint32_t direction, uint32_t offset, uint32_t count)
-{
-    uint32_t returned;
-    begin();
-    returned = move_of_header(lent_words(PORT), tag, direction, offset, count);
-    judge_port(name, ANY);
-    compare(name, returned, 0);
-}
-
-void planned(const char *name, uint64_t tag, uint32_t r_out, uint32_t r_in)
-{
-    plan(name, 0, tag, r_out, r_in);
-    named(name, tag, SRP_DIRECTION_OUT, 0, r_out);
-    named(name, tag, SRP_DIRECTION_IN, 0, r_in);
-}
-
-void piece(const char *name, uint64_t tag, uint32_t direction, uint64_t handle, uint64_t address, uint64_t length,
-           uint64_t offset, uint64_t number)
-{
-    uint64_t operation = direction ? SRP_RDMA_WRITE : SRP_RDMA_READ;
-    struct after after = {OTHER, {1, operation, handle, address, length, offset, number}, NULL};
-    step(name, 0, after, tag, direction);
-}
-
-void done(const char *name, uint64_t tag, uint32_t direction, uint64_t number)
-{
-    step(name, 0, (struct after){SAME, {0, 0, 0, 0, 0, 0, number}, NULL}, tag, direction);
-}
-
-void finished(const char *name, uint64_t tag, uint32_t delta, struct residuals residuals)
-{
-    struct after after = {OTHER, {36}, response(0, delta, tag, 0, residuals, NO_BYTES)};
-    finish(name, 0, after, tag, 0, NO_BYTES, SRP_MESSAGE_BYTES);
 }

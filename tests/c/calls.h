@@ -37,8 +37,9 @@ void trace(const char *name, uint32_t number, const char *line, struct bytes msg
 /* The words of the port are arbitrary before a login. */
 void login(const char *name, uint32_t number, struct after after, const uint32_t *settings, uint64_t boundary,
            struct bytes msg, size_t buf_len);
-void take(const char *name, uint32_t number, struct after after, struct bytes msg, struct bytes out, struct bytes in,
-          size_t buf_len);
+void take(const char *name, uint32_t number, struct after after, struct bytes msg, size_t buf_len);
+void tables(const char *name, uint32_t number, struct after after, uint64_t tag, struct bytes out, struct bytes in,
+            size_t buf_len);
 void plan(const char *name, uint32_t number, uint64_t tag, uint32_t r_out, uint32_t r_in);
 void move(const char *name, uint32_t number, uint64_t tag, uint32_t direction, uint32_t offset, uint32_t count);
 void step(const char *name, uint32_t number, struct after after, uint64_t tag, uint32_t direction);
@@ -53,11 +54,14 @@ void counters(const char *name, uint32_t number, uint64_t w, uint64_t a, uint64_
 /* The records expected, in their order. */
 void list(const char *name, uint32_t number, size_t words, size_t count, const uint64_t (*records)[SRP_RECORD_WORDS]);
 
-/* Calls that leave little to say: a port opened with N and M, perhaps with Q, a command taken, a move that may have no
- * bytes, a plan with a move each way of offset 0 and count R, a piece, done, an end with status 0. */
+/* Calls that leave little to say: a port opened with N and M, perhaps with Q, a command taken that does not wait, one
+ * that does, its tables brought, a move that may have no bytes, a plan with a move each way of offset 0 and count R, a
+ * piece, done, an end with status 0. */
 void opened(uint32_t n, uint32_t m);
 void opened_with(uint32_t n, uint32_t m, uint64_t boundary);
 void taken(const char *name, struct bytes msg);
+void waits(const char *name, struct bytes msg);
+void brought(const char *name, uint64_t tag, struct bytes out, struct bytes in);
 void named(const char *name, uint64_t tag, uint32_t direction, uint32_t offset, uint32_t count);
 void planned(const char *name, uint64_t tag, uint32_t r_out, uint32_t r_in);
 void piece(const char *name, uint64_t tag, uint32_t direction, uint64_t handle, uint64_t address, uint64_t length,

@@ -12,6 +12,7 @@ void trace_length_cases(void);
 void login_cases(void);
 void take_cases(void);
 void table_cases(void);
+void waiting_cases(void);
 void task_cases(void);
 void transfer_cases(void);
 void move_cases(void);

@@ -37,12 +37,10 @@ static void grants(void)
     grant("grant 26 before 27", SRP_REFUSED_UNANSWERED, NOTHING, 132);
     add("add", 0, 1);
     grant("grant 26", SRP_REFUSED_UNANSWERED, NOTHING, 132);
-    take("answered", 0, (struct after){OTHER, {0, SRP_KIND_CREDIT_RESPONSE}, NULL}, credit_response(1), NO_BYTES,
-         NO_BYTES, 132);
+    take("answered", 0, (struct after){OTHER, {0, SRP_KIND_CREDIT_RESPONSE}, NULL}, credit_response(1), 132);
     grant("grant again", 0, (struct after){OTHER, {16}, credit_request(1, 1)}, 132);
     withdraw("withdraw", 0, 1);
-    take("answered", 0, (struct after){OTHER, {0, SRP_KIND_CREDIT_RESPONSE}, NULL}, credit_response(1), NO_BYTES,
-         NO_BYTES, 132);
+    take("answered", 0, (struct after){OTHER, {0, SRP_KIND_CREDIT_RESPONSE}, NULL}, credit_response(1), 132);
     grant("grant 27, below 0", SRP_REFUSED_NOT_OWED, NOTHING, 132);
 }
 

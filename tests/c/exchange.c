@@ -63,8 +63,7 @@ static void read_command(void)
     static const uint8_t no_fetch[32];
     static const uint64_t part_moved[1][SRP_RECORD_WORDS] = {{0xa1, 3, 0, 1024}};
     look("read, look", 0, no_fetch, BYTES(read_cmd), 1364, 6, 32);
-    take("read", 0, (struct after){OTHER, {0, SRP_KIND_COMMAND, 0xa1, 3, 32, 16}, NULL}, BYTES(read_cmd), NO_BYTES,
-         NO_BYTES, 132);
+    take("read", 0, (struct after){OTHER, {0, SRP_KIND_COMMAND, 0xa1, 3, 32, 16}, NULL}, BYTES(read_cmd), 132);
     planned("read, plan", 0xa1, 0, 1300);
     step("read, first", 0, (struct after){OTHER, {1, SRP_RDMA_WRITE, 7, 0x1000, 512, 0, 1}, NULL}, 0xa1, 1);
     step("read, second", 0, (struct after){OTHER, {1, SRP_RDMA_WRITE, 7, 0x1200, 512, 512, 2}, NULL}, 0xa1, 1);
@@ -75,8 +74,8 @@ static void read_command(void)
 static void write_command(void)
 {
     look("write, look", 0, write_fetch, BYTES(write_cmd), 1364, 6, 32);
-    take("write", 0, (struct after){OTHER, {0, SRP_KIND_COMMAND, 0xa2, 3, 32, 20}, NULL}, BYTES(write_cmd),
-         BYTES(write_table), NO_BYTES, 132);
+    take("write", 0, (struct after){OTHER, {0, SRP_KIND_COMMAND, 0xa2, 3, 32, 20, 1}, NULL}, BYTES(write_cmd), 132);
+    tables("write, table", 0, (struct after){OTHER, {0}, NULL}, 0xa2, BYTES(write_table), NO_BYTES, 132);
     planned("write, plan", 0xa2, 160, 0);
     step("write, first", 0, (struct after){OTHER, {1, SRP_RDMA_READ, 8, 0x6000, 100, 0, 1}, NULL}, 0xa2, 0);
     step("write, second", 0, (struct after){OTHER, {1, SRP_RDMA_READ, 9, 0x7000, 50, 100, 2}, NULL}, 0xa2, 0);
@@ -86,14 +85,11 @@ static void write_command(void)
 
 static void abort_and_grant(void)
 {
-    take("idle", 0, (struct after){OTHER, {0, SRP_KIND_COMMAND, 0xa3, 4, 32, 16}, NULL}, BYTES(idle_cmd), NO_BYTES,
-         NO_BYTES, 132);
-    take("abort", 0, (struct after){OTHER, {40, SRP_KIND_TASK, 0xa4, 4}, abort_rsp}, BYTES(abort_tsk), NO_BYTES,
-         NO_BYTES, 132);
+    take("idle", 0, (struct after){OTHER, {0, SRP_KIND_COMMAND, 0xa3, 4, 32, 16}, NULL}, BYTES(idle_cmd), 132);
+    take("abort", 0, (struct after){OTHER, {40, SRP_KIND_TASK, 0xa4, 4}, abort_rsp}, BYTES(abort_tsk), 132);
     add("add", 0, 2);
     grant("grant", 0, (struct after){OTHER, {16}, cred_req}, 132);
-    take("credit response", 0, (struct after){OTHER, {0, SRP_KIND_CREDIT_RESPONSE}, NULL}, BYTES(cred_rsp), NO_BYTES,
-         NO_BYTES, 132);
+    take("credit response", 0, (struct after){OTHER, {0, SRP_KIND_CREDIT_RESPONSE}, NULL}, BYTES(cred_rsp), 132);
     counters("six buffers", 0, 6, 6, 0, 0);
 }
 
@@ -105,6 +101,6 @@ void exchange(void)
     read_command();
     write_command();
     abort_and_grant();
-    take("logout", 0, (struct after){CLOSED, {0, SRP_KIND_LOGOUT}, NULL}, BYTES(i_logout), NO_BYTES, NO_BYTES, 132);
+    take("logout", 0, (struct after){CLOSED, {0, SRP_KIND_LOGOUT}, NULL}, BYTES(i_logout), 132);
     counters("closed", SRP_REFUSED_CLOSED, 0, 0, 0, 0);
 }

@@ -30,29 +30,31 @@ static void stateless() {
 static uint64_t port[SRP_PORT_WORDS], answer[SRP_ANSWER_WORDS], records[SRP_LIST_WORDS];
 static uint8_t store[SRP_STORE_BYTES], buf[SRP_MESSAGE_BYTES];
 
-// A login of 64 bytes that requests 64 and format 1, for the target identifier 0; N 2.
+// A login of 64 bytes that requests 68 and format 2, for the target identifier 0; N 2.
 static void login() {
-    const uint32_t settings[SRP_SETTINGS] = {2, 512, 64, 0, 0};
+    const uint32_t settings[SRP_SETTINGS] = {2, 512, 68, 1, 0};
     const uint8_t own[16] = {};
     uint8_t msg[64] = {};
-    msg[19] = 64;
-    msg[25] = SRP_FORMAT_BIT_DIRECT;
+    msg[19] = 68;
+    msg[25] = SRP_FORMAT_BIT_INDIRECT;
     check("srp_target_words", srp_target_words() == SRP_PORT_WORDS);
     check("srp_target_login",
           srp_target_login(port, settings, SRP_GREATEST_BOUNDARY, own, msg, sizeof msg, buf, sizeof buf, answer) == 0 &&
               answer[0] == 52 && answer[1] == 0 && buf[0] == 0xc0 && buf[7] == 2);
 }
 
-// Data-in of 100 bytes at 1000h, handle 7; tag 9.
+// Data-in of 100 bytes at 1000h, handle 7, by a table of one entry at 9000h; tag 9.
 static void command() {
-    uint8_t msg[64] = {0x02, 0, 0, 0, 0, 0x01};
+    const uint8_t table[16] = {0, 0, 0, 0, 0, 0, 0x10, 0, 0, 0, 0, 7, 0, 0, 0, 100};
+    uint8_t msg[68] = {0x02, 0, 0, 0, 0, 0x02};
     msg[15] = 9;
-    msg[54] = 0x10;
-    msg[59] = 7;
-    msg[63] = 100;
-    check("srp_target_take",
-          srp_target_take(port, store, msg, sizeof msg, nullptr, 0, nullptr, 0, buf, sizeof buf, answer) == 0 &&
-              answer[1] == SRP_KIND_COMMAND && answer[2] == 9);
+    msg[54] = 0x90;
+    msg[63] = 16;
+    msg[67] = 100;
+    check("srp_target_take", srp_target_take(port, store, msg, sizeof msg, buf, sizeof buf, answer) == 0 &&
+                                 answer[1] == SRP_KIND_COMMAND && answer[2] == 9 && answer[6] == 1);
+    check("srp_target_tables", srp_target_tables(port, store, 9, nullptr, 0, table, sizeof table, buf, sizeof buf,
+                                                 answer) == 0 && answer[0] == 0);
     check("srp_target_plan", srp_target_plan(port, 9, 0, 60) == 0);
     check("srp_target_move", srp_target_move(port, 9, SRP_DIRECTION_IN, 16, 33) == 0);
     check("srp_target_step", srp_target_step(port, store, 9, SRP_DIRECTION_IN, answer) == 0 &&

@@ -102,7 +102,7 @@ static void used_again(void)
     again("after the end");
     move("unfinished", 0, TAG, 0, 0, 650);
     after.message = code_response(0, 2, TAG + 1, 0x00);
-    take("abort", 0, after, task(TAG + 1, 0, 0, 0x01, TAG), NO_BYTES, NO_BYTES, 132);
+    take("abort", 0, after, task(TAG + 1, 0, 0, 0x01, TAG), 132);
     move("24, aborted", SRP_REFUSED_TAG_NOT_OPEN, TAG, 0, 0, 0);
     again("after the abort");
 }

@@ -63,7 +63,7 @@ static void ages(void)
     finished("the second ends", 40, 1, (struct residuals){0});
     LISTED("four open", 50, 30, 20, 10);
     after.message = code_response(0, 2, TASK, 0x00);
-    take("the third is aborted", 0, after, task(TASK, 0, 0, 0x01, 20), NO_BYTES, NO_BYTES, SRP_MESSAGE_BYTES);
+    take("the third is aborted", 0, after, task(TASK, 0, 0, 0x01, 20), SRP_MESSAGE_BYTES);
     LISTED("three open", 50, 30, 10);
     taken("the tag that ended", command(40, 0, 0));
     taken("the tag that was aborted", command(20, 0, 0));

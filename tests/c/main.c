@@ -11,6 +11,7 @@ int main(void)
     login_cases();
     take_cases();
     table_cases();
+    waiting_cases();
     task_cases();
     transfer_cases();
     move_cases();

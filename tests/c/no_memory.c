@@ -40,14 +40,17 @@ static void refusals(void)
     uint64_t *port = lent_words(PORT), *answer = lent_words(ANSWER);
     opened(2, 512);
     fresh();
-    refused("take, all NULL", srp_target_take(port, lent(STORE), NULL, 0, NULL, 0, NULL, 0, NULL, 0, answer), 1);
+    refused("take, all NULL", srp_target_take(port, lent(STORE), NULL, 0, NULL, 0, answer), 1);
+    refused("tables, all NULL", srp_target_tables(port, lent(STORE), 1, NULL, 0, NULL, 0, NULL, 0, answer), 1);
+    refused("tables, NULL tables",
+            srp_target_tables(port, lent(STORE), 1, NULL, 0, NULL, 0, lent(BUF), 132, answer), 24);
     refused("finish, all NULL", srp_target_finish(port, 1, 0, NULL, 0, NULL, 0, answer), 1);
     refused("grant, NULL buffer", srp_target_grant(port, NULL, 0, answer), 1);
     refused("close, NULL buffer", srp_target_close(port, 0, NULL, 0, answer), 1);
     refused("list, NULL records", srp_target_list(port, NULL, 0, answer), 11);
 }
 
-/* A command taken with NULL tables and finished with NULL sense; then a NULL message. */
+/* A command taken and finished with NULL sense; then a NULL message. */
 static void unrefused(void)
 {
     static const uint64_t command_taken[SRP_ANSWER_WORDS] = {0, SRP_KIND_COMMAND, 1, 0, 32, 16};
@@ -56,18 +59,21 @@ static void unrefused(void)
     uint32_t returned;
     lay(MSG, command(1, 0, 0).at, 48);
     fresh();
-    returned = srp_target_take(port, lent(STORE), lent(MSG), 48, NULL, 0, NULL, 0, lent(BUF), 132, answer);
+    returned = srp_target_take(port, lent(STORE), lent(MSG), 48, lent(BUF), 132, answer);
     expect(ANSWER, 0, command_taken, sizeof command_taken);
     let_change(PORT, 8 * SRP_PORT_WORDS);
     let_change(STORE, SRP_STORE_BYTES);
-    compare("take, NULL tables", returned, 0);
+    compare("take", returned, 0);
+    fresh();
+    refused("tables, NULL tables, not waiting",
+            srp_target_tables(port, lent(STORE), 1, NULL, 0, NULL, 0, lent(BUF), 132, answer), 33);
     fresh();
     returned = srp_target_finish(port, 1, 0, NULL, 0, lent(BUF), 132, answer);
     expect(ANSWER, 0, wrote_36, sizeof wrote_36);
     expect(BUF, 0, response(0, 1, 1, 0, NO_RESIDUALS, NO_BYTES), 36);
     let_change(PORT, 8 * SRP_PORT_WORDS);
     compare("finish, NULL sense", returned, 0);
-    returned = srp_target_take(port, lent(STORE), NULL, 0, NULL, 0, NULL, 0, lent(BUF), 132, answer);
+    returned = srp_target_take(port, lent(STORE), NULL, 0, lent(BUF), 132, answer);
     if (returned != SRP_REFUSED_LENGTH)
         fail("take, NULL message", "another refusal");
 }

@@ -4,7 +4,7 @@
  */
 #include "srp_target.h"
 
-_Static_assert(SRP_TARGET_VERSION == 6, "version");
+_Static_assert(SRP_TARGET_VERSION == 7, "version");
 
 _Static_assert(SRP_REFUSED_SHORT_BUFFER == 1, "short buffer");
 _Static_assert(SRP_REFUSED_SETTING == 2, "setting");
@@ -29,6 +29,7 @@ _Static_assert(SRP_REFUSED_UNPLANNED == 29, "unplanned");
 _Static_assert(SRP_REFUSED_PLANNED == 30, "planned");
 _Static_assert(SRP_REFUSED_OFFSET == 31, "offset");
 _Static_assert(SRP_REFUSED_UNFINISHED == 32, "unfinished");
+_Static_assert(SRP_REFUSED_WAITING == 33, "waiting");
 
 _Static_assert(SRP_STORE_BYTES == 16384, "bytes of a store");
 _Static_assert(SRP_ANSWER_WORDS == 8, "words of an answer");

@@ -54,13 +54,12 @@ static void lengths(void)
     opened(4, M);
     taken("P5, 48 bytes", command(1, 0, 0));
     taken("P6, n = 1, 52 bytes", BYTES(longer));
-    take("P7, c = 0, 68 bytes", 0, (struct after){OTHER, {0, 1, 3, 0, 32, 16}, NULL},
-         command_with(3, 0, 0x20, 0, 0, (struct bytes){indirect, 20}), BYTES(table), NO_BYTES, 132);
+    waits("P7, c = 0, 68 bytes", command_with(3, 0, 0x20, 0, 0, (struct bytes){indirect, 20}));
+    brought("P7, c = 0, its table", 3, BYTES(table), NO_BYTES);
     taken("P7, c = 2, 100 bytes", command_with(4, 0, 0x20, 2, 0, BYTES(indirect)));
     short_command = command(5, 0, 0);
     short_command.len = 47;
-    take("P5, 47 bytes", SRP_REFUSED_LENGTH, (struct after){CLOSED, {16}, target_logout(1, 0)}, short_command,
-         NO_BYTES, NO_BYTES, 132);
+    take("P5, 47 bytes", SRP_REFUSED_LENGTH, (struct after){CLOSED, {16}, target_logout(1, 0)}, short_command, 132);
 }
 
 /* P8 to P10: credit. */

@@ -24,7 +24,7 @@ static void managed(const char *name, uint8_t bits, uint8_t function, uint64_t l
     after.port = count == 3 ? ANY : OTHER;
     three_open();
     after.message = code_response(solnt, (uint32_t)(1 + 3 - count), TAG, code);
-    take(name, 0, after, task(TAG, lun, bits, function, tag), NO_BYTES, NO_BYTES, 132);
+    take(name, 0, after, task(TAG, lun, bits, function, tag), 132);
     counters(name, 0, N, N - count, count, 0);
     list(name, 0, SRP_LIST_WORDS, count, open_commands + first);
 }
@@ -53,7 +53,7 @@ static void aborted(void)
     three_open();
     plan("plan", 0, 1, 0, 0);
     after.message = code_response(0, 2, TAG, 0x00);
-    take("abort", 0, after, task(TAG, 5, 0, 0x01, 1), NO_BYTES, NO_BYTES, 132);
+    take("abort", 0, after, task(TAG, 5, 0, 0x01, 1), 132);
     finish("finish of an aborted command", SRP_REFUSED_TAG_NOT_OPEN, NOTHING, 1, 0, NO_BYTES, 132);
     step("step of an aborted command", SRP_REFUSED_TAG_NOT_OPEN, NOTHING, 1, 0);
     taken("its tag again", command(1, 5, 0));

@@ -11,7 +11,8 @@ static void all_zero(void)
 {
     static const uint64_t zeros[SRP_PORT_WORDS];
     lay(PORT, zeros, sizeof zeros);
-    take("words of 0", SRP_REFUSED_CLOSED, NOTHING, command(1, 0, 0), NO_BYTES, NO_BYTES, 132);
+    take("words of 0", SRP_REFUSED_CLOSED, NOTHING, command(1, 0, 0), 132);
+    tables("words of 0", SRP_REFUSED_CLOSED, NOTHING, 0, NO_BYTES, NO_BYTES, 132);
     plan("words of 0", SRP_REFUSED_CLOSED, 0, 0, 0);
     move("words of 0", SRP_REFUSED_CLOSED, 0, 0, 0, 0);
     step("words of 0", SRP_REFUSED_CLOSED, NOTHING, 0, 0);

@@ -45,6 +45,24 @@ static void count_command(const struct request *r)
         count(LONG_CDBS);
 }
 
+/* A command is taken and open; with a fetch it waits. */
+static void opens(struct channel *c, struct request *r)
+{
+    r->waiting = has_fetch(r);
+    same("SRP_CMD", "returned", take_message(), 0);
+    answered("SRP_CMD", (const uint64_t[SRP_ANSWER_WORDS]){0, SRP_KIND_COMMAND, r->tag, r->lun,
+                                                           offsetof(struct srp_cmd, cdb), 16 + 4 * r->more_cdb,
+                                                           (uint64_t)r->waiting});
+    kept_from("SRP_CMD", 0);
+    begin_request(c);
+    if (ended_before(c, r->tag))
+        count(TAGS_AGAIN);
+    if (r->waiting)
+        count(WAITING);
+    c->commands[c->held++] = *r;
+    count_command(r);
+}
+
 void new_command(struct channel *c)
 {
     struct request r;
@@ -53,44 +71,44 @@ void new_command(struct channel *c)
     any_command(&r, c);
     port.msg_len = build_command(port.msg, &r);
     look_first(c, &r);
-    build_table(port.tables[0], &r.out);
-    build_table(port.tables[1], &r.in);
-    same("SRP_CMD", "returned", take_message(fetched_length(&r.out), fetched_length(&r.in)), 0);
-    answered("SRP_CMD", (const uint64_t[SRP_ANSWER_WORDS]){0, SRP_KIND_COMMAND, r.tag, r.lun,
-                                                           offsetof(struct srp_cmd, cdb), 16 + 4 * r.more_cdb});
-    kept_from("SRP_CMD", 0);
-    begin_request(c);
-    if (ended_before(c, r.tag))
-        count(TAGS_AGAIN);
-    c->commands[c->held++] = r;
-    count_command(&r);
+    build_table(r.tables[0], &r.out);
+    build_table(r.tables[1], &r.in);
+    opens(c, &r);
 }
 
-/* Taken, answered and ended in one call. */
-void bad_command(struct channel *c)
+void is_bad_rsp(struct channel *c, const char *name, const struct request *r)
 {
     struct response a = {.flags = SRP_RSP_FLAG_RSPVALID, .has_code = 1, .code = FIELDS_INVALID};
+    a.tag = r->tag;
+    a.delta = delta_after(c);
+    a.solnt = r->notification & UCSOLNT;
+    answered(name, (const uint64_t[SRP_ANSWER_WORDS]){40});
+    kept_from(name, 40);
+    is_rsp(name, port.buf, port.answer[0], &a);
+}
+
+/* Without a fetch taken, answered and ended in one call; else its tables will end it. */
+void bad_command(struct channel *c)
+{
     struct request r;
-    int spoilt;
     if (c->announced <= 0)
         return;
     any_command(&r, c);
-    build_table(port.tables[0], &r.out);
-    build_table(port.tables[1], &r.in);
-    spoilt = spoil(&r.out, port.tables[0]);
-    spoilt |= one_in(3) || !spoilt ? spoil(&r.in, port.tables[1]) : 0;
-    if (!spoilt)
+    build_table(r.tables[0], &r.out);
+    build_table(r.tables[1], &r.in);
+    r.bad = spoil(&r.out, r.tables[0]);
+    r.bad |= one_in(3) || !r.bad ? spoil(&r.in, r.tables[1]) : 0;
+    if (!r.bad)
         return;
     port.msg_len = build_command(port.msg, &r);
     look_first(c, &r);
-    same("bad fields", "returned", take_message(fetched_length(&r.out), fetched_length(&r.in)), SRP_REFUSED_FIELDS);
-    answered("bad fields", (const uint64_t[SRP_ANSWER_WORDS]){40});
-    kept_from("bad fields", 40);
+    if (has_fetch(&r)) {
+        opens(c, &r);
+        return;
+    }
+    same("bad fields", "returned", take_message(), SRP_REFUSED_FIELDS);
     begin_request(c);
-    a.tag = r.tag;
-    a.delta = delta_after(c);
-    a.solnt = r.notification & UCSOLNT;
-    is_rsp("SRP_RSP to bad fields", port.buf, port.answer[0], &a);
+    is_bad_rsp(c, "SRP_RSP to bad fields", &r);
     count(BAD_FIELDS);
 }
 
@@ -99,6 +117,11 @@ void plan_one(struct channel *c)
     struct request *r = any_open(c);
     if (!r || r->planned)
         return;
+    if (r->waiting) {
+        same("plan", "returned", srp_target_plan(port.words, r->tag, 1, 1), SRP_REFUSED_WAITING);
+        count(CALLS_WAITING);
+        return;
+    }
     r->out.required = any_required(&r->out);
     r->in.required = any_required(&r->in);
     r->planned = 1;
@@ -128,6 +151,16 @@ static void put_residuals(struct response *a, const struct request *r)
     count_handed(&r->in, in);
 }
 
+/* A command that waits is not finished. */
+static void unfinished(uint64_t tag)
+{
+    lend();
+    same("finish", "returned", srp_target_finish(port.words, tag, 0, NULL, 0, port.buf, SRP_MESSAGE_BYTES, port.answer),
+         SRP_REFUSED_WAITING);
+    kept_from("finish", 0);
+    count(CALLS_WAITING);
+}
+
 void finish_one(struct channel *c)
 {
     struct request *r = any_open(c);
@@ -135,6 +168,10 @@ void finish_one(struct channel *c)
     struct response a = {.sense = sense};
     if (!r)
         return;
+    if (r->waiting) {
+        unfinished(r->tag);
+        return;
+    }
     any_bytes(sense, sizeof sense);
     a.tag = r->tag;
     a.status = one_in(2) ? 0 : one_in(2) ? 0x02 : (uint8_t)any_number();

@@ -21,6 +21,8 @@ static void end_managed(struct channel *c, uint64_t lun, uint8_t function, uint6
         }
         if (is_between(c, r))
             count(ABORTED_BETWEEN);
+        if (r->waiting)
+            count(ABORTED_WAITING);
         drop(c, r);
     }
 }
@@ -53,7 +55,7 @@ void manage(struct channel *c)
         return;
     any_request(&r, c);
     port.msg_len = build_task(port.msg, &r, function, managed);
-    same("SRP_TSK_MGMT", "returned", take_message(0, 0), 0);
+    same("SRP_TSK_MGMT", "returned", take_message(), 0);
     answered("SRP_TSK_MGMT", (const uint64_t[SRP_ANSWER_WORDS]){40, SRP_KIND_TASK, r.tag, r.lun});
     kept_from("SRP_TSK_MGMT", 40);
     begin_request(c);
@@ -98,7 +100,7 @@ void answer_grant(struct channel *c)
     if (!c->unanswered)
         return;
     port.msg_len = build_cred_rsp(port.msg, 1);
-    same("SRP_CRED_RSP", "returned", take_message(0, 0), 0);
+    same("SRP_CRED_RSP", "returned", take_message(), 0);
     answered("SRP_CRED_RSP", (const uint64_t[SRP_ANSWER_WORDS]){0, SRP_KIND_CREDIT_RESPONSE});
     kept_from("SRP_CRED_RSP", 0);
     c->unanswered = 0;

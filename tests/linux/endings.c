@@ -11,7 +11,7 @@
 /* The message in port.msg draws a refusal and an SRP_T_LOGOUT with a reason. */
 static void hangs_up(struct channel *c, uint32_t refusal, uint32_t reason)
 {
-    same("hang-up", "returned", take_message(0, 0), refusal);
+    same("hang-up", "returned", take_message(), refusal);
     answered("hang-up", (const uint64_t[SRP_ANSWER_WORDS]){16});
     kept_from("hang-up", 16);
     is_t_logout("SRP_T_LOGOUT of take", port.buf, port.answer[0], c->losolnt, reason);
@@ -93,7 +93,7 @@ static void bad_message(struct channel *c)
 static void log_out(void)
 {
     port.msg_len = build_i_logout(port.msg);
-    same("SRP_I_LOGOUT", "returned", take_message(0, 0), 0);
+    same("SRP_I_LOGOUT", "returned", take_message(), 0);
     answered("SRP_I_LOGOUT", (const uint64_t[SRP_ANSWER_WORDS]){0, SRP_KIND_LOGOUT});
     kept_from("SRP_I_LOGOUT", 0);
     count(I_LOGOUTS);

@@ -10,6 +10,7 @@ void open_channel(struct channel *c);
 /* Each does nothing where the channel's state has no place for it. */
 void new_command(struct channel *c);
 void bad_command(struct channel *c);
+void bring_one(struct channel *c);
 void plan_one(struct channel *c);
 void move_some(struct channel *c);
 void step_some(struct channel *c);
@@ -18,6 +19,9 @@ void manage(struct channel *c);
 void change_buffers(struct channel *c);
 void grant_credit(struct channel *c);
 void answer_grant(struct channel *c);
+
+/* The message in port.buf is the SRP_RSP to a request that has ended, with RSP_CODE 02h. */
+void is_bad_rsp(struct channel *c, const char *name, const struct request *r);
 
 /* The channel ends: the initiator's logout, the owner's close, or a message that draws a logout. */
 void end_channel(struct channel *c);

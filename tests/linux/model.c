@@ -18,6 +18,11 @@ uint32_t fetched_length(const struct side *s)
     return s->format == 2 && whole && length != 16 * s->copies ? length : 0;
 }
 
+int has_fetch(const struct request *r)
+{
+    return fetched_length(&r->out) || fetched_length(&r->in);
+}
+
 uint32_t data_length(const struct side *s)
 {
     uint32_t b = buffer_length(s);

@@ -1,6 +1,6 @@
 /*
- * What the papers say of one channel: its credit, its open commands, the moves, pieces and residuals of a direction, a
- * login's rejection. Written from them alone.
+ * What the papers say of one channel: its credit, its open commands and which of them wait for their tables, the moves,
+ * pieces and residuals of a direction, a login's rejection. Written from them alone.
  */
 #ifndef MODEL_H
 #define MODEL_H
@@ -8,7 +8,7 @@
 #include <stddef.h>
 #include <stdint.h>
 
-enum { MOST_SEGMENTS = 32, MOST_COMMANDS = 16 };
+enum { MOST_SEGMENTS = 32, MOST_COMMANDS = 16, LONGEST_TABLE = 512 };
 
 struct segment {
     uint64_t address;
@@ -31,8 +31,10 @@ struct request {
     uint64_t tag, lun;
     unsigned notification; /* UCSOLNT and SCSOLNT as in byte 1 */
     unsigned more_cdb;     /* n */
-    int planned;
+    int waiting, planned;
     struct side out, in;
+    uint8_t tables[2][LONGEST_TABLE]; /* out, in, as they lie in the initiator's memory */
+    int bad;                          /* a field, in the message or in a table */
 };
 
 struct channel {
@@ -47,9 +49,10 @@ struct channel {
     unsigned endings;
 };
 
-/* B, and the bytes of a table that are to be fetched. */
+/* B, and the bytes of a table that are to be fetched; whether a command has a fetch, in either direction. */
 uint32_t buffer_length(const struct side *s);
 uint32_t fetched_length(const struct side *s);
+int has_fetch(const struct request *r);
 
 /* min(R, B), where moves end; a move is named. */
 uint32_t data_length(const struct side *s);

@@ -6,6 +6,8 @@
 
 static uint32_t refusal_of(const struct request *r, const struct side *s, uint32_t offset)
 {
+    if (r->waiting)
+        return SRP_REFUSED_WAITING;
     if (!r->planned)
         return SRP_REFUSED_UNPLANNED;
     if (offset > data_length(s))
@@ -15,6 +17,8 @@ static uint32_t refusal_of(const struct request *r, const struct side *s, uint32
 
 static void count_refusal(uint32_t refusal)
 {
+    if (refusal == SRP_REFUSED_WAITING)
+        count(CALLS_WAITING);
     if (refusal == SRP_REFUSED_UNPLANNED)
         count(MOVES_UNPLANNED);
     if (refusal == SRP_REFUSED_OFFSET)
@@ -110,4 +114,6 @@ void step_some(struct channel *c)
     uint32_t in = from_to(0, 1), steps = from_to(1, 8);
     if (r && r->planned)
         step_side(c, r, in, steps);
+    if (r && r->waiting)
+        same("step", "returned", srp_target_step(port.words, port.store, r->tag, in, port.answer), SRP_REFUSED_WAITING);
 }

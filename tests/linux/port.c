@@ -29,15 +29,16 @@ void kept_from(const char *name, size_t len)
     same(name, "first byte written past the message", len, sizeof port.buf);
 }
 
-/* The line of a message taken names what it was taken as, by the kind in the answer. */
-uint32_t take_message(uint32_t out_len, uint32_t in_len)
+/* The line of a message taken names what it was taken as, by the kind in the answer. Then its memory is used again. */
+uint32_t take_message(void)
 {
     static const char *const types[5] = {NULL, "CMD", "TSK_MGMT", "CRED_RSP", "I_LOGOUT"};
     uint32_t returned;
     lend();
-    returned = srp_target_take(port.words, port.store, port.msg, port.msg_len, port.tables[0], out_len, port.tables[1],
-                               in_len, port.buf, SRP_MESSAGE_BYTES, port.answer);
+    returned = srp_target_take(port.words, port.store, port.msg, port.msg_len, port.buf, SRP_MESSAGE_BYTES,
+                               port.answer);
     traced("message taken", port.answer[1] < 5 ? types[port.answer[1]] : NULL, port.msg, port.msg_len, TO_PORT);
+    memset(port.msg, FILL, sizeof port.msg);
     return returned;
 }
 

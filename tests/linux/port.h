@@ -11,7 +11,6 @@ struct port {
     uint8_t store[SRP_STORE_BYTES];
     uint8_t msg[SRP_LONGEST_AGREED + 16];
     size_t msg_len;
-    uint8_t tables[2][SRP_TABLE_BYTES]; /* out, in */
     uint8_t buf[SRP_MESSAGE_BYTES + 8];
     uint64_t answer[SRP_ANSWER_WORDS];
 };
@@ -23,8 +22,8 @@ void lend(void);
 void answered(const char *name, const uint64_t *words);
 void kept_from(const char *name, size_t len);
 
-/* Takes the message, with so many bytes of each table, and has it traced. */
-uint32_t take_message(uint32_t out_len, uint32_t in_len);
+/* Takes the message and has it traced. */
+uint32_t take_message(void);
 
 /* The port's counters and its listing are the model's. */
 void agree(struct channel *c);

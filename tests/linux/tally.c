@@ -20,6 +20,9 @@ static const char *const names[TALLIES] = {
     "RDMA operation", "done after several operations", "record",
     "RDMA operation up to a boundary", "RDMA operation between boundaries", "bad boundary",
     "tag used again", "finished between two", "aborted between two",
+    "command that waits", "tables", "tables before an older command's", "tables of another length", "bad tables",
+    "tables of a command that does not wait", "tables of a tag not open", "call refused while a command waits",
+    "aborted while it waits",
 };
 static unsigned tallies[TALLIES], comparisons, failures;
 

@@ -23,6 +23,9 @@ enum tally {
     PIECES, DONES, LISTED, UP_TO_BOUNDARY, BETWEEN_BOUNDARIES, BAD_BOUNDARIES,
     /* commands with a tag used again; some that end with an older and a younger one open */
     TAGS_AGAIN, FINISHED_BETWEEN, ABORTED_BETWEEN,
+    /* commands that wait; tables brought, some before those of an older command, and refused; what else befalls */
+    WAITING, TABLES, TABLES_EARLY, TABLES_LENGTH, TABLES_BAD, TABLES_READY, TABLES_NOT_OPEN, CALLS_WAITING,
+    ABORTED_WAITING,
     TALLIES
 };
 

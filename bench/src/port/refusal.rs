@@ -26,9 +26,10 @@ pub enum Refusal {
     Planned = 30,
     Offset = 31,
     Unfinished = 32,
+    Waiting = 33,
 }
 
-/// A refusal of take, and how many bytes were written with it.
+/// A refusal of take or of tables, and how many bytes were written with it.
 #[derive(Debug, PartialEq, Eq)]
 pub struct Refused {
     pub refusal: Refusal,

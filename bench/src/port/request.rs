@@ -73,28 +73,16 @@ impl<'a> Descriptor<'a> {
     /// The fetched length F.
     pub fn fetch_length(&self) -> usize {
         match self {
-            Descriptor::Indirect { table, copies, .. } => {
-                let length = u32_at(table, 12) as usize;
-                let fetched = length.is_multiple_of(16) && length <= TABLE_BYTES && length != copies.len();
-                if fetched {
-                    length
-                } else {
-                    0
-                }
-            }
+            Descriptor::Indirect { table, copies, .. } => fetch_length(u32_at(table, 12), copies.len()),
             _ => 0,
         }
     }
 
-    /// The bytes of the segments: of the message, or of the table of F bytes that was fetched. None where the table's
-    /// length is bad or a copy is unlike its entry.
-    pub fn segment_bytes(&self, fetched: &'a [u8]) -> Option<&'a [u8]> {
+    /// The bytes of the segments where nothing is to be fetched. None where the table's length is bad.
+    pub fn segment_bytes(&self) -> Option<&'a [u8]> {
         match *self {
             Descriptor::None => Some(&[]),
             Descriptor::Direct(segment) => Some(segment),
-            Descriptor::Indirect { copies, .. } if !fetched.is_empty() => {
-                fetched.starts_with(copies).then_some(fetched)
-            }
             Descriptor::Indirect { table, copies, .. } => {
                 let whole = !copies.is_empty() && copies.len() == u32_at(table, 12) as usize;
                 whole.then_some(copies)
@@ -108,6 +96,17 @@ impl<'a> Descriptor<'a> {
             Descriptor::Indirect { total, .. } => Some(*total),
             _ => None,
         }
+    }
+}
+
+/// F of a table, by its length and that of the copies.
+pub fn fetch_length(table_length: u32, copied: usize) -> usize {
+    let length = table_length as usize;
+    let fetched = length.is_multiple_of(16) && length <= TABLE_BYTES && length != copied;
+    if fetched {
+        length
+    } else {
+        0
     }
 }
 

@@ -3,11 +3,12 @@
 use super::message;
 use super::request::{u64_at, CommandMessage};
 use super::transfer::{SegmentList, Transfer};
+use super::waiting::Awaited;
 use super::{Channel, Command, Port, Refusal, Refused, BUFFER_BYTES, MAX_BUFFERS};
 
 /// RSP_CODEs.
 const TASK_DONE: u8 = 0x00;
-const FIELDS_INVALID: u8 = 0x02;
+pub const FIELDS_INVALID: u8 = 0x02;
 const TASK_NOT_SUPPORTED: u8 = 0x04;
 
 /// The tag of our SRP_CRED_REQ.
@@ -15,23 +16,17 @@ const GRANT_TAG: u64 = 1;
 
 #[derive(Debug, PartialEq, Eq)]
 pub enum Taken {
-    Command { tag: u64, lun: u64, cdb_at: usize, cdb_length: usize },
+    Command { tag: u64, lun: u64, cdb_at: usize, cdb_length: usize, waits: bool },
     Task { tag: u64, lun: u64, wrote: usize },
     CreditResponse,
     Logout,
 }
 
-/// The tables fetched for a command.
-struct Tables<'a> {
-    out: &'a [u8],
-    inn: &'a [u8],
-}
-
 impl Port {
-    pub fn take(&mut self, msg: &[u8], out: &[u8], inn: &[u8], buf: &mut [u8]) -> Result<Taken, Refused> {
+    pub fn take(&mut self, msg: &[u8], buf: &mut [u8]) -> Result<Taken, Refused> {
         let buf = message::lent(buf)?;
         let channel = self.channel.as_mut().ok_or(Refusal::Closed)?;
-        let taken = channel.take(&mut self.lists, msg, Tables { out, inn }, buf);
+        let taken = channel.take(&mut self.lists, msg, buf);
         match taken {
             Ok(Taken::Logout) => self.channel = None,
             Ok(_) => {}
@@ -52,7 +47,6 @@ impl Channel {
         &mut self,
         lists: &mut [[SegmentList; 2]; MAX_BUFFERS],
         msg: &[u8],
-        tables: Tables,
         buf: &mut [u8; BUFFER_BYTES],
     ) -> Result<Taken, Refused> {
         if msg.len() < 16 || msg.len() > self.agreed_length {
@@ -60,7 +54,7 @@ impl Channel {
         }
         match msg[0] {
             0x01 => self.take_task(msg, buf),
-            0x02 => self.take_command(lists, msg, tables, buf),
+            0x02 => self.take_command(lists, msg, buf),
             0x03 if msg.len() == 16 => Ok(Taken::Logout),
             0x41 if msg.len() == 16 => self.take_credit_response(u64_at(msg, 8)),
             0x03 | 0x41 => Err(Refusal::Length.into()),
@@ -72,7 +66,6 @@ impl Channel {
         &mut self,
         lists: &mut [[SegmentList; 2]; MAX_BUFFERS],
         msg: &[u8],
-        tables: Tables,
         buf: &mut [u8; BUFFER_BYTES],
     ) -> Result<Taken, Refused> {
         let message = CommandMessage::read(msg, self.formats)?;
@@ -81,20 +74,23 @@ impl Channel {
         let Some(free) = self.commands.iter().position(Option::is_none) else {
             return Err(Refusal::NoCredit.into());
         };
-        if tables.out.len() != message.out.fetch_length() || tables.inn.len() != message.inn.fetch_length() {
-            return Err(Refusal::TableLength.into());
-        }
         self.announced -= 1;
-        let Some(transfers) = transfers(&message, &mut lists[free], tables) else {
+        let waits = message.out.fetch_length() > 0 || message.inn.fetch_length() > 0;
+        let lists = &mut lists[free];
+        let (transfers, awaited) = if waits {
+            ([Transfer::EMPTY; 2], Some(Awaited::of(&message, lists)))
+        } else if let Some(transfers) = transfers(&message, lists) {
+            (transfers, None)
+        } else {
             self.owed += 1;
             let ucsolnt = message.head[1] & 1 << 2 != 0;
             let wrote = message::response_code(buf, ucsolnt, self.delta(), tag, FIELDS_INVALID);
             return Err(Refused { refusal: Refusal::Fields, wrote });
         };
         let lun = u64_at(message.head, 20);
-        self.commands[free] = Some(Command::new(message.head, self.taken, tag, lun, transfers));
+        self.commands[free] = Some(Command { awaited, ..Command::new(message.head, self.taken, tag, lun, transfers) });
         self.taken += 1;
-        Ok(Taken::Command { tag, lun, cdb_at: 32, cdb_length: message.cdb_length })
+        Ok(Taken::Command { tag, lun, cdb_at: 32, cdb_length: message.cdb_length, waits })
     }
 
     fn take_task(&mut self, msg: &[u8], buf: &mut [u8; BUFFER_BYTES]) -> Result<Taken, Refused> {
@@ -152,17 +148,16 @@ impl Channel {
     }
 }
 
-/// Both directions of a command; None where a field is bad.
-fn transfers(message: &CommandMessage, lists: &mut [SegmentList; 2], tables: Tables) -> Option<[Transfer; 2]> {
-    let [out_list, in_list] = lists;
-    let out = Transfer::new(out_list, message.out.segment_bytes(tables.out)?, message.out.total())?;
-    let inn = Transfer::new(in_list, message.inn.segment_bytes(tables.inn)?, message.inn.total())?;
+/// Both directions of a command without a fetch; None where a field is bad.
+fn transfers(message: &CommandMessage, [out_list, in_list]: &mut [SegmentList; 2]) -> Option<[Transfer; 2]> {
+    let out = Transfer::new(out_list, message.out.segment_bytes()?, message.out.total())?;
+    let inn = Transfer::new(in_list, message.inn.segment_bytes()?, message.inn.total())?;
     Some([out, inn])
 }
 
 impl Command {
     fn new(head: &[u8; 48], taken_before: u64, tag: u64, lun: u64, transfers: [Transfer; 2]) -> Self {
         let (ucsolnt, scsolnt) = (head[1] & 1 << 2 != 0, head[1] & 1 << 1 != 0);
-        Command { taken_before, tag, lun, ucsolnt, scsolnt, planned: false, transfers }
+        Command { taken_before, tag, lun, ucsolnt, scsolnt, awaited: None, planned: false, transfers }
     }
 }

@@ -12,7 +12,7 @@ pub enum Direction {
     In = 1,
 }
 
-#[derive(Clone, Copy)]
+#[derive(Clone, Copy, PartialEq)]
 struct Segment {
     address: u64,
     handle: u32,
@@ -75,6 +75,26 @@ impl SegmentList {
         Some(sum)
     }
 
+    /// Holds the segments of a message, whatever they are.
+    pub fn keep(&mut self, bytes: &[u8]) {
+        for (segment, bytes) in self.0.iter_mut().zip(bytes.chunks_exact(16)) {
+            *segment = Segment::read(bytes);
+        }
+    }
+
+    /// Whether the segments kept, so many, are the first of a table.
+    pub fn begins(&self, kept: usize, table: &[u8]) -> bool {
+        let entries = table.chunks_exact(16).map(Segment::read);
+        kept <= table.len() / 16 && self.0[..kept].iter().copied().eq(entries.take(kept))
+    }
+
+    /// The sum of the lengths of the segments kept, so many; None where one is bad.
+    fn sum(&self, kept: usize) -> Option<u64> {
+        let kept = &self.0[..kept];
+        let bad = kept.iter().any(Segment::ends_past_memory);
+        (!bad).then(|| kept.iter().map(|segment| u64::from(segment.length)).sum())
+    }
+
     /// The segment that has the byte at an offset, and the byte's place in it. Any where no segment has it.
     fn place(&self, offset: u32) -> (usize, u32) {
         let mut within = offset;
@@ -93,13 +113,23 @@ impl SegmentList {
 }
 
 impl Transfer {
+    pub const EMPTY: Transfer =
+        Transfer { length: 0, required: 0, reached: 0, at: 0, end: 0, number: 0, segment: 0, within: 0 };
+
     /// A transfer of these segments, which `list` then holds. None where they are bad or the total is not their sum.
     pub fn new(list: &mut SegmentList, bytes: &[u8], total: Option<u32>) -> Option<Self> {
-        let length = u32::try_from(list.load(bytes)?).ok()?;
-        if total.is_some_and(|total| total != length) {
-            return None;
-        }
-        Some(Transfer { length, required: 0, reached: 0, at: 0, end: 0, number: 0, segment: 0, within: 0 })
+        Transfer::of_length(list.load(bytes)?, total)
+    }
+
+    /// A transfer of segments that `list` has kept, so many.
+    pub fn kept(list: &SegmentList, count: usize, total: Option<u32>) -> Option<Self> {
+        Transfer::of_length(list.sum(count)?, total)
+    }
+
+    fn of_length(sum: u64, total: Option<u32>) -> Option<Self> {
+        let length = u32::try_from(sum).ok()?;
+        let right = total.is_none_or(|total| total == length);
+        right.then_some(Transfer { length, ..Transfer::EMPTY })
     }
 
     /// Begins a move of `count` bytes from `offset` on, trimmed at min(R, B).

@@ -6,7 +6,7 @@ use crate::message::Message;
 #[derive(Clone, Copy, Debug, PartialEq, Eq)]
 #[must_use = "a task request's message is to be sent, a command to be carried out"]
 pub enum Taken<'m, 'b> {
-    /// A command, open from here on.
+    /// A command, open and held from here on.
     Command {
         /// Its tag.
         tag: u64,
@@ -14,6 +14,9 @@ pub enum Taken<'m, 'b> {
         lun: u64,
         /// The whole CDB, 16 + 4n bytes: part of the message.
         cdb: &'m [u8],
+        /// Whether it waits for the tables that [`look`](crate::look) names, in either direction. Until
+        /// [`Port::tables`](crate::Port::tables) brings them, plan, move, step and finish are refused with 33.
+        waits: bool,
     },
     /// A task request: carried out, answered and ended.
     Task {

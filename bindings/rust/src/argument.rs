@@ -26,7 +26,8 @@ impl Settings {
     }
 }
 
-/// The tables fetched for a command, as [`look`](crate::look) names them; each has no bytes where it names none.
+/// The tables fetched for a command that waits for them, as [`look`](crate::look) names them; each has no bytes where it
+/// names none.
 #[derive(Clone, Copy, Debug, Default, PartialEq, Eq)]
 pub struct Tables<'t> {
     /// Of data-out.
@@ -36,7 +37,7 @@ pub struct Tables<'t> {
 }
 
 impl Tables<'static> {
-    /// No table: for messages other than commands, and for commands without a fetch.
+    /// No bytes in either direction: `Tables { data_in, ..Tables::NONE }` is a table of data-in alone.
     pub const NONE: Tables<'static> = Tables { data_out: &[], data_in: &[] };
 }
 

@@ -45,10 +45,16 @@ pub fn login(port: &mut Words, settings: &Settings, boundary: u64, own: &Own, ms
     })
 }
 
-pub fn take(
+pub fn take(port: &mut Words, store: &mut Store, msg: &[u8], buf: &mut [u8]) -> Outcome {
+    let (to, len) = (buf.as_mut_ptr(), buf.len());
+    // SAFETY: as said at the top.
+    answered(|answer| unsafe { srp_target_take(port, store, msg.as_ptr(), msg.len(), to, len, answer) })
+}
+
+pub fn tables(
     port: &mut Words,
     store: &mut Store,
-    msg: &[u8],
+    tag: u64,
     data_out: &[u8],
     data_in: &[u8],
     buf: &mut [u8],
@@ -57,9 +63,7 @@ pub fn take(
     let (out, out_len) = (data_out.as_ptr(), data_out.len());
     let (inn, in_len) = (data_in.as_ptr(), data_in.len());
     // SAFETY: as said at the top.
-    answered(|answer| unsafe {
-        srp_target_take(port, store, msg.as_ptr(), msg.len(), out, out_len, inn, in_len, to, len, answer)
-    })
+    answered(|answer| unsafe { srp_target_tables(port, store, tag, out, out_len, inn, in_len, to, len, answer) })
 }
 
 pub fn plan(port: &mut Words, tag: u64, r_out: u32, r_in: u32) -> u32 {

@@ -5,17 +5,18 @@
 //! the operations and sends the messages that the port writes. Documents 01 and 02, whose numbers a [`Refusal`] has,
 //! describe the calls; include/srp_target.h is the same interface in C, with what an owner has to see to.
 //!
-//! For each SRP_CMD, [`look`] names the tables to fetch; then come [`Port::take`], [`Port::plan`], [`Port::pieces`] for
-//! each move of its data, and [`Port::finish`]. A refusal of [`Port::take`] that comes with a message carries it: see
-//! [`TakeRefusal`]. A [`Step`], and [`Pieces::number`], tell the operations handed out for a move, each of which needs
-//! an adapter slot while it is under way; [`Settings::boundary`] is for adapters that fail an operation across a
-//! multiple of a power of two. [`cut`] is the cut alone, without a port; [`trace`] writes any message, of either end,
-//! as a line for a terminal.
+//! An SRP_CMD comes in by [`Port::take`]. Where it then waits for its tables, [`look`] names them; they are fetched while
+//! further messages are taken, and [`Port::tables`] brings them, of one command before or after another. Then come
+//! [`Port::plan`], [`Port::pieces`] for each move of its data, and [`Port::finish`]. A refusal of [`Port::take`] or
+//! [`Port::tables`] that comes with a message carries it: see [`TakeRefusal`] and [`TablesRefusal`]. A [`Step`], and
+//! [`Pieces::number`], tell the operations handed out for a move, each of which needs an adapter slot while it is under
+//! way; [`Settings::boundary`] is for adapters that fail an operation across a multiple of a power of two. [`cut`] is
+//! the cut alone, without a port; [`trace`] writes any message, of either end, as a line for a terminal.
 //!
 //! A login; then a command that reads 1,300 bytes to address 1000h, handle 7, in RDMA operations of up to 512 bytes:
 //!
 //! ```
-//! use srp_target::{Direction, Kind, Port, Settings, Step, Tables, Taken, MESSAGE_BYTES};
+//! use srp_target::{Direction, Kind, Port, Settings, Step, Taken, MESSAGE_BYTES};
 //!
 //! let settings = Settings { buffers: 4, maximum: 512, boundary: 0, longest: 1364, indirect: true, solicited: false };
 //! let own = [0xa5; 16];
@@ -37,8 +38,8 @@
 //! command[48..56].copy_from_slice(&0x1000u64.to_be_bytes());
 //! command[56..60].copy_from_slice(&7u32.to_be_bytes());
 //! command[60..64].copy_from_slice(&1300u32.to_be_bytes());
-//! let Ok(Taken::Command { tag, cdb, .. }) = port.take(&command, Tables::NONE, &mut buf) else { panic!() };
-//! assert_eq!((tag, cdb), (9, &command[32..48]));
+//! let Ok(Taken::Command { tag, cdb, waits, .. }) = port.take(&command, &mut buf) else { panic!() };
+//! assert_eq!((tag, cdb, waits), (9, &command[32..48], false));
 //!
 //! port.plan(tag, 0, 1300)?;
 //! let mut pieces = Vec::new();
@@ -57,6 +58,37 @@
 //! response[7] = 1; // limit delta
 //! response[15] = 9; // tag
 //! assert_eq!(message, response);
+//! # Ok::<(), srp_target::Refusal>(())
+//! ```
+//!
+//! On such a port two commands of which each has the same segment behind a table at 9000h, handle 3. Both tables are
+//! fetched side by side, and the second command's comes first:
+//!
+//! ```
+//! use srp_target::{look, Fetch, Refusal, Tables, Taken};
+//! # use srp_target::{Port, Settings, MESSAGE_BYTES};
+//! # let settings = Settings { buffers: 4, maximum: 512, boundary: 0, longest: 1364, indirect: true, solicited: false };
+//! # let (own, mut buf, mut login) = ([0xa5; 16], [0; MESSAGE_BYTES], [0; 64]);
+//! # login[16..20].copy_from_slice(&1364u32.to_be_bytes());
+//! # login[25] = 0x06;
+//! # login[48..64].copy_from_slice(&own);
+//! # let (mut port, _) = Port::login(&settings, &own, &login, &mut buf).unwrap();
+//! let segment = [0, 0, 0, 0, 0, 0, 0x10, 0, 0, 0, 0, 7, 0, 0, 5, 0x14]; // 1000h, handle 7, 1,300 bytes
+//! let mut command = [0; 68]; // SRP_CMD
+//! command[0] = 0x02;
+//! command[5] = 0x02; // data-in: a table
+//! command[48..68].copy_from_slice(&[0, 0, 0, 0, 0, 0, 0x90, 0, 0, 0, 0, 3, 0, 0, 0, 16, 0, 0, 5, 0x14]);
+//! for tag in [9, 10] {
+//!     command[15] = tag;
+//!     let Ok(Taken::Command { waits: true, .. }) = port.take(&command, &mut buf) else { panic!() };
+//!     let tables = look(&command, 1364, 0x06)?; // the owner posts an RDMA Read, and takes the next message
+//!     assert_eq!(tables.data_in, Some(Fetch { address: 0x9000, handle: 3, length: 16 }));
+//! }
+//! for tag in [10, 9] { // as the Reads complete
+//!     assert_eq!(port.plan(tag, 0, 1300), Err(Refusal::Waiting));
+//!     port.tables(tag, Tables { data_in: &segment, ..Tables::NONE }, &mut buf).unwrap();
+//!     port.plan(tag, 0, 1300)?;
+//! }
 //! # Ok::<(), srp_target::Refusal>(())
 //! ```
 //!
@@ -86,7 +118,7 @@ pub use argument::{Direction, Settings, Tables};
 pub use message::Message;
 pub use pieces::Pieces;
 pub use port::Port;
-pub use refusal::{LoginRefusal, NoRefusal, Refusal, TakeRefusal};
+pub use refusal::{LoginRefusal, NoRefusal, Refusal, TablesRefusal, TakeRefusal};
 pub use stateless::{cut, look, trace, Fetch, Fetches, Piece, Way};
 
 /// The longest message that a port writes, and the shortest buffer that may be lent for one.

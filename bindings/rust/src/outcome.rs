@@ -23,9 +23,9 @@ pub fn written<'b>(buf: &'b mut [u8], outcome: &Outcome) -> Message<'b> {
 
 /// What an unrefused take took.
 pub fn taken<'m, 'b>(outcome: &Outcome, msg: &'m [u8], message: Message<'b>) -> Taken<'m, 'b> {
-    let [_, kind, tag, lun, place, length, ..] = outcome.words;
+    let [_, kind, tag, lun, place, length, waits, _] = outcome.words;
     match kind {
-        KIND_COMMAND => Taken::Command { tag, lun, cdb: &msg[place as usize..][..length as usize] },
+        KIND_COMMAND => Taken::Command { tag, lun, cdb: &msg[place as usize..][..length as usize], waits: waits != 0 },
         KIND_TASK => Taken::Task { tag, lun, message },
         KIND_CREDIT_RESPONSE => Taken::Credit,
         KIND_LOGOUT => Taken::Logout,

@@ -10,7 +10,7 @@ use crate::ffi::{self, Outcome};
 use crate::message::Message;
 use crate::outcome::{checked, stepped, taken, written};
 use crate::pieces::Pieces;
-use crate::refusal::{LoginRefusal, Refusal, TakeRefusal};
+use crate::refusal::{LoginRefusal, Refusal, TablesRefusal, TakeRefusal};
 
 /// One channel of an SRP target port: the words of its state, and a store for the descriptors of open commands.
 ///
@@ -20,7 +20,8 @@ use crate::refusal::{LoginRefusal, Refusal, TakeRefusal};
 /// one left.
 ///
 /// Each call's refusals are listed in the order of checking; the first that hits is returned. But for [`Port::login`],
-/// [`Port::renew`] and [`Port::take`] a refusal alters nothing, neither the port nor what was lent.
+/// [`Port::renew`], [`Port::take`] and 10 of [`Port::tables`] a refusal alters nothing, neither the port nor what was
+/// lent.
 ///
 /// A message is written at the start of the lent buffer, which has at least [`MESSAGE_BYTES`](crate::MESSAGE_BYTES),
 /// and is returned as that part of it, a [`Message`] to be sent; the bytes behind it are kept.
@@ -83,20 +84,17 @@ impl Port {
         }
     }
 
-    /// Takes a message from the initiator, with the tables that [`look`](crate::look) has named for it.
+    /// Takes a message from the initiator. A command for which [`look`](crate::look) names a table, in either direction,
+    /// waits for it: it is open, held and listed, and can be aborted, and [`Port::tables`] brings its tables. The port
+    /// keeps nothing of `msg`.
     ///
     /// # Errors
     /// Refused: 1 `buf` under 132 bytes; 21 closed; 3 message under 16 bytes or over the agreed length; 4 another type;
     /// 3 a command under 48 bytes; 5, 6 a format not agreed; 3 not its type's length; 7, 8 a count; 22 a request with
-    /// A = 0; 23 its tag is open; 25 an SRP_CRED_RSP that is not due or has a tag other than 1; 9 a table of another
-    /// length than the fetched one; 10 bad fields. [`TakeRefusal`] says what each leaves behind, and has its message.
-    pub fn take<'m, 'b>(
-        &mut self,
-        msg: &'m [u8],
-        tables: Tables<'_>,
-        buf: &'b mut [u8],
-    ) -> Result<Taken<'m, 'b>, TakeRefusal<'b>> {
-        let outcome = ffi::take(&mut self.words, &mut self.store, msg, tables.data_out, tables.data_in, buf);
+    /// A = 0; 23 its tag is open; 25 an SRP_CRED_RSP that is not due or has a tag other than 1; 10 bad fields of a
+    /// command that names no table. [`TakeRefusal`] says what each leaves behind, and has its message.
+    pub fn take<'m, 'b>(&mut self, msg: &'m [u8], buf: &'b mut [u8]) -> Result<Taken<'m, 'b>, TakeRefusal<'b>> {
+        let outcome = ffi::take(&mut self.words, &mut self.store, msg, buf);
         let message = written(buf, &outcome);
         match checked(outcome.number) {
             Ok(()) => Ok(taken(&outcome, msg, message)),
@@ -106,10 +104,31 @@ impl Port {
         }
     }
 
+    /// Brings a command that waits for them its tables, each of the F bytes that [`look`](crate::look) names, and of none
+    /// where it names none. Commands may get theirs in any order. After it the command is ready to be planned; its age
+    /// in the listing counts from its take.
+    ///
+    /// Where a fetch fails, no call ends the command with a status. It waits until it is aborted, or the owner brings F
+    /// bytes of FFh for the table, which draw 10, or closes the channel.
+    ///
+    /// # Errors
+    /// Refused: 1 `buf` under 132 bytes; 21 closed; 24 tag not open; 33 the command does not wait; 9 a table of another
+    /// length than F; 10 bad fields, of either direction. [`TablesRefusal`] says what each leaves behind, and has its
+    /// message.
+    pub fn tables<'b>(&mut self, tag: u64, tables: Tables<'_>, buf: &'b mut [u8]) -> Result<(), TablesRefusal<'b>> {
+        let Tables { data_out, data_in } = tables;
+        let outcome = ffi::tables(&mut self.words, &mut self.store, tag, data_out, data_in, buf);
+        match checked(outcome.number) {
+            Ok(()) => Ok(()),
+            Err(refusal @ Refusal::Fields) => Err(TablesRefusal::Answered { refusal, message: written(buf, &outcome) }),
+            Err(refusal) => Err(TablesRefusal::Unaltered(refusal)),
+        }
+    }
+
     /// States once what an open command requires: R of data-out and of data-in, from its CDB. It starts no move.
     ///
     /// # Errors
-    /// Refused: 21 closed; 24 tag not open; 30 planned already.
+    /// Refused: 21 closed; 24 tag not open; 33 the command waits for its tables; 30 planned already.
     pub fn plan(&mut self, tag: u64, required_out: u32, required_in: u32) -> Result<(), Refusal> {
         checked(ffi::plan(&mut self.words, tag, required_out, required_in))
     }
@@ -120,8 +139,8 @@ impl Port {
     /// operations handed out starts at 0 with each move; one that is refused leaves it.
     ///
     /// # Errors
-    /// Refused: 21 closed; 24 tag not open; 29 not planned; 31 `offset` above min(R, B); 32 the direction's earlier
-    /// move still has pieces.
+    /// Refused: 21 closed; 24 tag not open; 33 the command waits for its tables; 29 not planned; 31 `offset` above
+    /// min(R, B); 32 the direction's earlier move still has pieces.
     pub fn name_move(&mut self, tag: u64, direction: Direction, offset: u32, count: u32) -> Result<(), Refusal> {
         checked(ffi::name_move(&mut self.words, tag, direction.number(), offset, count))
     }
@@ -136,7 +155,7 @@ impl Port {
     /// Q strictly inside a segment's part of the move, which are at most 32 + the bytes of the move divided by Q).
     ///
     /// # Errors
-    /// Refused: 21 closed; 24 tag not open; 29 not planned.
+    /// Refused: 21 closed; 24 tag not open; 33 the command waits for its tables; 29 not planned.
     pub fn step(&mut self, tag: u64, direction: Direction) -> Result<Step, Refusal> {
         let outcome = ffi::step(&mut self.words, &self.store, tag, direction.number());
         checked(outcome.number)?;
@@ -177,7 +196,7 @@ impl Port {
     ///
     /// # Errors
     /// Refused: 1 `buf` under 132 bytes; 21 closed; 11 sense above 96 bytes, or any with a status other than 02h; 24
-    /// tag not open.
+    /// tag not open; 33 the command waits for its tables.
     pub fn finish<'b>(
         &mut self,
         tag: u64,
@@ -236,8 +255,8 @@ impl Port {
         Ok(Counters { wanted: wanted as u32, announced: announced as u32, held: held as u32, owed: owed as i64 })
     }
 
-    /// Lists the open commands, each once, as they were taken, oldest first, with h of each direction. A tag used again
-    /// counts as taken anew. Returned is the part of `records` that was written; the others are kept.
+    /// Lists the open commands, each once, as they were taken, oldest first, with h of each direction; those too that
+    /// wait for their tables. A tag used again counts as taken anew. Returned is the part of `records` that was written; the others are kept.
     ///
     /// # Errors
     /// Refused: 21 closed; 11 `records` under [`MOST_BUFFERS`](crate::MOST_BUFFERS).

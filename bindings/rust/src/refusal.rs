@@ -1,4 +1,4 @@
-//! The refusals and their numbers; what a refused login or take gives.
+//! The refusals and their numbers; what a refused login, take or tables gives.
 
 use core::error::Error;
 use core::fmt;
@@ -57,11 +57,13 @@ pub enum Refusal {
     Offset = sys::REFUSED_OFFSET,
     /// 32: the direction's earlier move still has pieces.
     Unfinished = sys::REFUSED_UNFINISHED,
+    /// 33: the command waits for its tables; or tables, and it does not.
+    Waiting = sys::REFUSED_WAITING,
 }
 
 impl Refusal {
     /// Every refusal, in the order of the numbers.
-    pub const ALL: [Refusal; 23] = [
+    pub const ALL: [Refusal; 24] = [
         Refusal::ShortBuffer,
         Refusal::Setting,
         Refusal::Length,
@@ -85,6 +87,7 @@ impl Refusal {
         Refusal::Planned,
         Refusal::Offset,
         Refusal::Unfinished,
+        Refusal::Waiting,
     ];
 
     /// Its number.
@@ -117,6 +120,7 @@ impl Refusal {
             Refusal::Planned => "planned already",
             Refusal::Offset => "offset of a move",
             Refusal::Unfinished => "the earlier move has pieces left",
+            Refusal::Waiting => "the command waits for its tables, or does not",
         }
     }
 }
@@ -162,7 +166,7 @@ pub enum LoginRefusal<'b> {
 #[derive(Clone, Copy, Debug, PartialEq, Eq)]
 #[must_use = "the message of a hang-up or of refusal 10 is to be sent"]
 pub enum TakeRefusal<'b> {
-    /// 1, 9, 21: no message; port and lent buffer are as they were. After 1 and 9 the message is still to be taken.
+    /// 1, 21: no message; port and lent buffer are as they were. After 1 the message is still to be taken.
     Unaltered(Refusal),
     /// 10: the command was taken, answered and ended. The channel is open, and the message is to be sent.
     Answered {
@@ -199,6 +203,38 @@ impl<'b> TakeRefusal<'b> {
     }
 }
 
+/// Why tables were not accepted. It does not convert into a [`Refusal`], so that `?` loses no message.
+#[derive(Clone, Copy, Debug, PartialEq, Eq)]
+#[must_use = "the message of refusal 10 is to be sent"]
+pub enum TablesRefusal<'b> {
+    /// 1, 21, 24, 33, 9: no message; port and lent buffer are as they were. After 1 and 9 the command waits on.
+    Unaltered(Refusal),
+    /// 10: the command was answered and ended. The message is to be sent.
+    Answered {
+        /// [`Refusal::Fields`].
+        refusal: Refusal,
+        /// The SRP_RSP, in the lent buffer.
+        message: Message<'b>,
+    },
+}
+
+impl<'b> TablesRefusal<'b> {
+    /// Which refusal it is.
+    pub fn refusal(&self) -> Refusal {
+        match *self {
+            TablesRefusal::Unaltered(refusal) | TablesRefusal::Answered { refusal, .. } => refusal,
+        }
+    }
+
+    /// The message to send, if any.
+    pub fn message(&self) -> Option<Message<'b>> {
+        match *self {
+            TablesRefusal::Unaltered(_) => None,
+            TablesRefusal::Answered { message, .. } => Some(message),
+        }
+    }
+}
+
 impl fmt::Display for Refusal {
     fn fmt(&self, f: &mut fmt::Formatter<'_>) -> fmt::Result {
         write!(f, "refused {}: {}", self.number(), self.text())
@@ -226,7 +262,14 @@ impl fmt::Display for TakeRefusal<'_> {
     }
 }
 
+impl fmt::Display for TablesRefusal<'_> {
+    fn fmt(&self, f: &mut fmt::Formatter<'_>) -> fmt::Result {
+        self.refusal().fmt(f)
+    }
+}
+
 impl Error for Refusal {}
 impl Error for NoRefusal {}
 impl Error for LoginRefusal<'_> {}
 impl Error for TakeRefusal<'_> {}
+impl Error for TablesRefusal<'_> {}

@@ -18,7 +18,7 @@ pub struct Fetch {
     pub length: u32,
 }
 
-/// The tables to fetch before a command is taken.
+/// The tables to fetch for a command, which waits for them once it is taken.
 #[derive(Clone, Copy, Debug, PartialEq, Eq, Hash)]
 pub struct Fetches {
     /// For data-out, if any.
@@ -59,7 +59,8 @@ impl Way {
     }
 }
 
-/// Reads one SRP_CMD, and names the tables to fetch. `agreed` is the agreed length, `formats` the agreed formats: bytes
+/// Reads one SRP_CMD, and names the tables to fetch: where there is one, the command waits when it is taken, and
+/// [`Port::tables`](crate::Port::tables) brings them. `agreed` is the agreed length, `formats` the agreed formats: bytes
 /// 16-19 and 24-25 of the SRP_LOGIN_REQ that was accepted.
 ///
 /// # Errors

@@ -3,7 +3,7 @@
 mod messages;
 
 use messages::*;
-use srp_target::{Counters, Direction, Message, Port, Record, Refusal, Tables, Taken, MOST_BUFFERS};
+use srp_target::{Counters, Direction, Message, Port, Record, Refusal, Taken, MOST_BUFFERS};
 
 fn counters(wanted: u32, announced: u32, held: u32, owed: i64) -> Result<Counters, Refusal> {
     Ok(Counters { wanted, announced, held, owed })
@@ -58,7 +58,7 @@ fn granted_buffers() {
     assert!(is_untouched(&buf[16..]));
     assert_eq!(port.counters(), counters(6, 6, 0, 0));
     assert_eq!(port.grant(&mut buf), Err(Refusal::Unanswered));
-    assert_eq!(port.take(&of_16_bytes(0x41, 1), Tables::NONE, &mut buf), Ok(Taken::Credit));
+    assert_eq!(port.take(&of_16_bytes(0x41, 1), &mut buf), Ok(Taken::Credit));
     assert_eq!(port.grant(&mut buf), Err(Refusal::NotOwed));
 }
 

@@ -3,7 +3,7 @@
 mod messages;
 
 use messages::*;
-use srp_target::{Direction, Kind, Operation, Port, Tables, Taken};
+use srp_target::{Direction, Kind, Operation, Port, Taken};
 
 /// SRP_LOGIN_RSP: N = 4, tag 0708h, length 1,364, 132, both formats, no SOLNTSUP.
 #[rustfmt::skip]
@@ -40,8 +40,8 @@ fn from_login_to_response() {
 
     let mut buf = lent();
     let msg = p1(9);
-    let taken = port.take(&msg, Tables::NONE, &mut buf).unwrap();
-    assert_eq!(taken, Taken::Command { tag: 9, lun: LUN, cdb: &msg[32..48] });
+    let taken = port.take(&msg, &mut buf).unwrap();
+    assert_eq!(taken, Taken::Command { tag: 9, lun: LUN, cdb: &msg[32..48], waits: false });
     assert!(is_untouched(&buf));
 
     port.plan(9, 0, 1300).unwrap();
@@ -59,7 +59,7 @@ fn the_cdb_is_part_of_the_message() {
     let mut port = open_port();
     let mut buf = lent();
     let msg = command(9, 63, Data::None, Data::None);
-    let Ok(Taken::Command { tag, lun, cdb }) = port.take(&msg, Tables::NONE, &mut buf) else { panic!("refused") };
+    let Ok(Taken::Command { tag, lun, cdb, .. }) = port.take(&msg, &mut buf) else { panic!("refused") };
     buf.fill(0);
     assert_eq!(port.finish(tag, 0x00, &[], &mut buf).unwrap()[0], 0xc1);
     assert_eq!((tag, lun, cdb), (9, LUN, &msg[32..300]));

@@ -3,7 +3,9 @@
 mod messages;
 
 use messages::*;
-use srp_target::{Counters, Direction, LoginRefusal, Message, Port, Record, Refusal, Settings, Tables, TakeRefusal};
+use srp_target::{
+    Counters, Direction, LoginRefusal, Message, Port, Record, Refusal, Settings, Tables, TablesRefusal, TakeRefusal,
+};
 
 /// What a login that was not accepted came to.
 fn refused<'b>(settings: &Settings, msg: &[u8], buf: &'b mut [u8]) -> LoginRefusal<'b> {
@@ -103,7 +105,8 @@ fn rejected_with_its_message() {
 fn is_closed(port: &mut Port) {
     let (mut buf, mut records) = (lent(), [Record::default(); 16]);
     let closed = Refusal::Closed;
-    assert_eq!(port.take(&no_data(1), Tables::NONE, &mut buf), Err(TakeRefusal::Unaltered(closed)));
+    assert_eq!(port.take(&no_data(1), &mut buf), Err(TakeRefusal::Unaltered(closed)));
+    assert_eq!(port.tables(1, Tables::NONE, &mut buf), Err(TablesRefusal::Unaltered(closed)));
     assert_eq!(port.plan(1, 0, 0), Err(closed));
     assert_eq!(port.step(1, Direction::Out), Err(closed));
     assert_eq!(port.name_move(1, Direction::In, 0, 0), Err(closed));

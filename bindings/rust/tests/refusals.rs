@@ -1,9 +1,9 @@
 //! Refusals and their numbers, as values and as errors.
 
-use srp_target::{LoginRefusal, Message, NoRefusal, Port, Refusal, TakeRefusal};
+use srp_target::{LoginRefusal, Message, NoRefusal, Port, Refusal, TablesRefusal, TakeRefusal};
 use srp_target_sys::{PORT_WORDS, STORE_BYTES};
 
-const NUMBERED: [(u32, Refusal); 23] = [
+const NUMBERED: [(u32, Refusal); 24] = [
     (1, Refusal::ShortBuffer),
     (2, Refusal::Setting),
     (3, Refusal::Length),
@@ -27,6 +27,7 @@ const NUMBERED: [(u32, Refusal); 23] = [
     (30, Refusal::Planned),
     (31, Refusal::Offset),
     (32, Refusal::Unfinished),
+    (33, Refusal::Waiting),
 ];
 
 #[test]
@@ -41,7 +42,7 @@ fn every_refusal_has_its_number() {
 #[test]
 fn other_numbers_are_no_refusals() {
     let others = (0..1000).chain([u32::MAX - 1, u32::MAX]).filter(|n| !NUMBERED.iter().any(|(m, _)| n == m));
-    assert_eq!(others.clone().count(), 1002 - 23);
+    assert_eq!(others.clone().count(), 1002 - 24);
     others.for_each(|number| assert_eq!(Refusal::try_from(number), Err(NoRefusal(number))));
 }
 
@@ -55,12 +56,11 @@ fn refusals_are_errors_with_their_number() {
     }
     let rejected = LoginRefusal::Rejected { reason: 0x0001_0003, message: Message(&[]) };
     let hung_up = TakeRefusal::HungUp { refusal: Refusal::NoCredit, message: Message(&[]) };
-    let errors: [&dyn std::error::Error; 3] = [&rejected, &hung_up, &NoRefusal(12)];
+    let answered = TablesRefusal::Answered { refusal: Refusal::Fields, message: Message(&[]) };
+    let errors: [&dyn std::error::Error; 4] = [&rejected, &hung_up, &answered, &NoRefusal(12)];
     let texts = errors.map(|error| error.to_string());
-    assert_eq!(
-        texts,
-        ["login rejected: 00010003h", "refused 22: request without credit", "12 is the number of no refusal"]
-    );
+    assert_eq!(texts[..2], ["login rejected: 00010003h", "refused 22: request without credit"]);
+    assert_eq!(texts[2..], ["refused 10: bad fields", "12 is the number of no refusal"]);
 }
 
 /// A port is its words and its store, and may go to another thread.

@@ -3,7 +3,7 @@
 mod messages;
 
 use messages::*;
-use srp_target::{Counters, Direction, Message, Port, Refusal, Settings, Tables, TakeRefusal, Taken};
+use srp_target::{Counters, Message, Port, Refusal, Settings, TakeRefusal, Taken};
 
 const TABLE: u64 = 0x9000;
 
@@ -25,12 +25,12 @@ fn a_task_request_is_answered() {
     take_command(&mut port, &p1(9));
     take_command(&mut port, &p1(10));
     let (msg, mut buf) = (task(77, LUN, 0x01, 9), lent());
-    let taken = port.take(&msg, Tables::NONE, &mut buf);
+    let taken = port.take(&msg, &mut buf);
     assert_eq!(taken, Ok(Taken::Task { tag: 77, lun: LUN, message: Message(&answer(0, 2, 77, 0x00)) }));
     assert!(is_untouched(&buf[40..]));
     assert_eq!(port.counters(), Ok(Counters { wanted: 4, announced: 3, held: 1, owed: 0 }));
     let msg = task(78, 5, 0x40, 0);
-    let taken = port.take(&msg, Tables::NONE, &mut buf);
+    let taken = port.take(&msg, &mut buf);
     assert_eq!(taken, Ok(Taken::Task { tag: 78, lun: 5, message: Message(&answer(1, 1, 78, 0x04)) }));
 }
 
@@ -40,8 +40,8 @@ fn a_credit_response_and_a_logout_write_nothing() {
     port.add(2).unwrap();
     assert_eq!(port.grant(&mut lent()).unwrap()[7], 2);
     let mut buf = lent();
-    assert_eq!(port.take(&of_16_bytes(0x41, 1), Tables::NONE, &mut buf), Ok(Taken::Credit));
-    assert_eq!(port.take(&of_16_bytes(0x03, 5), Tables::NONE, &mut buf), Ok(Taken::Logout));
+    assert_eq!(port.take(&of_16_bytes(0x41, 1), &mut buf), Ok(Taken::Credit));
+    assert_eq!(port.take(&of_16_bytes(0x03, 5), &mut buf), Ok(Taken::Logout));
     assert!(is_untouched(&buf));
     assert_eq!(port.counters(), Err(Refusal::Closed));
 }
@@ -82,7 +82,7 @@ fn bad_fields_are_answered() {
     let mut port = open_port();
     let mut buf = lent();
     let msg = command(9, 0, Data::Direct(memory(u64::MAX, 7, 2)), Data::None);
-    let refused = port.take(&msg, Tables::NONE, &mut buf).unwrap_err();
+    let refused = port.take(&msg, &mut buf).unwrap_err();
     let message = answer(1, 1, 9, 0x02);
     assert_eq!(refused, TakeRefusal::Answered { refusal: Refusal::Fields, message: Message(&message) });
     assert_eq!((refused.refusal(), refused.message()), (Refusal::Fields, Some(Message(&message))));
@@ -91,33 +91,41 @@ fn bad_fields_are_answered() {
     take_command(&mut port, &p1(9));
 }
 
-/// 1 and 9 leave the message to be taken again.
+/// 1 leaves the message to be taken again.
 #[test]
 fn without_a_message_nothing_is_altered() {
     let mut port = open_port();
-    let msg = command(9, 0, Data::None, by_table(32, 1300, vec![]));
-    let list = [memory(0x1000, 7, 1000), memory(0x8000, 8, 300)].concat();
     let mut buf = short();
-    let refused = port.take(&msg, Tables { data_in: &list, ..Tables::NONE }, &mut buf).unwrap_err();
+    let refused = port.take(&p1(9), &mut buf).unwrap_err();
     assert_eq!(refused, TakeRefusal::Unaltered(Refusal::ShortBuffer));
     assert_eq!((refused.refusal(), refused.message()), (Refusal::ShortBuffer, None));
     assert!(is_untouched(&buf));
-    let mut buf = lent();
-    let other_tables = [
-        Tables::NONE,
-        Tables { data_in: &list[..16], ..Tables::NONE },
-        Tables { data_out: &list, ..Tables::NONE },
-        Tables { data_out: &list[..16], data_in: &list },
-    ];
-    for tables in other_tables {
-        let refused = port.take(&msg, tables, &mut buf);
-        assert_eq!(refused, Err(TakeRefusal::Unaltered(Refusal::TableLength)), "{tables:?}");
-    }
-    assert!(is_untouched(&buf));
     assert_eq!(port.counters().unwrap().announced, 4);
-    let taken = port.take(&msg, Tables { data_in: &list, ..Tables::NONE }, &mut buf);
-    assert_eq!(taken, Ok(Taken::Command { tag: 9, lun: LUN, cdb: &msg[32..48] }));
-    port.plan(9, 0, 1300).unwrap();
-    let pieces = port.pieces(9, Direction::In, 0, 1300).unwrap().map(|p| (p.handle, p.address, p.length));
-    assert!(pieces.eq([(7, 0x1000, 512), (7, 0x1200, 488), (8, 0x8000, 300)]));
+    take_command(&mut port, &p1(9));
+}
+
+/// A command waits where a table is to be fetched in either direction; else it does not.
+#[test]
+fn whether_a_command_waits() {
+    let (fetched, copied) = (|| by_table(32, 1300, vec![]), || by_table(16, 1300, vec![memory(0x1000, 7, 1300)]));
+    let direct = || Data::Direct(memory(0x1000, 7, 1300));
+    let mut port = port_with(&Settings { buffers: 16, ..SETTINGS });
+    for (tag, (data_out, data_in, waits)) in [
+        (Data::None, Data::None, false),
+        (direct(), copied(), false),
+        (copied(), direct(), false),
+        (fetched(), Data::None, true),
+        (Data::None, fetched(), true),
+        (fetched(), fetched(), true),
+        (fetched(), copied(), true),
+        (direct(), fetched(), true),
+    ]
+    .into_iter()
+    .enumerate()
+    {
+        let msg = command(tag as u64, 1, data_out, data_in);
+        let expected = Taken::Command { tag: tag as u64, lun: LUN, cdb: &msg[32..52], waits };
+        assert_eq!(port.take(&msg, &mut lent()), Ok(expected));
+    }
+    assert_eq!(port.counters(), Ok(Counters { wanted: 16, announced: 8, held: 8, owed: 0 }));
 }

@@ -3,7 +3,7 @@
 mod messages;
 
 use messages::*;
-use srp_target::{trace, Port, Refusal, Tables, Taken, Way, TRACE_BYTES};
+use srp_target::{trace, Port, Refusal, Taken, Way, TRACE_BYTES};
 
 /// A line, of which the end is spaces; it must be part of the lent buffer, whose other bytes stay.
 fn assert_line(msg: &[u8], way: Way, start: &str) {
@@ -94,9 +94,9 @@ fn messages_of_a_port() {
     let (mut port, message) = Port::login(&SETTINGS, &OWN, &login_request(), &mut buf).unwrap();
     assert_line(&message, Way::FromPort, "< LOGIN_RSP    0000000000000708                      4");
     let request = task(9, LUN, 0x40, 0);
-    let Ok(Taken::Task { message, .. }) = port.take(&request, Tables::NONE, &mut buf) else { panic!("refused") };
+    let Ok(Taken::Task { message, .. }) = port.take(&request, &mut buf) else { panic!("refused") };
     assert_line(&message, Way::FromPort, "< RSP          0000000000000009                      1 00000004");
-    let refused = port.take(&[0xee; 20], Tables::NONE, &mut buf).unwrap_err();
+    let refused = port.take(&[0xee; 20], &mut buf).unwrap_err();
     let message = refused.message().expect("a hang-up has one");
     assert_line(&message, Way::FromPort, "< T_LOGOUT     0000000000000000                        00000000");
     assert_line(&[0xee; 20], Way::ToPort, "> UNKNOWN                                           20");

@@ -3,9 +3,7 @@
 mod messages;
 
 use messages::*;
-use srp_target::{
-    Direction, Kind, Message, Operation, Port, Record, Refusal, Settings, Step, Tables, Taken, SENSE_BYTES,
-};
+use srp_target::{Direction, Kind, Message, Operation, Port, Record, Refusal, Settings, Step, Taken, SENSE_BYTES};
 
 /// Data-out: 3000h, handle 5, 600 bytes. Data-in: a table in the message, the segments of P2.
 fn both_ways(tag: u64) -> Vec<u8> {
@@ -56,21 +54,6 @@ fn both_directions() {
     assert_eq!((port.step(9, Direction::In), port.step(9, Direction::Out)), (done(3), done(2)));
     let mut buf = lent();
     assert_eq!(outcome(port.finish(9, 0, &[], &mut buf).unwrap()), (0, 0, [0; 4], [0; 4]));
-}
-
-/// Both tables fetched: each direction has its own.
-#[test]
-fn tables_fetched_for_both_directions() {
-    let indirect = |total| Data::Indirect { table: memory(0x9000, 3, 16), total, copies: vec![] };
-    let msg = command(9, 0, indirect(10), indirect(20));
-    let (out, inn) = (memory(0x100, 1, 10), memory(0x200, 2, 20));
-    let mut port = open_port();
-    let mut buf = lent();
-    let taken = port.take(&msg, Tables { data_out: &out, data_in: &inn }, &mut buf);
-    assert_eq!(taken, Ok(Taken::Command { tag: 9, lun: LUN, cdb: &msg[32..48] }));
-    port.plan(9, 10, 20).unwrap();
-    assert_eq!(first(&mut port, 9, Direction::Out, 10), [read(1, 0x100, 10, 0)]);
-    assert_eq!(first(&mut port, 9, Direction::In, 20), [write(2, 0x200, 20, 0)]);
 }
 
 /// R of each direction in its place: P3's last piece of 50 and under 50 in, P4's over 100 out.
@@ -283,5 +266,5 @@ fn finish_refused_alters_nothing() {
     assert!(is_untouched(&small) && is_untouched(&buf));
     assert_eq!(port.counters().unwrap().held, 1);
     assert_eq!(port.finish(9, 0x08, &[], &mut buf).map(|message| message[19]), Ok(0x08));
-    assert!(matches!(port.take(&p1(9), Tables::NONE, &mut buf), Ok(Taken::Command { tag: 9, .. })));
+    assert!(matches!(port.take(&p1(9), &mut buf), Ok(Taken::Command { tag: 9, .. })));
 }

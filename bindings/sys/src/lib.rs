@@ -38,6 +38,14 @@ extern "C" {
         store: *mut Store,
         msg: *const u8,
         msg_len: usize,
+        buf: *mut u8,
+        buf_len: usize,
+        answer: *mut Answer,
+    ) -> u32;
+    pub fn srp_target_tables(
+        port: *mut Words,
+        store: *mut Store,
+        tag: u64,
         out: *const u8,
         out_len: usize,
         inn: *const u8,

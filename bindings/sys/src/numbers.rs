@@ -1,7 +1,7 @@
 //! The numbers of include/srp_target.h, in its order; tests/rust/tests/header.rs compares them.
 
 // The version of the interface.
-pub const TARGET_VERSION: u32 = 6;
+pub const TARGET_VERSION: u32 = 7;
 
 // Refusals: from the message or the caller.
 pub const REFUSED_SHORT_BUFFER: u32 = 1;
@@ -29,6 +29,7 @@ pub const REFUSED_UNPLANNED: u32 = 29;
 pub const REFUSED_PLANNED: u32 = 30;
 pub const REFUSED_OFFSET: u32 = 31;
 pub const REFUSED_UNFINISHED: u32 = 32;
+pub const REFUSED_WAITING: u32 = 33;
 
 // Sizes: of a port, of the answers, of lent buffers and lists.
 pub const PORT_WORDS: usize = 528;

@@ -44,8 +44,8 @@ pub fn port_words() -> u64 {
     unsafe { srp_target_words() }
 }
 
-/// What a call on a port is lent beside its own arguments: the port's words, its store (take and step), and the answer
-/// words.
+/// What a call on a port is lent beside its own arguments: the port's words, its store (take, tables and step), and the
+/// answer words.
 pub struct Port<'a> {
     words: &'a mut Words,
     store: &'a mut [u8],
@@ -64,12 +64,19 @@ impl<'a> Port<'a> {
         unsafe { srp_target_login(words, settings, boundary, own, msg, msg_len, buf, buf_len, answer) }
     }
 
-    pub fn take(self, msg: &[u8], [out, inn]: [&[u8]; 2], buf: &mut [u8]) -> u32 {
+    pub fn take(self, msg: &[u8], buf: &mut [u8]) -> u32 {
         let Port { words, store, answer } = self;
         let store: &mut Store = store.try_into().expect("a store's bytes");
         let (msg, msg_len, buf, buf_len) = (pointer(msg), msg.len(), pointer_mut(buf), buf.len());
+        unsafe { srp_target_take(words, store, msg, msg_len, buf, buf_len, answer) }
+    }
+
+    pub fn tables(self, tag: u64, [out, inn]: [&[u8]; 2], buf: &mut [u8]) -> u32 {
+        let Port { words, store, answer } = self;
+        let store: &mut Store = store.try_into().expect("a store's bytes");
         let (out, out_len, inn, in_len) = (pointer(out), out.len(), pointer(inn), inn.len());
-        unsafe { srp_target_take(words, store, msg, msg_len, out, out_len, inn, in_len, buf, buf_len, answer) }
+        let (buf, buf_len) = (pointer_mut(buf), buf.len());
+        unsafe { srp_target_tables(words, store, tag, out, out_len, inn, in_len, buf, buf_len, answer) }
     }
 
     pub fn plan(self, tag: u64, r_out: u32, r_in: u32) -> u32 {

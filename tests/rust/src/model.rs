@@ -1,6 +1,7 @@
-//! The port, look and the cut as document 01 states them, and moves, their numbers of operations, boundaries and the
-//! trace page as document 02 does, in plain Rust. This is written from the documents, and from nothing of the proved
-//! code or its definitions: where the two differ, one of them misreads them. No input makes it panic.
+//! The port, look and the cut as document 01 states them, and moves, their numbers of operations, boundaries, commands
+//! that wait for their tables and the trace page as document 02 does, in plain Rust. This is written from the documents,
+//! and from nothing of the proved code or its definitions: where the two differ, one of them misreads them. No input
+//! makes it panic.
 
 pub mod channel;
 pub mod command;
@@ -10,6 +11,7 @@ pub mod in_c;
 pub mod login;
 pub mod owner;
 pub mod refusal;
+pub mod tables;
 pub mod take;
 pub mod trace;
 pub mod transfer;

@@ -12,5 +12,7 @@ pub mod machine;
 pub mod plain;
 pub mod rows;
 pub mod side_by_side;
+pub mod slots;
+pub mod waiting;
 
 pub use call::{Call, Outcome, Target};

@@ -7,7 +7,7 @@ use crate::judge::is_multiple;
 use crate::limits::Limits;
 use crate::model::MemoryDescriptor;
 use crate::port::generate::{command, Data};
-use crate::port::plain::{fetched, login, take};
+use crate::port::plain::{fetched, login, open};
 use crate::port::{frame, library::Library, Call, Target};
 use crate::position;
 use crate::random::Random;
@@ -119,7 +119,7 @@ impl Search {
         data[self.direction] = if list.is_empty() { Data::none() } else { fetched(list) };
         self.port.call(&login(&mut self.random, 1, limits, 1364, 0b110));
         let msg = command(&mut self.random, TAG, 0, 0, &data);
-        assert_eq!(self.port.call(&take(&msg, [&data[0].table, &data[1].table])).returned, 0, "taken");
+        open(&mut self.port, &msg, &data);
         assert_eq!(self.port.call(&Call::Plan { tag: TAG, r_out: r, r_in: r }).returned, 0, "planned");
         self.planned.clone_from(&self.port.memory);
     }

@@ -169,7 +169,7 @@ impl Taken {
 
     fn take(&mut self) {
         let msg = joined(&[&head(0x22, 3, 3, 0), &TABLE, &SEGMENTS, &TABLE, &SEGMENTS]);
-        assert_eq!(self.port().take(&msg, [&[], &[]], &mut [0; 132]), 0);
+        assert_eq!(self.port().take(&msg, &mut [0; 132]), 0);
     }
 
     fn port(&mut self) -> Port<'_> {

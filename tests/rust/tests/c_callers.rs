@@ -32,6 +32,15 @@ fn command() -> Vec<u8> {
     msg
 }
 
+/// The segment of an SRP_CMD with tag 9 that waits for it, as a table of data-out: 1000h, handle 7, 9 bytes.
+const SEGMENT: [u8; 16] = [0, 0, 0, 0, 0, 0, 0x10, 0, 0, 0, 0, 7, 0, 0, 0, 9];
+
+fn waiting_command() -> Vec<u8> {
+    let (mut msg, table) = (command(), [0, 0, 0, 0, 0, 0, 0x90, 0, 0, 0, 0, 3, 0, 0, 0, 16]);
+    msg[5] = 0x20;
+    [&msg[..], &table, &[0, 0, 0, 9]].concat()
+}
+
 /// An SRP_RSP with tag 9, RSP_CODE 2 and 2^32 - 1 bytes of sense: the first 40 bytes.
 fn response() -> Vec<u8> {
     let mut msg = vec![0; 40];
@@ -50,17 +59,16 @@ const LONG_UNKNOWN: &str = "< UNKNOWN                                        ***
 
 #[test]
 fn messages_and_tables_above_2_32() {
-    let (none, mut buf): ([&[u8]; 2], _) = ([&[], &[]], [0; 132]);
+    let (mut plain, mut buf) = (open(), [0; 132]);
     assert_eq!(login(&mut open(), reserved(LONG + 64, &login_request()), &mut buf), 3);
-    assert_eq!(open().port().take(reserved(LONG + 48, &command()), none, &mut buf), 3);
-    let table: &[u8] = reserved(LONG, &[]);
-    assert_eq!(open().port().take(&command(), [table, &[]], &mut buf), 9);
-    assert_eq!(open().port().take(&command(), [&[], table], &mut buf), 9);
+    assert_eq!(open().port().take(reserved(LONG + 48, &command()), &mut buf), 3);
+    assert_eq!((plain.port().take(&waiting_command(), &mut buf), plain.answer[6]), (0, 1));
+    assert_eq!(plain.port().tables(9, [reserved(LONG + 16, &SEGMENT), &[]], &mut buf), 9);
+    assert_eq!(plain.port().tables(9, [&SEGMENT, reserved(LONG, &[])], &mut buf), 9);
+    assert_eq!(plain.port().tables(9, [&SEGMENT, &[]], &mut buf), 0);
     assert_eq!(interface::look(reserved(LONG + 48, &command()), 1364, 6, &mut buf), 3);
     assert_eq!(interface::cut(reserved(LONG + 16, &[]), 512.into(), 0, 0, &mut buf), 11);
 
-    let mut plain = open();
-    assert_eq!(plain.port().take(&command(), none, &mut buf), 0);
     assert_eq!(plain.port().finish(9, 2, reserved(LONG + 18, &[]), &mut buf), 11);
     assert_eq!(plain.port().finish(9, 0, reserved(LONG, &[]), &mut buf), 11);
     assert_eq!(plain.port().finish(9, 0, &[], &mut buf), 0);
@@ -68,9 +76,10 @@ fn messages_and_tables_above_2_32() {
 
 #[test]
 fn buffers_and_lists_above_2_32() {
-    let (mut plain, none, buf): (_, [&[u8]; 2], _) = (open(), [&[], &[]], reserved(LONG, &[]));
+    let (mut plain, buf) = (open(), reserved(LONG, &[]));
     assert_eq!(login(&mut plain, &login_request(), buf), 0);
-    assert_eq!(plain.port().take(&command(), none, buf), 0);
+    assert_eq!(plain.port().take(&waiting_command(), buf), 0);
+    assert_eq!(plain.port().tables(9, [&SEGMENT, &[]], buf), 0);
     assert_eq!(plain.port().list(reserved(LONG, &[])), 0);
     assert_eq!(plain.answer, [1, 0, 0, 0, 0, 0, 0, 0]);
     assert_eq!(plain.port().finish(9, 0, &[], buf), 0);
@@ -146,7 +155,7 @@ mod wide {
 fn arguments_below_other_bits() {
     const ABOVE: u64 = 0xdead_beef << 32;
     let (mut plain, mut buf) = (open(), [0; 132]);
-    assert_eq!(plain.port().take(&command(), [&[], &[]], &mut buf), 0);
+    assert_eq!(plain.port().take(&command(), &mut buf), 0);
     let Plain { memory, answer } = &mut plain;
     let (port, store, answered) = (memory.words.as_mut_ptr(), memory.store.as_ptr(), answer.as_mut_ptr());
     // SAFETY: as in `interface`; registers are as wide as 64-bit arguments.

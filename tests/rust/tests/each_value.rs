@@ -4,8 +4,8 @@ use srp_tests::generate::{self, Descriptor};
 use srp_tests::model::MemoryDescriptor;
 use srp_tests::port::both::{Both, Saved};
 use srp_tests::port::generate::{command, Data};
-use srp_tests::port::plain::{self, buffer, take};
-use srp_tests::port::{kinds, Call};
+use srp_tests::port::plain::{self, buffer, tables, take};
+use srp_tests::port::{kinds, Call, Outcome, Target};
 use srp_tests::random::Random;
 use srp_tests::tally::Tally;
 
@@ -52,7 +52,7 @@ fn prepared(agreed: u32) -> Both {
     both.call(&login(agreed));
     for (tag, lun, data) in [(1, 0, direct(0x1000, 1300)), (2, 0, Data::none()), (3, 1, Data::none())] {
         let msg = command(&mut random, tag, lun, 0, &[Data::none(), data]);
-        assert_eq!(both.call(&take(&msg, [&[], &[]])).returned, 0);
+        assert_eq!(both.call(&take(&msg)).returned, 0);
     }
     both.call(&Call::Plan { tag: 1, r_out: 0, r_in: 1300 });
     both.call(&Call::Plan { tag: 2, r_out: 5, r_in: 0 });
@@ -75,10 +75,23 @@ impl From {
         From { state: both.save(), both, tally: Tally::default() }
     }
 
-    fn call(&mut self, call: &Call) {
+    fn call(&mut self, call: &Call) -> Outcome {
         self.both.restore(&self.state);
+        self.go_on(call)
+    }
+
+    fn go_on(&mut self, call: &Call) -> Outcome {
         let outcome = self.both.call(call);
         self.tally.add(kinds::outcome(call, &outcome));
+        outcome
+    }
+
+    /// A message, and its tables where it is a command that waits for them.
+    fn take(&mut self, msg: &[u8], [out, inn]: &[Vec<u8>; 2]) {
+        let taken = self.call(&take(msg)).answer;
+        if taken[6] == 1 {
+            self.go_on(&tables(taken[2], [out, inn]));
+        }
     }
 }
 
@@ -100,18 +113,19 @@ fn messages() -> Vec<(Vec<u8>, [Vec<u8>; 2])> {
 #[test]
 fn of_a_byte_of_a_message() {
     let mut from = From::new(prepared(LONGEST));
-    for (msg, [out, inn]) in messages() {
+    for (msg, tables) in messages() {
         for at in 0..msg.len() {
             for value in 0..=255 {
                 let mut msg = msg.clone();
                 msg[at] = value;
-                from.call(&take(&msg, [&out, &inn]));
+                from.take(&msg, &tables);
             }
         }
     }
     from.tally.print("port, each value of each byte of a message");
-    let refused = ["3", "4", "5", "6", "8", "9", "10", "23", "25"].map(|number| format!("take: refused {number}"));
+    let refused = ["3", "4", "5", "6", "8", "10", "23", "25"].map(|number| format!("take: refused {number}"));
     from.tally.assert_at_least(1, &refused.each_ref().map(String::as_str));
+    from.tally.assert_at_least(10, &["tables: done", "tables: refused 9", "tables: refused 10"]);
 }
 
 #[test]
@@ -119,20 +133,21 @@ fn of_a_message_s_length() {
     let mut tally = Tally::default();
     for agreed in [64, 103, 104, 105, LONGEST] {
         let mut from = From::new(prepared(agreed));
-        for (msg, [out, inn]) in messages() {
+        for (msg, tables) in messages() {
             for length in 0..=1400 {
                 let mut msg = msg.clone();
                 msg.resize(length, 0);
-                from.call(&take(&msg, [&out, &inn]));
+                from.take(&msg, &tables);
             }
         }
         tally.join(&from.tally);
     }
     tally.print("port, each length of a message");
-    // Each is taken at its own length alone; the first command has 104 bytes.
-    let kinds = ["take: command", "take: task, code 0", "take: logout", "take: credit response"];
-    assert_eq!(kinds.map(|kind| tally.count(kind)), [3 + 5, 5 + 5, 5, 5]);
-    assert_eq!((tally.count("take: refused 3"), tally.total()), (6 * 5 * 1401 - 28, 6 * 5 * 1401));
+    // Each is taken at its own length alone; the first command, which waits, has 104 bytes.
+    let kinds = ["take: command that waits", "tables: done", "take: command", "take: task, code 0", "take: logout"];
+    assert_eq!(kinds.map(|kind| tally.count(kind)), [3, 3, 5, 5 + 5, 5]);
+    assert_eq!(tally.count("take: credit response"), 5);
+    assert_eq!((tally.count("take: refused 3"), tally.total()), (6 * 5 * 1401 - 28, 6 * 5 * 1401 + 3));
 }
 
 #[test]
@@ -187,8 +202,8 @@ fn of_a_buffer_s_length() {
     for length in 0..=300 {
         let buf = || buffer(length);
         from.call(&Call::Login { settings, boundary, own, msg: msg.clone(), buf: buf() });
-        for (msg, tables) in messages() {
-            from.call(&Call::Take { msg, tables, buf: buf() });
+        for (msg, _) in messages() {
+            from.call(&Call::Take { msg, buf: buf() });
         }
         from.call(&Call::Finish { tag: 1, status: 2, sense: buffer(96), buf: buf() });
         from.call(&Call::Grant { buf: buf() });
@@ -249,8 +264,8 @@ fn of_a_bit_of_a_tag() {
             from.call(&Call::Move { tag, direction: 0, offset: 0, count: 1 });
             from.call(&Call::Step { tag, direction: 0 });
             from.call(&Call::Finish { tag, status: 0, sense: Vec::new(), buf: buffer(132) });
-            from.call(&take(&task(9, 0, 0x01, tag), [&[], &[]]));
-            from.call(&take(&task(9, 1 << bit, 0x04, 1), [&[], &[]]));
+            from.call(&take(&task(9, 0, 0x01, tag)));
+            from.call(&take(&task(9, 1 << bit, 0x04, 1)));
         }
     }
     from.tally.print("port, each bit of a tag");

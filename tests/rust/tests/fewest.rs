@@ -32,7 +32,7 @@ impl Command {
         let mut data = [0, 1].map(|_| copied(&[MemoryDescriptor { address: 0x9999, handle: 99, length: 9 }]));
         data[direction as usize] = if segments.is_empty() { Data::none() } else { copied(segments) };
         let msg = command(&mut Random::new(5), TAG, 0, 0, &data);
-        assert_eq!(plain.port().take(&msg, [&[], &[]], &mut [0; 132]), 0, "taken");
+        assert_eq!(plain.port().take(&msg, &mut [0; 132]), 0, "taken");
         assert_eq!(plain.port().plan(TAG, u32::MAX, u32::MAX), 0, "planned");
         let mut other = Command { plain, direction: 1 - direction, other: 0 };
         assert_eq!(other.step(), (None, 0), "before any move");

@@ -4,8 +4,8 @@ use srp_tests::generate::Descriptor;
 use srp_tests::model::MemoryDescriptor;
 use srp_tests::port::both::Both;
 use srp_tests::port::generate::{command, Data};
-use srp_tests::port::plain::{fetched, finish, login, take};
-use srp_tests::port::{Call, Outcome};
+use srp_tests::port::plain::{self, fetched, finish, login, take};
+use srp_tests::port::{Call, Outcome, Target};
 use srp_tests::random::Random;
 
 /// 32 segments behind a table; no two of all commands have the same address or handle.
@@ -19,7 +19,7 @@ fn segments(random: &mut Random) -> Data {
 fn open(both: &mut Both, random: &mut Random, tag: u64) {
     let data = [segments(random), segments(random)];
     let msg = command(random, tag, tag % 3, 0, &data);
-    assert_eq!(both.call(&take(&msg, [&data[0].table, &data[1].table])).returned, 0, "taken");
+    plain::open(both, &msg, &data);
     assert_eq!(both.call(&Call::Plan { tag, r_out: u32::MAX, r_in: u32::MAX }).returned, 0, "planned");
     assert_eq!([0, 1].map(|direction| name(both, tag, direction, 0, u32::MAX)), [0, 0], "all of each direction");
 }
@@ -71,7 +71,7 @@ fn the_longest_buffers() {
         Data { descriptor: Descriptor::Direct(segment), table: Vec::new() }
     });
     let msg = command(&mut random, 1, 0, 0, &data);
-    both.call(&take(&msg, [&[], &[]]));
+    both.call(&take(&msg));
     both.call(&Call::Plan { tag: 1, r_out: u32::MAX, r_in: u32::MAX - 1 });
     // The move's end would be 2^33 - 3; behind its one byte only an empty one begins.
     assert_eq!(name(&mut both, 1, 0, u32::MAX - 1, u32::MAX), 0);

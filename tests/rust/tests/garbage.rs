@@ -6,7 +6,7 @@ use srp_tests::interface::PORT_WORDS;
 use srp_tests::model::MemoryDescriptor;
 use srp_tests::port::garbage::{Garbage, InMemory};
 use srp_tests::port::generate::{command, Data, Generator};
-use srp_tests::port::plain::{fetched, login, take};
+use srp_tests::port::plain::{fetched, login, open};
 use srp_tests::port::{kinds, library::Library, Call, Target};
 use srp_tests::random::Random;
 
@@ -14,15 +14,20 @@ use srp_tests::random::Random;
 const PIECES: [&str; 4] =
     ["a bad boundary, across a multiple", "a bad boundary, across none", "a boundary", "no boundary"];
 
+/// What the words say of the command that tables are brought for.
+const TABLES: [&str; 5] = ["accepted", "accepted, none fetched", "bad fields", "not waiting", "of another length"];
+
 #[test]
 fn any_words_are_a_port() {
     let mut garbage = Garbage::new(Library::new(21), 21);
-    while garbage.tally.total() < 100_000 {
+    while garbage.tally.total() < 250_000 {
         garbage.round();
     }
     garbage.tally.print("garbage");
     garbage.pieces.print_as("garbage, by the boundary in the words", "pieces");
     garbage.pieces.assert_each(100, &PIECES);
+    garbage.tables.print("garbage, tables by their command's words");
+    garbage.tables.assert_each(100, &TABLES);
     // Every outcome but those of login, which uses nothing of the words.
     let of_words: Vec<&str> = kinds::OUTCOMES.into_iter().filter(|outcome| !outcome.starts_with("login")).collect();
     garbage.tally.assert_at_least(10, &of_words);
@@ -49,9 +54,9 @@ const STEP: Call = Call::Step { tag: TAG, direction: 1 };
 fn three_handed_out() -> Library {
     let (mut port, mut random) = (Library::new(23), Random::new(23));
     port.call(&login(&mut random, 4, 100, 1364, 0b110));
-    let data = fetched(&[MemoryDescriptor { address: 0x1000, handle: 7, length: 5_000 }]);
-    let msg = command(&mut random, TAG, 0, 0, &[Data::none(), data.clone()]);
-    assert_eq!(port.call(&take(&msg, [&[], &data.table])).returned, 0, "taken");
+    let data = [Data::none(), fetched(&[MemoryDescriptor { address: 0x1000, handle: 7, length: 5_000 }])];
+    let msg = command(&mut random, TAG, 0, 0, &data);
+    open(&mut port, &msg, &data);
     assert_eq!(port.call(&Call::Plan { tag: TAG, r_out: 0, r_in: 5_000 }).returned, 0, "planned");
     assert_eq!(port.call(&Call::Move { tag: TAG, direction: 1, offset: 0, count: 5_000 }).returned, 0, "named");
     let numbers = [0; 3].map(|_| port.call(&STEP).answer[6]);
@@ -82,7 +87,7 @@ fn the_number_in_altered_words() {
                 assert_eq!(number, 3, "done, word {at} holds {word}");
                 done += 1;
             }
-            _ => assert!([21, 24, 29].contains(&stepped.returned), "{stepped:x?}"),
+            _ => assert!([21, 24, 29, 33].contains(&stepped.returned), "{stepped:?}"),
         }
     }
     println!("altered words: {pieces} pieces, {done} done");

@@ -3,7 +3,7 @@
 use srp_tests::port::{library::Library, machine::Machine};
 use srp_tests::position;
 
-const STATES: [&str; 25] = [
+const STATES: [&str; 29] = [
     "16 commands open",
     "SRP_CRED_REQ lifts 1",
     "SRP_CRED_REQ lifts more",
@@ -13,10 +13,12 @@ const STATES: [&str; 25] = [
     "a boundary",
     "a tag used again",
     "aborted in the middle",
+    "aborted while it waited",
     "done after none",
     "done after one",
     "done after several",
     "ended by a boundary",
+    "ended by its tables in the middle",
     "ended with pieces left",
     "finished in the middle",
     "from a boundary to the next",
@@ -28,11 +30,13 @@ const STATES: [&str; 25] = [
     "owed 0",
     "owed above 0",
     "owed below 0",
+    "tables before those of an older one",
+    "tables of the oldest that waits",
     "up to 2^64, with a boundary",
 ];
 
 /// Events that come up whatever the initiator does.
-const EVENTS: [&str; 52] = [
+const EVENTS: [&str; 62] = [
     "add: done",
     "add: refused 11",
     "add: refused 28",
@@ -42,6 +46,7 @@ const EVENTS: [&str; 52] = [
     "finish: refused 1",
     "finish: refused 11",
     "finish: refused 24",
+    "finish: refused 33",
     "grant: done",
     "grant: refused 1",
     "grant: refused 26",
@@ -53,9 +58,11 @@ const EVENTS: [&str; 52] = [
     "move: refused 29",
     "move: refused 31",
     "move: refused 32",
+    "move: refused 33",
     "plan: done",
     "plan: refused 24",
     "plan: refused 30",
+    "plan: refused 33",
     "send: any bytes",
     "send: command",
     "send: credit response",
@@ -66,7 +73,15 @@ const EVENTS: [&str; 52] = [
     "step: done",
     "step: refused 24",
     "step: refused 29",
+    "step: refused 33",
+    "tables: done",
+    "tables: refused 1",
+    "tables: refused 10",
+    "tables: refused 24",
+    "tables: refused 33",
+    "tables: refused 9",
     "take: command",
+    "take: command that waits",
     "take: credit response",
     "take: logout",
     "take: refused 1",
@@ -78,7 +93,6 @@ const EVENTS: [&str; 52] = [
     "take: refused 6",
     "take: refused 7",
     "take: refused 8",
-    "take: refused 9",
     "take: task, code 0",
     "take: task, code 2",
     "take: task, code 4",
@@ -118,11 +132,11 @@ fn run(name: &str, seed: u64, fair: bool, count: u64, events: &[&str], states: &
 
 #[test]
 fn a_fair_initiator() {
-    run("machine, a fair initiator", 11, true, 220_000, &[], &[]);
+    run("machine, a fair initiator", 17, true, 240_000, &[], &[]);
 }
 
 #[test]
 fn an_initiator_below_its_limit() {
     let unfair = ["send: a request below a limit of 1", "take: refused 22", "take: refused 25"];
-    run("machine, an initiator below its limit", 12, false, 150_000, &unfair, &["limit below 0"]);
+    run("machine, an initiator below its limit", 12, false, 180_000, &unfair, &["limit below 0"]);
 }

@@ -7,7 +7,7 @@ use srp_tests::judge::{bytes_of, judge, Byte, AT_MULTIPLE, ENDS};
 use srp_tests::limits::Limits;
 use srp_tests::model::MemoryDescriptor;
 use srp_tests::port::generate::command;
-use srp_tests::port::plain::{fetched, finish, login, take};
+use srp_tests::port::plain::{fetched, finish, login, open};
 use srp_tests::port::{library::Library, Call, Target};
 use srp_tests::random::Random;
 use srp_tests::tally::Tally;
@@ -46,7 +46,7 @@ impl Command {
         let (moved, other, direction) = (segments(random), segments(random), random.below(2));
         let data = [0, 1].map(|at| fetched(if at == direction { &moved } else { &other }));
         let msg = command(random, TAG, 0, 0, &data);
-        assert_eq!(port.call(&take(&msg, [&data[0].table, &data[1].table])).returned, 0, "taken");
+        open(&mut port, &msg, &data);
         let bytes = bytes_of(&moved);
         let r = random.of(&[bytes.len(), bytes.len(), bytes.len() + 7, bytes.len().saturating_sub(1), bytes.len() / 2]);
         let mut required = [random.any_size(), random.any_size()];

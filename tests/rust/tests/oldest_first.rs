@@ -29,7 +29,7 @@ fn task(function: u8, lun: u64, managed: u64) -> Call {
     let mut msg = request_with(vec![0; 48], TASK, lun);
     (msg[0], msg[30]) = (0x01, function);
     msg[32..40].copy_from_slice(&managed.to_be_bytes());
-    take(&msg, [&[], &[]])
+    take(&msg)
 }
 
 const EVENTS: [&str; 7] = [
@@ -79,7 +79,7 @@ impl Followed {
         let call = match event {
             Event::Take(tag) => {
                 let msg = command(&mut self.random, tag, lun_of(tag), 0, &[Data::none(), Data::none()]);
-                take(&msg, [&[], &[]])
+                take(&msg)
             }
             Event::Finish(tag) => finish(tag),
             Event::Abort(tag) => task(0x01, lun_of(tag), tag),

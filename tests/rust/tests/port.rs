@@ -4,8 +4,8 @@ use srp_tests::interface;
 use srp_tests::model::MemoryDescriptor;
 use srp_tests::port::both::Both;
 use srp_tests::port::generate::{command, Data};
-use srp_tests::port::plain::{fetched, login, take};
-use srp_tests::port::{kinds, side_by_side::SideBySide, Call};
+use srp_tests::port::plain::{fetched, login, open};
+use srp_tests::port::{kinds, side_by_side::SideBySide, Call, Target};
 use srp_tests::position;
 use srp_tests::random::Random;
 use srp_tests::tally::Tally;
@@ -20,7 +20,7 @@ fn words_of_a_port() {
 fn generated_calls() {
     let mut random = Random::new(0x5350_5233);
     let mut ports = [1, 2, 3].map(SideBySide::new);
-    for _ in 0..350_000 {
+    for _ in 0..400_000 {
         ports[random.below(3)].call();
     }
     let (mut outcomes, mut features) = (Tally::default(), Tally::default());
@@ -31,8 +31,8 @@ fn generated_calls() {
     outcomes.print("port, generated calls");
     features.print_as("port, generated calls", "kinds of them");
     outcomes.assert_each(40, &kinds::OUTCOMES);
-    let kinds = [&kinds::FEATURES[..], &kinds::moves::FEATURES, &kinds::logins::FEATURES, &position::KINDS];
-    features.assert_each(40, &kinds.concat());
+    let kinds = [&kinds::FEATURES[..], &kinds::moves::FEATURES, &kinds::logins::FEATURES, &kinds::tables::FEATURES];
+    features.assert_each(40, &[&kinds.concat()[..], &position::KINDS].concat());
 }
 
 /// Data-in of 600 and 100 bytes, of which 650 are required: min(R, B) is 650.
@@ -41,8 +41,9 @@ fn planned() -> Both {
     both.call(&login(&mut random, 4, 512, 1364, 0b110));
     let segments = [(0x3000, 600), (0x5000, 100)];
     let data = fetched(&segments.map(|(address, length)| MemoryDescriptor { address, handle: 9, length }));
-    let msg = command(&mut random, 1, 0, 0, &[Data::none(), data.clone()]);
-    assert_eq!(both.call(&take(&msg, [&[], &data.table])).returned, 0, "taken");
+    let data = [Data::none(), data];
+    let msg = command(&mut random, 1, 0, 0, &data);
+    open(&mut both, &msg, &data);
     assert_eq!(both.call(&Call::Plan { tag: 1, r_out: 9, r_in: 650 }).returned, 0, "planned");
     both
 }

@@ -43,3 +43,8 @@ fn order_rows() {
 fn boundary_rows() {
     port::rows::run_job_6(&mut Library::new(1), "the C interface");
 }
+
+#[test]
+fn waiting_rows() {
+    port::rows::run_job_7(&mut Library::new(1), "the C interface");
+}

@@ -1,7 +1,7 @@
 //! Messages as an initiator writes them, and what the tests need around them. Each test program uses a part of it.
 #![allow(dead_code)]
 
-use srp_target::{Message, Port, Refusal, Settings, Tables, TakeRefusal, Taken, MESSAGE_BYTES};
+use srp_target::{Message, Port, Refusal, Settings, TakeRefusal, Taken, MESSAGE_BYTES};
 
 pub const OWN: [u8; 16] = [1, 2, 3, 4, 5, 6, 7, 8, 9, 10, 11, 12, 13, 14, 15, 16];
 pub const SETTINGS: Settings =
@@ -156,18 +156,24 @@ pub fn answer(solnt: u8, delta: u8, tag: u64, code: u8) -> [u8; 40] {
     msg
 }
 
-/// Takes a command without tables. Panics where it is refused.
+/// Takes a command without a fetch. Panics where it is refused, or waits.
 pub fn take_command(port: &mut Port, msg: &[u8]) {
+    assert!(!take_and_wait(port, msg), "it waits");
+}
+
+/// Takes a command: whether it waits for its tables. Panics where it is refused.
+pub fn take_and_wait(port: &mut Port, msg: &[u8]) -> bool {
     let mut buf = lent();
-    let taken = port.take(msg, Tables::NONE, &mut buf);
-    assert!(matches!(taken, Ok(Taken::Command { .. })), "{taken:02x?}");
+    let taken = port.take(msg, &mut buf);
+    let Ok(Taken::Command { waits, .. }) = taken else { panic!("{taken:02x?}") };
     assert!(is_untouched(&buf));
+    waits
 }
 
 /// Aborts the command with a tag, by a task request with tag 99. Panics where that is refused.
 pub fn abort(port: &mut Port, tag: u64) {
     let (msg, mut buf) = (task(99, LUN, 0x01, tag), lent());
-    let taken = port.take(&msg, Tables::NONE, &mut buf);
+    let taken = port.take(&msg, &mut buf);
     assert!(matches!(taken, Ok(Taken::Task { .. })), "{taken:02x?}");
 }
 
@@ -176,10 +182,7 @@ pub fn abort(port: &mut Port, tag: u64) {
 pub fn hangs_up(port: &mut Port, msg: &[u8], refusal: Refusal, reason: u32) {
     let mut buf = lent();
     let message = target_logout(reason);
-    assert_eq!(
-        port.take(msg, Tables::NONE, &mut buf),
-        Err(TakeRefusal::HungUp { refusal, message: Message(&message) })
-    );
+    assert_eq!(port.take(msg, &mut buf), Err(TakeRefusal::HungUp { refusal, message: Message(&message) }));
     assert_eq!(buf[..16], message);
     assert!(is_untouched(&buf[16..]));
     assert_eq!(port.counters(), Err(Refusal::Closed));

@@ -4,6 +4,8 @@ use std::ops::Range;
 
 use super::command::Request;
 use super::cutting::sum_of_lengths;
+use super::descriptors::Descriptor;
+use super::Refusal;
 use crate::limits::Limits;
 
 /// "Without an accepted login it is closed": None.
@@ -47,6 +49,8 @@ pub struct Credit {
 #[derive(Clone, Debug, PartialEq, Eq)]
 pub struct OpenCommand {
     pub request: Request,
+    /// "The command is open and waiting": its descriptors, data-out and data-in, by which its tables are judged.
+    pub waiting: Option<[Descriptor; 2]>,
     pub data_out: Transfer,
     pub data_in: Transfer,
     pub planned: bool,
@@ -99,6 +103,27 @@ impl Channel {
     /// The place of the open command with that tag.
     pub fn place_of(&self, tag: u64) -> Option<usize> {
         self.commands.iter().position(|command| command.request.tag == tag)
+    }
+}
+
+impl OpenCommand {
+    /// Nothing is planned, named or handed out.
+    pub fn new(request: Request, [data_out, data_in]: [Vec<u8>; 2]) -> Self {
+        let (data_out, data_in) = (Transfer::new(data_out), Transfer::new(data_in));
+        OpenCommand { request, waiting: None, data_out, data_in, planned: false }
+    }
+
+    /// It has no segments until its tables are brought.
+    pub fn that_waits(request: Request, descriptors: [Descriptor; 2]) -> Self {
+        OpenCommand { waiting: Some(descriptors), ..OpenCommand::new(request, Default::default()) }
+    }
+
+    /// "33 plan, move, step or finish on a waiting command .. directly after 24."
+    pub fn refused_while_waiting(&self) -> Result<(), Refusal> {
+        match self.waiting {
+            Some(_) => Err(Refusal::Waiting),
+            None => Ok(()),
+        }
     }
 }
 

@@ -131,6 +131,11 @@ impl Descriptor {
         }
     }
 
+    /// F.
+    pub fn fetch_length(&self) -> usize {
+        self.fetch().length as usize
+    }
+
     /// "The segments are the message's copies when they are the whole table, and otherwise the fetched table." As the
     /// bytes of a list; `table` has F bytes.
     pub fn segment_list(&self, table: &[u8]) -> Vec<u8> {

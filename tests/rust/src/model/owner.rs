@@ -7,7 +7,7 @@ use super::Refusal;
 /// "W stays in 1 to 16."
 const MOST_BUFFERS: i64 = 16;
 
-fn returned(outcome: Result<(), Refusal>) -> u32 {
+pub(super) fn returned(outcome: Result<(), Refusal>) -> u32 {
     outcome.map_or_else(Refusal::number, |()| 0)
 }
 
@@ -18,14 +18,14 @@ impl Port {
     }
 
     /// "1 lent buffer under 132 bytes", then 21.
-    fn open_with_buffer(&mut self, buf: &[u8]) -> Result<&mut Channel, Refusal> {
+    pub(super) fn open_with_buffer(&mut self, buf: &[u8]) -> Result<&mut Channel, Refusal> {
         if buf.len() < LENT_BYTES {
             return Err(Refusal::ShortBuffer);
         }
         self.open()
     }
 
-    /// 1, 21, 11, 24. Answer: bytes written.
+    /// 1, 21, 11, 24, 33. Answer: bytes written.
     pub fn finish(&mut self, tag: u64, status: u8, sense: &[u8], buf: &mut [u8], answer: &mut Answer) -> u32 {
         *answer = [0; 8];
         returned(self.open_with_buffer(buf).and_then(|channel| {
@@ -34,6 +34,7 @@ impl Port {
                 return Err(Refusal::Argument);
             }
             let place = channel.place_of(tag).ok_or(Refusal::TagNotOpen)?;
+            channel.commands[place].refused_while_waiting()?;
             let command = channel.commands.remove(place);
             channel.credit.request_ends();
             let delta = channel.credit.carry_delta();

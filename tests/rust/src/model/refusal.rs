@@ -28,6 +28,8 @@ pub enum Refusal {
     // Document 02: "Refused: 31 offset above min(R, B); 32 the direction's earlier move still has pieces."
     Offset = 31,
     EarlierMove = 32,
+    // "33 plan, move, step or finish on a waiting command, or tables for one that isn't waiting."
+    Waiting = 33,
 }
 
 impl Refusal {

@@ -1,6 +1,6 @@
 //! Take: any message to the port.
 
-use super::channel::{Channel, OpenCommand, Port, Transfer};
+use super::channel::{Channel, OpenCommand, Port};
 use super::command::{Command, Request, SRP_CMD};
 use super::writing::{response_with_code, target_logout, write, Answer, LENT_BYTES};
 use super::{number, Refusal};
@@ -11,7 +11,10 @@ pub const SRP_CRED_RSP: u8 = 0x41;
 
 /// What take says of a message that it does not refuse, or refuses and answers.
 enum Taken {
-    Command(Command),
+    Command {
+        command: Command,
+        waits: bool,
+    },
     /// A command with bad fields, and its answer.
     BadFields(Vec<u8>),
     /// A task request, and its answer.
@@ -21,9 +24,9 @@ enum Taken {
 }
 
 impl Port {
-    /// Take's answer words: bytes written, kind, and of a command its tag, LUN, and place and length of the CDB, of a
-    /// task request its tag and LUN.
-    pub fn take(&mut self, msg: &[u8], out_table: &[u8], in_table: &[u8], buf: &mut [u8], answer: &mut Answer) -> u32 {
+    /// Take's answer words: bytes written, kind, and of a command its tag, LUN, place and length of the CDB, and whether
+    /// it waits for its tables, of a task request its tag and LUN.
+    pub fn take(&mut self, msg: &[u8], buf: &mut [u8], answer: &mut Answer) -> u32 {
         *answer = [0; 8];
         if buf.len() < LENT_BYTES {
             return Refusal::ShortBuffer.number();
@@ -31,15 +34,14 @@ impl Port {
         let Some(channel) = &mut self.channel else {
             return Refusal::Closed.number();
         };
-        match channel.take(msg, out_table, in_table) {
+        match channel.take(msg) {
             Err(refusal) => return self.refused(refusal, buf, answer),
             Ok(Taken::BadFields(message)) => {
                 write(&message, buf, answer);
                 return Refusal::BadFields.number();
             }
-            Ok(Taken::Command(command)) => {
-                let (request, cdb) = (command.request, command.cdb);
-                *answer = [0, 1, request.tag, request.lun, cdb.start as u64, cdb.len() as u64, 0, 0];
+            Ok(Taken::Command { command: Command { request, cdb, .. }, waits }) => {
+                *answer = [0, 1, request.tag, request.lun, cdb.start as u64, cdb.len() as u64, waits.into(), 0];
             }
             Ok(Taken::Task(request, message)) => {
                 *answer = [0, 2, request.tag, request.lun, 0, 0, 0, 0];
@@ -78,15 +80,16 @@ fn of_length(msg: &[u8], length: usize) -> Result<(), Refusal> {
 
 impl Channel {
     /// "Take checks 1, 21, 3 (16 and agreed length), 4, 3 (48 for a command), 5, 6, 3 (exact), 7, 8, 22, 23, 9, 10;
-    /// 5 to 10 are for commands alone, 22 and 23 for requests; SRP_CRED_RSP has 25 after its 3."
-    fn take(&mut self, msg: &[u8], out_table: &[u8], in_table: &[u8]) -> Result<Taken, Refusal> {
+    /// 5 to 10 are for commands alone, 22 and 23 for requests; SRP_CRED_RSP has 25 after its 3." But "take will no
+    /// longer need the tables": 9 is gone from here, and 10 is for commands without a fetch.
+    fn take(&mut self, msg: &[u8]) -> Result<Taken, Refusal> {
         if msg.len() < 16 || msg.len() > self.agreement.length as usize {
             return Err(Refusal::Length);
         }
         match msg[0] {
             SRP_CMD => {
                 let command = Command::read(msg, self.agreement.formats)?;
-                self.take_command(command, out_table, in_table)
+                self.take_command(command)
             }
             SRP_TSK_MGMT => {
                 of_length(msg, 48)?;
@@ -112,26 +115,23 @@ impl Channel {
         Ok(())
     }
 
-    fn take_command(&mut self, command: Command, out_table: &[u8], in_table: &[u8]) -> Result<Taken, Refusal> {
+    fn take_command(&mut self, command: Command) -> Result<Taken, Refusal> {
         self.take_request(&command.request)?;
-        // "9 lent table not F bytes."
-        let due = [command.data_out.fetch().length as usize, command.data_in.fetch().length as usize];
-        if [out_table.len(), in_table.len()] != due {
-            return Err(Refusal::TableLength);
-        }
+        // "It counts as held from the moment it was taken."
         self.credit.request_taken();
-        let bad = [command.data_out.bad_field(out_table), command.data_in.bad_field(in_table)];
-        if bad != [None, None] {
+        let descriptors = [&command.data_out, &command.data_in];
+        let waits = descriptors.iter().any(|descriptor| descriptor.fetch_length() > 0);
+        let opened = if waits {
+            // "With a fetch named, the command is open and waiting."
+            OpenCommand::that_waits(command.request, descriptors.map(Clone::clone))
+        } else if descriptors.iter().any(|descriptor| descriptor.bad_field(&[]).is_some()) {
             // "Refusal 10 is taken and answered in the same call."
             return Ok(Taken::BadFields(self.answer_with_code(&command.request, 0x02)));
-        }
-        self.commands.push(OpenCommand {
-            request: command.request,
-            data_out: Transfer::new(command.data_out.segment_list(out_table)),
-            data_in: Transfer::new(command.data_in.segment_list(in_table)),
-            planned: false,
-        });
-        Ok(Taken::Command(command))
+        } else {
+            OpenCommand::new(command.request, descriptors.map(|descriptor| descriptor.segment_list(&[])))
+        };
+        self.commands.push(opened);
+        Ok(Taken::Command { command, waits })
     }
 
     /// "01h aborts the open command with that tag and LUN, if any. 02h, 04h and 08h abort all open commands of the LUN.
@@ -164,7 +164,7 @@ impl Channel {
     }
 
     /// The request ends with a response that has a code.
-    fn answer_with_code(&mut self, request: &Request, code: u8) -> Vec<u8> {
+    pub(super) fn answer_with_code(&mut self, request: &Request, code: u8) -> Vec<u8> {
         self.credit.request_ends();
         let delta = self.credit.carry_delta();
         response_with_code(request.solnt(code), delta, request.tag, code)

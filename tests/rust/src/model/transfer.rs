@@ -18,10 +18,11 @@ impl OpenCommand {
 }
 
 impl Port {
-    /// The open command with that tag, M and Q. "21 closed .. 24 tag not open."
+    /// The open command with that tag, M and Q. "21 closed .. 24 tag not open", then 33.
     fn command(&mut self, tag: u64) -> Result<(&mut OpenCommand, Limits), Refusal> {
         let channel: &mut Channel = self.channel.as_mut().ok_or(Refusal::Closed)?;
         let place = channel.place_of(tag).ok_or(Refusal::TagNotOpen)?;
+        channel.commands[place].refused_while_waiting()?;
         Ok((&mut channel.commands[place], channel.agreement.limits))
     }
 
@@ -34,7 +35,7 @@ impl Port {
         Ok((command, limits))
     }
 
-    /// "Plan states once per command, for each direction, R." 21, 24, 30. "Plan alone starts none": no move.
+    /// "Plan states once per command, for each direction, R." 21, 24, 33, 30. "Plan alone starts none": no move.
     pub fn plan(&mut self, tag: u64, r_out: u32, r_in: u32) -> u32 {
         let command = match self.command(tag) {
             Err(refusal) => return refusal.number(),
@@ -49,7 +50,7 @@ impl Port {
         0
     }
 
-    /// "After plan, the owner names a move: direction, offset, count." 21, 24, 29, 31, 32.
+    /// "After plan, the owner names a move: direction, offset, count." 21, 24, 33, 29, 31, 32.
     pub fn name_move(&mut self, tag: u64, direction: u32, offset: u32, count: u32) -> u32 {
         let transfer = match self.planned(tag) {
             Err(refusal) => return refusal.number(),
@@ -69,7 +70,7 @@ impl Port {
     }
 
     /// "Step names a tag and a direction and hands out the next piece there, or says done"; "step serves the pieces of
-    /// that direction's current move". 21, 24, 29.
+    /// that direction's current move". 21, 24, 33, 29.
     pub fn step(&mut self, tag: u64, direction: u32, answer: &mut Answer) -> u32 {
         *answer = [0; 8];
         let (command, limits) = match self.planned(tag) {

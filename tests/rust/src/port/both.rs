@@ -34,8 +34,17 @@ impl Both {
         self.model.clone_from(&saved.model);
     }
 
+    fn compare(&mut self, call: &Call) -> Outcome {
+        let library = self.library.call(call);
+        let model = self.model.call(call);
+        assert!(library == model, "{call:02x?}\nlibrary: {library:02x?}\n  model: {model:02x?}");
+        library
+    }
+}
+
+impl Target for Both {
     /// The outcome of both. Panics where they differ, or where afterwards the counters or the listing do.
-    pub fn call(&mut self, call: &Call) -> Outcome {
+    fn call(&mut self, call: &Call) -> Outcome {
         let outcome = self.compare(call);
         let counters = self.compare(&Call::Counters);
         self.words = 64 + (self.words + 1) % 9;
@@ -43,12 +52,5 @@ impl Both {
         let listed = self.compare(&Call::List { records });
         assert_eq!(counters.answer[2], listed.answer[0], "H, and how many are listed");
         outcome
-    }
-
-    fn compare(&mut self, call: &Call) -> Outcome {
-        let library = self.library.call(call);
-        let model = self.model.call(call);
-        assert!(library == model, "{call:02x?}\nlibrary: {library:02x?}\n  model: {model:02x?}");
-        library
     }
 }

@@ -8,7 +8,8 @@ use crate::model::writing::Answer;
 #[derive(Clone, Debug)]
 pub enum Call {
     Login { settings: [u32; 5], boundary: u64, own: [u8; 16], msg: Vec<u8>, buf: Vec<u8> },
-    Take { msg: Vec<u8>, tables: [Vec<u8>; 2], buf: Vec<u8> },
+    Take { msg: Vec<u8>, buf: Vec<u8> },
+    Tables { tag: u64, tables: [Vec<u8>; 2], buf: Vec<u8> },
     Plan { tag: u64, r_out: u32, r_in: u32 },
     Move { tag: u64, direction: u32, offset: u32, count: u32 },
     Step { tag: u64, direction: u32 },
@@ -39,6 +40,13 @@ pub trait Target {
     fn call(&mut self, call: &Call) -> Outcome;
 }
 
+/// A target that can go back to what it was.
+pub trait Restore: Target {
+    type State;
+    fn state(&self) -> Self::State;
+    fn restore(&mut self, state: Self::State);
+}
+
 /// The parts of a call that lie in memory, as slices.
 pub struct Lent<'a> {
     pub settings: &'a [u32],
@@ -55,6 +63,7 @@ impl Call {
         match self {
             Call::Login { .. } => "login",
             Call::Take { .. } => "take",
+            Call::Tables { .. } => "tables",
             Call::Plan { .. } => "plan",
             Call::Move { .. } => "move",
             Call::Step { .. } => "step",
@@ -92,7 +101,7 @@ impl Call {
 
     pub fn tables(&self) -> [&[u8]; 2] {
         match self {
-            Call::Take { tables: [out, inn], .. } => [out, inn],
+            Call::Tables { tables: [out, inn], .. } => [out, inn],
             _ => [&[], &[]],
         }
     }
@@ -101,6 +110,7 @@ impl Call {
         match self {
             Call::Login { buf, .. }
             | Call::Take { buf, .. }
+            | Call::Tables { buf, .. }
             | Call::Finish { buf, .. }
             | Call::Grant { buf }
             | Call::Close { buf, .. } => buf,
@@ -121,7 +131,7 @@ impl Call {
 
     /// Whether the store is lent with the call.
     pub fn has_store(&self) -> bool {
-        matches!(self, Call::Take { .. } | Call::Step { .. })
+        matches!(self, Call::Take { .. } | Call::Tables { .. } | Call::Step { .. })
     }
 
     /// The call on the library; `lent` holds what the call has of it.
@@ -131,7 +141,8 @@ impl Call {
                 let settings = lent.settings.try_into().expect("five settings");
                 port.login(settings, boundary, lent.own.try_into().expect("16 bytes"), lent.input, lent.buf)
             }
-            Call::Take { .. } => port.take(lent.input, lent.tables, lent.buf),
+            Call::Take { .. } => port.take(lent.input, lent.buf),
+            Call::Tables { tag, .. } => port.tables(tag, lent.tables, lent.buf),
             Call::Plan { tag, r_out, r_in } => port.plan(tag, r_out, r_in),
             Call::Move { tag, direction, offset, count } => port.name_move(tag, direction, offset, count),
             Call::Step { tag, direction } => port.step(tag, direction),
@@ -153,7 +164,8 @@ impl Target for model::Port {
             Call::Login { settings, boundary, own, msg, .. } => {
                 self.login(settings, *boundary, own, msg, &mut buf, &mut answer)
             }
-            Call::Take { msg, tables: [out, inn], .. } => self.take(msg, out, inn, &mut buf, &mut answer),
+            Call::Take { msg, .. } => self.take(msg, &mut buf, &mut answer),
+            Call::Tables { tag, .. } => self.tables(*tag, call.tables(), &mut buf, &mut answer),
             Call::Plan { tag, r_out, r_in } => self.plan(*tag, *r_out, *r_in),
             Call::Move { tag, direction, offset, count } => self.name_move(*tag, *direction, *offset, *count),
             Call::Step { tag, direction } => self.step(*tag, *direction, &mut answer),
@@ -166,6 +178,18 @@ impl Target for model::Port {
             Call::List { .. } => self.list(&mut records, &mut answer),
         };
         Outcome { returned, answer, buf, records }
+    }
+}
+
+impl Restore for model::Port {
+    type State = model::Port;
+
+    fn state(&self) -> model::Port {
+        self.clone()
+    }
+
+    fn restore(&mut self, state: model::Port) {
+        *self = state;
     }
 }
 

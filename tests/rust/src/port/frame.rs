@@ -5,6 +5,9 @@ use super::call::{Call, Outcome, UNWRITTEN};
 use crate::interface::{PORT_WORDS, STORE_BYTES};
 use crate::model::Refusal;
 
+/// A command's place in the store: data-out, and from the middle on data-in.
+const PLACE_BYTES: usize = 1024;
+
 /// A port as its owner keeps it.
 #[derive(Clone)]
 pub struct Memory {
@@ -30,12 +33,13 @@ impl Memory {
     }
 }
 
-/// "Every other refusal returns its number and alters nothing": all but take's 10 and those that hang up. A login makes
-/// a port whatever its outcome.
+/// "Every other refusal returns its number and alters nothing": all but 10, of take and of tables, and those that hang
+/// up. A login makes a port whatever its outcome.
 fn alters_nothing(call: &Call, returned: u32) -> bool {
     match call {
         Call::Login { .. } => false,
         Call::Take { .. } => returned != 0 && returned != 10 && !Refusal::hangs_up(returned),
+        Call::Tables { .. } => returned != 0 && returned != 10,
         _ => returned != 0,
     }
 }
@@ -50,9 +54,24 @@ fn closes(call: &Call, outcome: &Outcome) -> bool {
     }
 }
 
-/// "The store is written for a command taken, and for nothing else."
-fn writes_store(call: &Call, outcome: &Outcome) -> bool {
-    matches!(call, Call::Take { .. }) && outcome.returned == 0 && outcome.answer[1] == 1
+/// What of the store may be written: for a command taken one place of it, for its tables those of its place, each as it
+/// was lent, and else nothing.
+fn writes_lawfully(call: &Call, outcome: &Outcome, [before, after]: [&[u8]; 2]) -> bool {
+    match call {
+        _ if before == after => true,
+        Call::Take { .. } if outcome.returned == 0 && outcome.answer[1] == 1 => {
+            let places = before.chunks(PLACE_BYTES).zip(after.chunks(PLACE_BYTES));
+            places.filter(|(before, after)| before != after).count() == 1
+        }
+        Call::Tables { .. } if outcome.returned == 0 => (0..before.len()).step_by(PLACE_BYTES).any(|place| {
+            let mut expected = before.to_vec();
+            for (at, table) in [place, place + PLACE_BYTES / 2].into_iter().zip(call.tables()) {
+                expected[at..at + table.len()].copy_from_slice(table);
+            }
+            expected == after
+        }),
+        _ => false,
+    }
 }
 
 /// Calls that leave the port as it was where they are not refused: the two that only read, and a step that says done.
@@ -95,8 +114,8 @@ pub fn check(call: &Call, outcome: &Outcome, change: &Change) {
     if !call.has_answer() && outcome.answer != UNWRITTEN {
         fail("the answer words were written by a call that has none");
     }
-    if !writes_store(call, outcome) && !same_store {
-        fail("the store was written, and no command was taken");
+    if !writes_lawfully(call, outcome, change.store) {
+        fail("the store was written, and not as a command taken or its tables write it");
     }
     if only_reads(call, outcome) && !same_words {
         fail("a call that only reads wrote the port");

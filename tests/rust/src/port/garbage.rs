@@ -1,6 +1,8 @@
 //! Calls on words that no login made. "The calls are total: any words are a port": each returns, and what `frame` says
 //! holds; the numbers that are read lie in document 01's ranges.
 
+mod waiting;
+
 use super::call::{Call, Outcome, Target};
 use super::frame::Memory;
 use super::generate::Generator;
@@ -42,6 +44,8 @@ pub struct Garbage<T> {
     pub tally: Tally,
     /// Pieces, by what stands for Q in the words.
     pub pieces: Tally,
+    /// Tables, by what the words of their command's slot say.
+    pub tables: Tally,
 }
 
 impl<T: InMemory> Garbage<T> {
@@ -53,6 +57,7 @@ impl<T: InMemory> Garbage<T> {
             random: Random::new(!seed),
             tally: Tally::default(),
             pieces: Tally::default(),
+            tables: Tally::default(),
         }
     }
 
@@ -60,8 +65,16 @@ impl<T: InMemory> Garbage<T> {
     pub fn round(&mut self) {
         self.make_port();
         for _ in 0..16 {
-            let call = self.generator.call(&self.guide);
+            let call = match self.random.one_in(10) {
+                true => waiting::tables(&mut self.random, self.target.memory()),
+                false => self.generator.call(&self.guide),
+            };
+            let expected = waiting::expected(&call, self.target.memory());
             let outcome = self.target.call(&call);
+            if let Some((refusal, kind)) = expected {
+                assert_eq!(outcome.returned, refusal, "{kind}: {call:02x?}");
+                self.tables.add(kind);
+            }
             self.assert_lawful(&call, &outcome);
             self.tally.add(kinds::outcome(&call, &outcome));
             self.assert_counted(&call, &outcome);
@@ -97,6 +110,9 @@ impl<T: InMemory> Garbage<T> {
         if random.one_in(3) {
             memory.store = random.bytes(memory.store.len());
         }
+        if random.one_in(5) {
+            waiting::write_words(random, memory);
+        }
     }
 
     /// An open port, as some calls after a login leave it.
@@ -116,10 +132,10 @@ impl<T: InMemory> Garbage<T> {
     fn assert_lawful(&mut self, call: &Call, outcome: &Outcome) {
         let kind = kinds::outcome(call, outcome);
         assert!(kinds::OUTCOMES.contains(&kind.as_str()), "{kind}: {call:02x?}\n{outcome:02x?}");
-        if let (Call::Take { .. }, returned) = (call, outcome.returned) {
-            let length = match (returned, outcome.answer[1]) {
+        if let Call::Take { .. } | Call::Tables { .. } = call {
+            let length = match (outcome.returned, outcome.answer[1]) {
                 (0, 2) | (10, _) => 40,
-                (0 | 1 | 9 | 21, _) => 0,
+                (0 | 1 | 9 | 21 | 24 | 33, _) => 0,
                 _ => 16,
             };
             assert_eq!(outcome.answer[0], length, "{call:02x?}\n{outcome:02x?}");

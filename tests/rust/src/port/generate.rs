@@ -4,6 +4,9 @@ mod data;
 mod login;
 mod message;
 mod owner;
+mod tables;
+
+use std::collections::BTreeMap;
 
 use super::call::Call;
 use crate::model::channel::OpenCommand;
@@ -11,7 +14,7 @@ use crate::model::{Channel, Port};
 use crate::random::Random;
 
 pub use data::Data;
-pub use message::{command, request_with};
+pub use message::{command, request_with, Sent};
 
 /// How an initiator and an owner behave from one login to the next.
 #[derive(Clone, Copy, PartialEq)]
@@ -25,7 +28,11 @@ enum Manner {
 pub struct Generator {
     random: Random,
     manner: Manner,
+    memory: Memory,
 }
+
+/// The tables in the initiator's memory that the last command of each tag describes: data-out, data-in.
+type Memory = BTreeMap<u64, [Vec<u8>; 2]>;
 
 /// So few tags that they meet, and tags that are alike but for one byte.
 #[rustfmt::skip]
@@ -59,7 +66,7 @@ fn record_list(random: &mut Random) -> Vec<u64> {
 
 impl Generator {
     pub fn new(seed: u64) -> Self {
-        Generator { random: Random::new(seed), manner: Manner::Wild }
+        Generator { random: Random::new(seed), manner: Manner::Wild, memory: Memory::new() }
     }
 
     /// The next call. A closed port soon gets a login.
@@ -80,7 +87,7 @@ impl Generator {
     /// A call that draws 21, or 1.
     fn call_on_closed(&mut self) -> Call {
         let random = &mut self.random;
-        match random.below(11) {
+        match random.below(12) {
             0 => message::any(random),
             1 => Call::Plan { tag: random.of(&TAGS), r_out: random.any_size(), r_in: random.any_size() },
             2 => Call::Step { tag: random.of(&TAGS), direction: random.any_size() },
@@ -93,6 +100,7 @@ impl Generator {
             9 => {
                 Call::Move { tag: random.of(&TAGS), direction: random.any_size(), offset: 0, count: random.any_size() }
             }
+            10 => Call::Tables { tag: random.of(&TAGS), tables: Default::default(), buf: buffer(random) },
             _ => Call::List { records: record_list(random) },
         }
     }
@@ -105,10 +113,15 @@ impl Generator {
         let careful = self.manner == Manner::Careful;
         // Without an open command mostly a request comes next.
         let nothing_open = channel.commands.is_empty() && random.one_in(2);
-        match if nothing_open { 0 } else { random.below(100) } {
+        match if nothing_open { 0 } else { random.below(110) } {
             // A careful initiator without credit sends no request.
             0..=29 if careful && channel.credit.announced == 0 => owner::step(random, channel),
-            0..=29 => message::request(random, channel, careful),
+            0..=29 => {
+                let Sent { msg, tables } = message::request(random, channel, careful);
+                self.memory.extend(tables);
+                Call::Take { msg, buf: buffer(random) }
+            }
+            100..=109 => tables::tables(random, channel, &self.memory),
             30..=35 => message::other(random, channel, careful),
             36..=43 => owner::plan(random, channel),
             44..=53 => owner::name_move(random, channel),

@@ -3,12 +3,13 @@
 pub mod logins;
 mod messages;
 pub mod moves;
+pub mod tables;
 
 use super::call::{Call, Outcome};
-use crate::model::{number, Channel, Command, Port};
+use crate::model::{number, Channel, Port};
 
 /// The outcomes that calls have, one a call: a refusal, or what the call gave.
-pub const OUTCOMES: [&str; 71] = [
+pub const OUTCOMES: [&str; 82] = [
     "login: accepted",
     "login: rejected 10000",
     "login: rejected 10002",
@@ -20,6 +21,7 @@ pub const OUTCOMES: [&str; 71] = [
     "login: refused 3",
     "login: refused 4",
     "take: command",
+    "take: command that waits",
     "take: task, code 0",
     "take: task, code 2",
     "take: task, code 4",
@@ -32,33 +34,43 @@ pub const OUTCOMES: [&str; 71] = [
     "take: refused 6",
     "take: refused 7",
     "take: refused 8",
-    "take: refused 9",
     "take: refused 10",
     "take: refused 21",
     "take: refused 22",
     "take: refused 23",
     "take: refused 25",
+    "tables: done",
+    "tables: refused 1",
+    "tables: refused 9",
+    "tables: refused 10",
+    "tables: refused 21",
+    "tables: refused 24",
+    "tables: refused 33",
     "plan: done",
     "plan: refused 21",
     "plan: refused 24",
     "plan: refused 30",
+    "plan: refused 33",
     "move: done",
     "move: refused 21",
     "move: refused 24",
     "move: refused 29",
     "move: refused 31",
     "move: refused 32",
+    "move: refused 33",
     "step: RDMA Read",
     "step: RDMA Write",
     "step: done",
     "step: refused 21",
     "step: refused 24",
     "step: refused 29",
+    "step: refused 33",
     "finish: done",
     "finish: refused 1",
     "finish: refused 11",
     "finish: refused 21",
     "finish: refused 24",
+    "finish: refused 33",
     "add: done",
     "add: refused 11",
     "add: refused 21",
@@ -90,6 +102,7 @@ pub fn outcome(call: &Call, outcome: &Outcome) -> String {
     match (call, outcome.answer) {
         (Call::Login { .. }, [_, 0, ..]) => "login: accepted".into(),
         (Call::Login { .. }, [_, reason, ..]) => format!("login: rejected {reason:x}"),
+        (Call::Take { .. }, [_, 1, _, _, _, _, 1, _]) => "take: command that waits".into(),
         (Call::Take { .. }, [_, 1, ..]) => "take: command".into(),
         (Call::Take { .. }, [_, 2, ..]) => format!("take: task, code {:x}", outcome.buf[39]),
         (Call::Take { .. }, [_, 3, ..]) => "take: credit response".into(),
@@ -101,8 +114,8 @@ pub fn outcome(call: &Call, outcome: &Outcome) -> String {
 }
 
 /// Further kinds, several a call: what a command was like, why it was refused, what a message says. `moves` has those
-/// of move and step, `logins` those of a login's boundary.
-pub const FEATURES: [&str; 72] = [
+/// of move and step, `logins` those of a login's boundary, `tables` those of tables and of bad fields.
+pub const FEATURES: [&str; 62] = [
     "SRP_CRED_REQ, delta above 1",
     "SRP_CRED_REQ, delta 1",
     "SRP_CRED_REQ, notified",
@@ -130,9 +143,7 @@ pub const FEATURES: [&str; 72] = [
     "command, formats 2 and 0",
     "command, formats 2 and 1",
     "command, formats 2 and 2",
-    "command, in table fetched",
     "command, longer CDB",
-    "command, out table fetched",
     "command, the 16th",
     "finish, in over",
     "finish, in under",
@@ -154,14 +165,6 @@ pub const FEATURES: [&str; 72] = [
     "owed: 0",
     "owed: above 0",
     "owed: below 0",
-    "refused 10, in Copy",
-    "refused 10, in PastTheEnd",
-    "refused 10, in TableLength",
-    "refused 10, in Total",
-    "refused 10, out Copy",
-    "refused 10, out PastTheEnd",
-    "refused 10, out TableLength",
-    "refused 10, out Total",
     "refused 22, command",
     "refused 22, task",
     "refused 23, command",
@@ -180,15 +183,15 @@ pub const FEATURES: [&str; 72] = [
 /// The features of a call, by the port before it.
 pub fn features(call: &Call, outcome: &Outcome, before: &Port) -> Vec<String> {
     let mut found = logins::features(call, outcome);
-    if let (Call::Take { msg, tables, .. }, Some(channel)) = (call, &before.channel) {
+    if let (Call::Take { msg, .. }, Some(channel)) = (call, &before.channel) {
         match outcome.returned {
-            0 if outcome.answer[1] == 1 => found.extend(of_command(msg, tables, channel)),
+            0 if outcome.answer[1] == 1 => found.extend(of_command(msg, channel)),
             0 if outcome.answer[1] == 2 => found.extend(of_task(msg, channel)),
-            0 | 1 | 9 => {}
-            10 => found.extend(of_bad_fields(msg, tables, channel)),
+            0 | 1 | 10 => {}
             refusal => found.extend(of_hang_up(refusal, msg, channel)),
         }
     }
+    found.extend(before.channel.iter().flat_map(|channel| tables::features(call, outcome, channel)));
     if let (Call::Move { tag, .. } | Call::Step { tag, .. }, Some(channel)) = (call, &before.channel) {
         let command = channel.place_of(*tag).map(|place| &channel.commands[place]);
         let limits = channel.agreement.limits;
@@ -207,14 +210,9 @@ pub fn features(call: &Call, outcome: &Outcome, before: &Port) -> Vec<String> {
     found
 }
 
-fn of_command(msg: &[u8], tables: &[Vec<u8>; 2], channel: &Channel) -> Vec<String> {
+fn of_command(msg: &[u8], channel: &Channel) -> Vec<String> {
     let mut found = vec![format!("command, formats {} and {}", msg[5] >> 4, msg[5] & 0x0f)];
-    let kinds = [
-        (!tables[0].is_empty(), "command, out table fetched"),
-        (!tables[1].is_empty(), "command, in table fetched"),
-        (msg[31] >> 2 != 0, "command, longer CDB"),
-        (channel.commands.len() == 15, "command, the 16th"),
-    ];
+    let kinds = [(msg[31] >> 2 != 0, "command, longer CDB"), (channel.commands.len() == 15, "command, the 16th")];
     found.extend(kinds.into_iter().filter(|(fits, _)| *fits).map(|(_, kind)| kind.into()));
     found
 }
@@ -230,14 +228,6 @@ fn of_task(msg: &[u8], channel: &Channel) -> Option<String> {
     };
     let many = ["0", "1", "several"][aborted.min(2)];
     Some(format!("function {function} aborts {many}"))
-}
-
-fn of_bad_fields(msg: &[u8], [out, inn]: &[Vec<u8>; 2], channel: &Channel) -> Vec<String> {
-    let Ok(command) = Command::read(msg, channel.agreement.formats) else {
-        return vec!["refused 10, not a command".into()];
-    };
-    let bad = [("out", command.data_out.bad_field(out)), ("in", command.data_in.bad_field(inn))];
-    bad.into_iter().filter_map(|(side, bad)| bad.map(|bad| format!("refused 10, {side} {bad:?}"))).collect()
 }
 
 fn of_hang_up(refusal: u32, msg: &[u8], channel: &Channel) -> Option<String> {

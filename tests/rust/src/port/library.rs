@@ -1,7 +1,7 @@
 //! The library's port. Every argument of a call lies in guarded memory of its own, the port and its store too; after
 //! each call every byte around them, every input and what `frame` says is checked.
 
-use super::call::{Call, Lent, Outcome, Target, UNWRITTEN};
+use super::call::{Call, Lent, Outcome, Restore, Target, UNWRITTEN};
 use super::frame::{self, Change, Memory};
 use crate::guarded::{GuardedMemory, Number, Placed, Side};
 use crate::interface::{self, PORT_WORDS, STORE_BYTES};
@@ -128,5 +128,17 @@ impl Target for Library {
             self.memory.store.copy_from_slice(placement.store.values());
         }
         outcome
+    }
+}
+
+impl Restore for Library {
+    type State = Memory;
+
+    fn state(&self) -> Memory {
+        self.memory.clone()
+    }
+
+    fn restore(&mut self, state: Memory) {
+        self.memory = state;
     }
 }

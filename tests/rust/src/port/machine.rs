@@ -2,8 +2,9 @@
 //! the events' arguments, the calls' refusals and the messages written; of the port's state it is given D alone, as
 //! owed". Its own counts say what each message lifts, which operations are handed out and how many of a move, and which
 //! call is refused for what went before; what is in a command it reads with the model (`expected`). Its own list of the
-//! commands that were open says in which order they are listed. All of it is asserted of each event, as demand 3 has
-//! it, and so is the type of the message that is written. Each message sent is traced too (`lines`).
+//! commands that were open says in which order they are listed. "The new call is an event of demand 3": tables are
+//! brought for any command at any time (`tables`). All of it is asserted of each event, as demand 3 has it, and so is
+//! the type of the message that is written. Each message sent is traced too (`lines`).
 
 mod ends;
 mod expected;
@@ -11,6 +12,7 @@ mod initiator;
 mod lines;
 mod owner;
 mod pieces;
+mod tables;
 
 use super::call::{Call, Outcome, Target};
 use super::kinds;
@@ -69,7 +71,8 @@ impl<T: Target> Machine<T> {
     }
 
     fn event(&mut self) -> Channel {
-        match self.random.below(100) {
+        match self.random.below(108) {
+            100.. => self.bring(),
             0..=22 => self.send(),
             23..=37 => self.deliver(),
             38..=56 => return self.take(),

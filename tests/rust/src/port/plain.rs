@@ -1,6 +1,6 @@
 //! Calls without a fault, for tests that bring a port to a certain state, and a port in plain memory.
 
-use super::call::{Call, UNWRITTEN};
+use super::call::{Call, Target, UNWRITTEN};
 use super::frame::Memory;
 use super::generate::Data;
 use crate::generate::{list_of, Descriptor};
@@ -64,7 +64,12 @@ fn indirect(segments: &[MemoryDescriptor], copied: usize) -> Descriptor {
 
 /// None of the segments in the message.
 pub fn fetched(segments: &[MemoryDescriptor]) -> Data {
-    Data { descriptor: indirect(segments, 0), table: list_of(segments) }
+    fetched_beside(segments, 0)
+}
+
+/// The first of the segments, so many and not all, in the message too.
+pub fn fetched_beside(segments: &[MemoryDescriptor], copied: usize) -> Data {
+    Data { descriptor: indirect(segments, copied), table: list_of(segments) }
 }
 
 /// All of the segments, one at least, in the message: nothing is to be fetched.
@@ -72,8 +77,23 @@ pub fn copied(segments: &[MemoryDescriptor]) -> Data {
     Data { descriptor: indirect(segments, segments.len()), table: Vec::new() }
 }
 
-pub fn take(msg: &[u8], tables: [&[u8]; 2]) -> Call {
-    Call::Take { msg: msg.to_vec(), tables: tables.map(<[u8]>::to_vec), buf: buffer(140) }
+pub fn take(msg: &[u8]) -> Call {
+    Call::Take { msg: msg.to_vec(), buf: buffer(140) }
+}
+
+pub fn tables(tag: u64, tables: [&[u8]; 2]) -> Call {
+    Call::Tables { tag, tables: tables.map(<[u8]>::to_vec), buf: buffer(140) }
+}
+
+/// Takes a command and, where it waits for its tables, brings them. Panics where either is refused.
+pub fn open(target: &mut impl Target, msg: &[u8], data: &[Data; 2]) {
+    let taken = target.call(&take(msg));
+    let [_, 1, tag, _, _, _, waits, _] = taken.answer else { panic!("not taken: {taken:02x?}") };
+    let lent = data.each_ref().map(|data| &data.table[..]);
+    assert_eq!(waits == 1, lent.iter().any(|table| !table.is_empty()), "whether it waits");
+    if waits == 1 {
+        assert_eq!(target.call(&tables(tag, lent)).returned, 0, "tables");
+    }
 }
 
 pub fn finish(tag: u64) -> Call {

@@ -1,81 +1,117 @@
 //! The rows of tests/rows that are calls on a port.
 
 mod counts;
+mod earlier;
 
-use super::call::{Call, Outcome, Target, UNWRITTEN};
+use super::call::{Call, Outcome, Restore, UNWRITTEN};
 use crate::model::number as field;
 use crate::model::writing::Answer;
 use crate::rows::{self, bytes, job, long, number};
+use crate::tally::Tally;
 
 /// Runs the rows of base.rows in their order. "There is one current port. `login` replaces it, whatever its answer."
 /// They know no moves: after each plan that is not refused each direction gets one, offset 0, count R.
-pub fn run_base(target: &mut impl Target, through: &str) {
+pub fn run_base(target: &mut impl Restore, through: &str) {
+    let mut reader = Reader { target, level: 0, lent: Tally::default() };
     rows::run(rows::BASE, &counts::BASE, through, |words| {
-        let (call, returned) = judge(target, &job::with_no_boundary(words), 0)?;
+        let (call, returned) = reader.judge(&job::with_no_boundary(words))?;
         if let (Call::Plan { tag, r_out, r_in }, 0) = (call, returned) {
             for (direction, count) in [(0, r_out), (1, r_in)] {
-                let named = target.call(&Call::Move { tag, direction, offset: 0, count });
+                let named = reader.target.call(&Call::Move { tag, direction, offset: 0, count });
                 assert_eq!(named.returned, 0, "a move of all of a direction");
             }
         }
         Ok(())
     });
+    reader.assert_lent(counts::BASE_LENT);
 }
 
-pub fn run_job_1(target: &mut impl Target, through: &str) {
-    run_job(rows::JOB_1, &counts::JOB_1, 1, target, through);
+pub fn run_job_1(target: &mut impl Restore, through: &str) {
+    run_job(rows::JOB_1, &counts::JOB_1, 1, target, through).assert_lent(counts::JOB_1_LENT);
 }
 
-pub fn run_job_4(target: &mut impl Target, through: &str) {
-    run_job(rows::JOB_4, &counts::JOB_4, 4, target, through);
+pub fn run_job_4(target: &mut impl Restore, through: &str) {
+    run_job(rows::JOB_4, &counts::JOB_4, 4, target, through).assert_lent(counts::JOB_4_LENT);
 }
 
-pub fn run_job_5(target: &mut impl Target, through: &str) {
-    run_job(rows::JOB_5, &counts::JOB_5, 5, target, through);
+pub fn run_job_5(target: &mut impl Restore, through: &str) {
+    run_job(rows::JOB_5, &counts::JOB_5, 5, target, through).assert_lent(counts::JOB_5_LENT);
 }
 
-pub fn run_job_6(target: &mut impl Target, through: &str) {
-    run_job(rows::JOB_6, &counts::JOB_6, 6, target, through);
+pub fn run_job_6(target: &mut impl Restore, through: &str) {
+    run_job(rows::JOB_6, &counts::JOB_6, 6, target, through).assert_lent(counts::JOB_6_LENT);
+}
+
+pub fn run_job_7(target: &mut impl Restore, through: &str) {
+    run_job(rows::JOB_7, &counts::JOB_7, 7, target, through).assert_lent([0; 4]);
 }
 
 /// Runs the rows of a job's file in their order. A session begins with a closed port.
-fn run_job(file: &str, kinds: &[(&str, usize)], level: u32, target: &mut impl Target, through: &str) {
+fn run_job<'a, T: Restore>(
+    file: &str,
+    kinds: &[(&str, usize)],
+    level: u32,
+    target: &'a mut T,
+    through: &str,
+) -> Reader<'a, T> {
+    let mut reader = Reader { target, level, lent: Tally::default() };
     rows::run(file, kinds, through, |words| {
         if words[0] == "session" {
             assert_eq!(number(words[1]), level, "the level of {file}");
-            return close(target);
+            return reader.close();
         }
         let row = job::in_base_words(words);
-        judge(target, &row.split(' ').collect::<Vec<&str>>(), level).map(|_| ())
+        reader.judge(&row.split(' ').collect::<Vec<&str>>()).map(|_| ())
     });
+    reader
 }
 
-/// By a login that is refused.
-fn close(target: &mut impl Target) -> Result<(), String> {
-    let login = Call::Login { settings: [0; 5], boundary: 0, own: [0; 16], msg: Vec::new(), buf: Vec::new() };
-    match target.call(&login).returned {
-        1 => Ok(()),
-        other => Err(format!("a login without a buffer returned {other}")),
-    }
+/// Puts rows of a level to a target, and counts those of a take that is lent tables.
+struct Reader<'a, T> {
+    target: &'a mut T,
+    level: u32,
+    lent: Tally,
 }
 
-/// Makes a row's call and compares; the call, and what it returned. Below level 4 the rows know no number of a step,
-/// and below level 5 no order of a listing's records.
-fn judge(target: &mut impl Target, words: &[&str], level: u32) -> Result<(Call, u32), String> {
-    let equals = words.iter().position(|&word| word == "=").expect("an answer");
-    let (call, answer) = (read_call(&words[..equals]), &words[equals + 1..]);
-    let mut expected = read_outcome(&call, answer);
-    let mut outcome = target.call(&call);
-    if level < 4 && matches!(call, Call::Step { .. }) {
-        outcome.answer[6] = 0;
+impl<T: Restore> Reader<'_, T> {
+    /// By a login that is refused.
+    fn close(&mut self) -> Result<(), String> {
+        let login = Call::Login { settings: [0; 5], boundary: 0, own: [0; 16], msg: Vec::new(), buf: Vec::new() };
+        match self.target.call(&login).returned {
+            1 => Ok(()),
+            other => Err(format!("a login without a buffer returned {other}")),
+        }
     }
-    if level < 5 && matches!(call, Call::List { .. }) {
-        [&mut expected, &mut outcome].into_iter().for_each(sort_listed);
+
+    /// Makes a row's call and compares; the call, and what it returned. Below level 4 the rows know no number of a
+    /// step, below level 5 no order of a listing's records, and below level 7 a take is lent tables.
+    fn judge(&mut self, words: &[&str]) -> Result<(Call, u32), String> {
+        let equals = words.iter().position(|&word| word == "=").expect("an answer");
+        let (call, answer) = (read_call(&words[..equals]), &words[equals + 1..]);
+        let mut expected = read_outcome(&call, answer);
+        let mut outcome = match words {
+            ["take", _, out, inn, ..] if self.level < 7 => {
+                earlier::take(self.target, &call, [bytes(out), bytes(inn)], &mut self.lent)
+            }
+            _ => self.target.call(&call),
+        };
+        if self.level < 4 && matches!(call, Call::Step { .. }) {
+            outcome.answer[6] = 0;
+        }
+        if self.level < 5 && matches!(call, Call::List { .. }) {
+            [&mut expected, &mut outcome].into_iter().for_each(sort_listed);
+        }
+        if outcome != expected {
+            return Err(format!("{call:02x?}\nexpected {expected:02x?}\n     got {outcome:02x?}"));
+        }
+        Ok((call, outcome.returned))
     }
-    if outcome != expected {
-        return Err(format!("{call:02x?}\nexpected {expected:02x?}\n     got {outcome:02x?}"));
+
+    /// How many takes were lent tables, by what these came to.
+    fn assert_lent(&self, counts: [u64; 4]) {
+        assert_eq!(earlier::KINDS.map(|kind| self.lent.count(kind)), counts, "{:?}", earlier::KINDS);
+        assert_eq!(self.lent.total(), counts.iter().sum::<u64>(), "of other kinds");
     }
-    Ok((call, outcome.returned))
 }
 
 /// Sorts the records listed: "the order of its records is free".
@@ -106,8 +142,9 @@ fn read_call(words: &[&str]) -> Call {
             msg: bytes(msg),
             buf: lent(length, fill),
         },
-        ["take", msg, out, inn, length, fill] => {
-            Call::Take { msg: bytes(msg), tables: [bytes(out), bytes(inn)], buf: lent(length, fill) }
+        ["take", msg, _, _, length, fill] => Call::Take { msg: bytes(msg), buf: lent(length, fill) },
+        ["tables", tag, out, inn, length, fill] => {
+            Call::Tables { tag: long(tag), tables: [bytes(out), bytes(inn)], buf: lent(length, fill) }
         }
         ["plan", tag, r_out, r_in] => Call::Plan { tag: long(tag), r_out: number(r_out), r_in: number(r_in) },
         ["move", tag, way, offset, count] => {
@@ -168,10 +205,14 @@ fn read_outcome(call: &Call, words: &[&str]) -> Outcome {
     Outcome { returned, answer, buf, records }
 }
 
-/// `command TAG LUN CDB_OFFSET CDB_LENGTH`; of a task request the tag and the LUN are the message's.
+/// `command TAG LUN CDB_OFFSET CDB_LENGTH`, and but for base.rows whether it waits; of a task request the tag and the
+/// LUN are the message's.
 fn take_answer(msg: &[u8], kind: &str, fields: &[&str]) -> Answer {
     match (kind, fields) {
-        ("command", [tag, lun, at, length]) => [0, 1, long(tag), long(lun), long(at), long(length), 0, 0],
+        ("command", [tag, lun, at, length]) | ("command", [tag, lun, at, length, "ready"]) => {
+            [0, 1, long(tag), long(lun), long(at), long(length), 0, 0]
+        }
+        ("command", [tag, lun, at, length, "waiting"]) => [0, 1, long(tag), long(lun), long(at), long(length), 1, 0],
         ("task", []) => [0, 2, field(&msg[8..16]), field(&msg[20..28]), 0, 0, 0, 0],
         ("credit", []) => [0, 3, 0, 0, 0, 0, 0, 0],
         ("logout", []) => [0, 4, 0, 0, 0, 0, 0, 0],
@@ -224,5 +265,10 @@ mod tests {
     #[test]
     fn boundary_rows() {
         super::run_job_6(&mut model::Port::default(), "the model");
+    }
+
+    #[test]
+    fn waiting_rows() {
+        super::run_job_7(&mut model::Port::default(), "the model");
     }
 }

@@ -1,7 +1,7 @@
 //! Random calls on the library's port and on the model's, and a tally of what came up.
 
 use super::both::Both;
-use super::call::Call;
+use super::call::{Call, Target};
 use super::generate::Generator;
 use super::kinds;
 use crate::tally::Tally;

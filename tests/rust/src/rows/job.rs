@@ -1,18 +1,17 @@
-//! Rows of job1.rows, job4.rows, job5.rows and job6.rows in the words of base.rows, with Q behind X or M; and those of
-//! base.rows with it.
+//! Rows of job1.rows, job4.rows and those behind it in the words of base.rows, with Q behind X or M, and of a command
+//! whether it waits; and those of base.rows with Q.
 
 use super::long;
 
-/// The same row without what jobs up to 6 do not know: the channel, which is 0, a second lent buffer and the messages
-/// in it, and whether a command waits for its tables. The number of a step stays behind its other words. The count of
-/// a listing is decimal there, and hexadecimal in base.rows.
+/// The same row without what jobs up to 7 do not know: the channel, which is 0, a second lent buffer and the messages
+/// in it. The number of a step stays behind its other words. The count of a listing is decimal there, and hexadecimal
+/// in base.rows.
 pub fn in_base_words(words: &[&str]) -> String {
     let plain: Vec<&str> = match words {
         ["login", "0", rest @ .., _, _, "=", outcome, number, written, "-"] => {
             let number: &[&str] = if *outcome == "accepted" { &[] } else { &[number] };
             [&["login"], rest, &["=", outcome], number, &[written]].concat()
         }
-        ["take", "0", rest @ .., "ready", written] => [&["take"], rest, &[written]].concat(),
         ["cut", rest @ .., "-"] => [&["cut"], rest].concat(),
         ["cut", ..] => words.to_vec(),
         ["list", "0", records, "=", "ok", count, rest @ ..] => {
@@ -59,13 +58,14 @@ pub fn is_wide(words: &[&str]) -> bool {
 
 #[cfg(test)]
 mod tests {
-    use super::super::{lines, JOB_1, JOB_4, JOB_5, JOB_6};
+    use super::super::{lines, JOB_1, JOB_4, JOB_5, JOB_6, JOB_7};
     use super::*;
 
     /// The rows that are put to C with ffffffff for such a number, and those of login and of the cut with a boundary.
     #[test]
     fn wide_numbers_and_boundaries() {
-        for (file, wide, boundaries) in [(JOB_1, 89, 0), (JOB_4, 113, 0), (JOB_5, 97, 0), (JOB_6, 118, 141 + 173)] {
+        let counts = [(JOB_1, 89, 0), (JOB_4, 113, 0), (JOB_5, 97, 0), (JOB_6, 118, 141 + 173), (JOB_7, 74, 145 + 187)];
+        for (file, wide, boundaries) in counts {
             let text = lines(file);
             let rows = text.iter().map(|line| line.split(' ').collect::<Vec<&str>>());
             let count = |test: fn(&[&str]) -> bool| rows.clone().filter(|words| test(words)).count();

@@ -1,10 +1,16 @@
-//! Messages to the port, with the tables that are lent for them.
+//! Messages to the port, and the tables that they describe.
 
 use super::super::call::Call;
 use super::{buffer, chosen, random_open, Data, LUNS, TAGS};
 use crate::generate;
 use crate::model::{Channel, Command};
 use crate::random::Random;
+
+/// A request, and of a command its tag and the tables that it describes, as they lie in the initiator's memory.
+pub struct Sent {
+    pub msg: Vec<u8>,
+    pub tables: Option<(u64, [Vec<u8>; 2])>,
+}
 
 /// Sets tag and LUN of a request; its notification bits and all that is not read stay as they are.
 pub fn request_with(mut msg: Vec<u8>, tag: u64, lun: u64) -> Vec<u8> {
@@ -29,11 +35,11 @@ fn tag(random: &mut Random, channel: &Channel, unused: bool) -> u64 {
 }
 
 /// A request to an open port.
-pub fn request(random: &mut Random, channel: &Channel, careful: bool) -> Call {
+pub fn request(random: &mut Random, channel: &Channel, careful: bool) -> Sent {
     if random.one_in(6) {
-        take_task(random, channel, careful)
+        Sent { msg: task(random, channel, careful), tables: None }
     } else {
-        take_command(random, channel, careful)
+        some_command(random, channel, careful)
     }
 }
 
@@ -49,15 +55,19 @@ pub fn other(random: &mut Random, channel: &Channel, careful: bool) -> Call {
 }
 
 /// A command that fits the agreed length: without a fault, or with one or two of fields, tables or length.
-fn take_command(random: &mut Random, channel: &Channel, careful: bool) -> Call {
+fn some_command(random: &mut Random, channel: &Channel, careful: bool) -> Sent {
     let agreement = channel.agreement;
     let (tag, lun) = (tag(random, channel, careful), random.of(&LUNS));
     let (mut msg, mut data) = (Vec::new(), [Data::none(), Data::none()]);
     for most in [32, 8, 2, 1] {
-        data = [0, 1].map(|_| Data::lawful(random, agreement.formats, agreement.limits, most));
+        let lawful = |random: &mut Random| Data::lawful(random, agreement.formats, agreement.limits, most);
+        data = [0, 1].map(|_| lawful(random));
         if random.one_in(if careful { 8 } else { 3 }) {
             let at = random.below(2);
             damage(random, &mut data[at], careful, agreement.formats);
+            if random.one_in(2) {
+                data[1 - at] = fetched(random, lawful);
+            }
         }
         let n = if random.one_in(4) { random.below(64) as u8 } else { 0 };
         msg = command(random, tag, lun, n, &data);
@@ -70,11 +80,13 @@ fn take_command(random: &mut Random, channel: &Channel, careful: bool) -> Call {
     if !careful && random.one_in(6) {
         damage_message(random, &mut msg, agreement.length as usize);
     }
-    let [mut out, mut inn] = data.map(|data| data.table);
-    if random.one_in(12) {
-        damage_tables(random, &mut out, &mut inn);
-    }
-    Call::Take { msg, tables: [out, inn], buf: buffer(random) }
+    Sent { msg, tables: Some((tag, data.map(|data| data.table))) }
+}
+
+/// One of these, with a table to fetch if that comes up in a few tries.
+fn fetched(random: &mut Random, lawful: impl Fn(&mut Random) -> Data) -> Data {
+    let mut tried = (0..6).map(|_| lawful(random));
+    tried.find(|data| !data.table.is_empty()).unwrap_or(Data::none())
 }
 
 /// Careful damage draws 10, or nothing, and never closes the channel.
@@ -106,24 +118,8 @@ fn damage_message(random: &mut Random, msg: &mut Vec<u8>, agreed: usize) {
     }
 }
 
-/// Lends a table that is missing, too short, too long, of the other direction, or where none is due.
-fn damage_tables(random: &mut Random, out: &mut Vec<u8>, inn: &mut Vec<u8>) {
-    let length = random.of(&[1, 16, 32, 512]);
-    match random.below(6) {
-        0 => std::mem::swap(out, inn),
-        1 => out.clear(),
-        2 => inn.clear(),
-        3 => out.extend(random.bytes(length)),
-        4 => inn.extend(random.bytes(length)),
-        _ => {
-            let table = if random.one_in(2) { out } else { inn };
-            table.truncate(table.len().saturating_sub(length));
-        }
-    }
-}
-
 /// SRP_TSK_MGMT, mostly about a command that is open.
-fn take_task(random: &mut Random, channel: &Channel, careful: bool) -> Call {
+fn task(random: &mut Random, channel: &Channel, careful: bool) -> Vec<u8> {
     let about = random_open(random, channel);
     let (tag, task_tag) = (tag(random, channel, careful), chosen(about).unwrap_or(random.of(&TAGS)));
     let lun = about.map_or(random.of(&LUNS), |command| command.request.lun);
@@ -137,7 +133,7 @@ fn take_task(random: &mut Random, channel: &Channel, careful: bool) -> Call {
     if !careful && random.one_in(12) {
         msg.resize(random.of(&[16, 47, 49, 64]), 0);
     }
-    Call::Take { msg, tables: unread_tables(random), buf: buffer(random) }
+    msg
 }
 
 /// SRP_CRED_RSP. Where none is due, mostly a grant that makes it due.
@@ -152,20 +148,14 @@ fn credit_response(random: &mut Random, channel: &Channel, careful: bool) -> Cal
     if !careful && random.one_in(6) {
         msg.resize(random.of(&[15, 17, 48]), 0);
     }
-    Call::Take { msg, tables: unread_tables(random), buf: buffer(random) }
-}
-
-/// "Tables lent with non-commands are not looked at."
-fn unread_tables(random: &mut Random) -> [Vec<u8>; 2] {
-    let length = random.of(&[0, 0, 0, 16, 17]);
-    [random.bytes(length), random.bytes(length / 2)]
+    Call::Take { msg, buf: buffer(random) }
 }
 
 fn with_length(random: &mut Random, start: Vec<u8>, lengths: &[usize]) -> Call {
     let length = random.of(lengths);
     let mut msg = random.bytes(length);
     msg[..start.len()].copy_from_slice(&start);
-    Call::Take { msg, tables: unread_tables(random), buf: buffer(random) }
+    Call::Take { msg, buf: buffer(random) }
 }
 
 /// A message of a type that the port does not take, also as long as agreed and one byte longer.
@@ -183,5 +173,5 @@ pub fn any(random: &mut Random) -> Call {
     if let (Some(first), true) = (msg.first_mut(), random.one_in(2)) {
         *first = random.of(&[0x01, 0x02, 0x03, 0x41]);
     }
-    Call::Take { msg, tables: unread_tables(random), buf: buffer(random) }
+    Call::Take { msg, buf: buffer(random) }
 }

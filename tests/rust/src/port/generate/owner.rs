@@ -7,7 +7,7 @@ use crate::model::{segments, Channel};
 use crate::random::Random;
 
 /// Mostly the tag of an open command.
-fn tag(random: &mut Random, command: Option<u64>) -> u64 {
+pub(super) fn tag(random: &mut Random, command: Option<u64>) -> u64 {
     match command {
         Some(tag) if !random.one_in(16) => random.of(&[tag, tag, tag, tag, tag, tag, tag, tag ^ 1 << 63, tag ^ 1]),
         _ => random.of(&TAGS),
@@ -30,7 +30,11 @@ fn required(random: &mut Random, transfer: Option<&Transfer>) -> u32 {
 }
 
 /// Mostly one of the open commands that a test names, else any.
-fn preferred<'a>(random: &mut Random, channel: &'a Channel, test: fn(&OpenCommand) -> bool) -> Option<&'a OpenCommand> {
+pub(super) fn preferred<'a>(
+    random: &mut Random,
+    channel: &'a Channel,
+    test: fn(&OpenCommand) -> bool,
+) -> Option<&'a OpenCommand> {
     let some: Vec<&OpenCommand> = channel.commands.iter().filter(|command| test(command)).collect();
     if some.is_empty() || random.one_in(12) {
         random_open(random, channel)
@@ -40,7 +44,7 @@ fn preferred<'a>(random: &mut Random, channel: &'a Channel, test: fn(&OpenComman
 }
 
 pub fn plan(random: &mut Random, channel: &Channel) -> Call {
-    let command = preferred(random, channel, |command| !command.planned);
+    let command = preferred(random, channel, |command| !command.planned && command.waiting.is_none());
     let r_out = required(random, command.map(|command| &command.data_out));
     let r_in = required(random, command.map(|command| &command.data_in));
     Call::Plan { tag: tag(random, chosen(command)), r_out, r_in }

@@ -4,6 +4,7 @@ use std::collections::VecDeque;
 
 use super::pieces::Pieces;
 use crate::limits::Limits;
+use crate::model::descriptors::Descriptor;
 use crate::model::number;
 
 /// "Start: the port as the login returned it, limit N, no command open, added = withdrawn = 0, two empty queues, one
@@ -35,7 +36,7 @@ pub struct Login {
     pub formats: u32,
 }
 
-/// A message on its way to the port, and the tables that it describes.
+/// A message on its way to the port, and the tables that it describes, in the initiator's memory.
 #[derive(Clone)]
 pub struct Sent {
     pub msg: Vec<u8>,
@@ -46,9 +47,17 @@ pub struct Sent {
 pub struct Open {
     pub tag: u64,
     pub lun: u64,
+    pub waiting: Option<Waiting>,
     pub planned: bool,
-    /// Data-out, data-in.
+    /// Data-out, data-in; without a segment while it waits.
     pub pieces: [Pieces; 2],
+}
+
+/// What a command waits for: its descriptors, data-out and data-in, and the tables that are to be fetched.
+#[derive(Clone)]
+pub struct Waiting {
+    pub descriptors: [Descriptor; 2],
+    pub tables: [Vec<u8>; 2],
 }
 
 impl Open {

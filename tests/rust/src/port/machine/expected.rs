@@ -1,11 +1,12 @@
 //! Which refusal a call draws, and the type of the message that it writes. The model's are the reading of big-endian
 //! fields, a request's tag and LUN, and of a command its 3 (but for 16 bytes and the agreed length), 5 to 8, the lengths
 //! of its tables (9), its bad fields (10) and its segments. All else is the machine's own: 1, 4, 11, the lengths of other
-//! messages, and 22 to 32 by its counts.
+//! messages, which commands wait, and 22 to 33 by its counts.
 
-use super::ends::Ends;
+use super::ends::{Ends, Waiting};
 use super::Call;
 use crate::model::command::Request;
+use crate::model::descriptors::Descriptor;
 use crate::model::{number, Command};
 
 /// A message that take does not refuse for what is in it.
@@ -14,6 +15,15 @@ pub enum Message {
     Task { request: Request, function: u8, task_tag: u64 },
     CreditResponse,
     Logout,
+}
+
+/// "With a fetch named": in either direction.
+pub fn has_fetch(descriptors: [&Descriptor; 2]) -> bool {
+    descriptors.iter().any(|descriptor| descriptor.fetch_length() > 0)
+}
+
+fn are_bad(descriptors: [&Descriptor; 2], tables: [&[u8]; 2]) -> bool {
+    descriptors.iter().zip(tables).any(|(descriptor, table)| descriptor.bad_field(table).is_some())
 }
 
 impl Ends {
@@ -37,8 +47,9 @@ impl Ends {
         }
     }
 
-    /// Take's refusal, 0 for none: 1, 3 to 8 by what the message is, 22, 23 and 25 by the counts, then 9 and 10.
-    pub fn refusal_of_take(&self, msg: &[u8], [out, inn]: &[Vec<u8>; 2], lent: usize) -> u32 {
+    /// Take's refusal, 0 for none: 1, 3 to 8 by what the message is, 22, 23 and 25 by the counts; then 10 of a command
+    /// without a fetch.
+    pub fn refusal_of_take(&self, msg: &[u8], lent: usize) -> u32 {
         if lent < 132 {
             return 1;
         }
@@ -50,12 +61,30 @@ impl Ends {
             Ok(Message::Task { request, .. }) => return self.refusal_of_request(&request),
             Ok(Message::Command(command)) => command,
         };
-        let due = [&command.data_out, &command.data_in].map(|data| data.fetch().length as usize);
-        let bad = command.data_out.bad_field(out).is_some() || command.data_in.bad_field(inn).is_some();
+        let descriptors = [&command.data_out, &command.data_in];
         match self.refusal_of_request(&command.request) {
-            0 if [out.len(), inn.len()] != due => 9,
-            0 if bad => 10,
+            0 if !has_fetch(descriptors) && are_bad(descriptors, [&[], &[]]) => 10,
             refusal => refusal,
+        }
+    }
+
+    /// The refusal of tables: 1, 24, 33, 9, 10.
+    pub fn refusal_of_tables(&self, tag: u64, tables: [&[u8]; 2], lent: usize) -> u32 {
+        if lent < 132 {
+            return 1;
+        }
+        let Some(place) = self.place_of(tag) else {
+            return 24;
+        };
+        let Some(Waiting { descriptors: [out, inn], .. }) = &self.open[place].waiting else {
+            return 33;
+        };
+        if tables.map(<[u8]>::len) != [out.fetch_length(), inn.fetch_length()] {
+            9
+        } else if are_bad([out, inn], tables) {
+            10
+        } else {
+            0
         }
     }
 
@@ -65,7 +94,7 @@ impl Ends {
         match (call, returned) {
             (Call::Login { .. }, 0) => Some(0xc0),
             (Call::Take { msg, .. }, 0) => matches!(self.read(msg), Ok(Message::Task { .. })).then_some(0xc1),
-            (Call::Take { .. }, 10) | (Call::Finish { .. }, 0) => Some(0xc1),
+            (Call::Take { .. } | Call::Tables { .. }, 10) | (Call::Finish { .. }, 0) => Some(0xc1),
             (Call::Take { .. }, 3..=8 | 22 | 23 | 25) => Some(0x80),
             (Call::Grant { .. }, 0) => Some(0x81),
             _ => None,
@@ -82,12 +111,27 @@ impl Ends {
         }
     }
 
+    /// Of all calls that carry a command out: "33 .. directly after 24".
+    fn refusal_of_tag(&self, tag: u64) -> u32 {
+        self.place_of(tag).map_or(24, |place| if self.open[place].waiting.is_some() { 33 } else { 0 })
+    }
+
+    fn is_planned(&self, tag: u64) -> bool {
+        self.place_of(tag).is_some_and(|place| self.open[place].planned)
+    }
+
     pub fn refusal_of_plan(&self, tag: u64) -> u32 {
-        self.place_of(tag).map_or(24, |place| if self.open[place].planned { 30 } else { 0 })
+        match self.refusal_of_tag(tag) {
+            0 if self.is_planned(tag) => 30,
+            refusal => refusal,
+        }
     }
 
     pub fn refusal_of_step(&self, tag: u64) -> u32 {
-        self.place_of(tag).map_or(24, |place| if self.open[place].planned { 0 } else { 29 })
+        match self.refusal_of_tag(tag) {
+            0 if !self.is_planned(tag) => 29,
+            refusal => refusal,
+        }
     }
 
     pub fn refusal_of_move(&self, tag: u64, direction: usize, offset: u32) -> u32 {
@@ -102,10 +146,8 @@ impl Ends {
             1
         } else if sense > 96 || sense > 0 && status != 2 {
             11
-        } else if self.place_of(tag).is_none() {
-            24
         } else {
-            0
+            self.refusal_of_tag(tag)
         }
     }
 

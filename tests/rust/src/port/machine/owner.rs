@@ -1,15 +1,15 @@
 //! The owner's events: the calls on the port. Each asserts the refusal that `expected` says.
 
-use super::ends::{delta, Open, Sent};
-use super::expected::Message;
+use super::ends::{delta, Open, Sent, Waiting};
+use super::expected::{has_fetch, Message};
 use super::pieces::Pieces;
 use super::{Call, Channel, Machine, Outcome, Target};
 use crate::limits::Limits;
-use crate::model::segments;
+use crate::model::{segments, Command};
 use crate::random::Random;
 
 /// 132 bytes or more, else too short.
-fn buffer(random: &mut Random) -> Vec<u8> {
+pub(super) fn buffer(random: &mut Random) -> Vec<u8> {
     let length = random.of(&[132, 132, 132, 132, 133, 140, 160, 200, 131, 16, 0]);
     vec![0x5b; if random.one_in(2) { 132 } else { length }]
 }
@@ -21,55 +21,45 @@ fn residuals_in(message: &[u8]) -> [(u8, u64); 2] {
     [(message[18] >> 2 & 0b11, count(20)), (message[18] >> 4 & 0b11, count(24))]
 }
 
+/// The pieces of a direction with these segments.
+pub(super) fn pieces_of(list: &[u8]) -> Pieces {
+    Pieces::new(&segments(list).collect::<Vec<_>>())
+}
+
 impl<T: Target> Machine<T> {
-    /// "Take gets that queue's front, with any tables. On refusals 1 and 9 the message stays there, else it leaves."
+    /// "Take gets that queue's front." On refusal 1 "the message stays there, else it leaves".
     pub(super) fn take(&mut self) -> Channel {
-        let Some(Sent { msg, mut tables }) = self.ends.to_port.front().cloned() else {
+        let Some(Sent { msg, tables }) = self.ends.to_port.front().cloned() else {
             return Channel::Open;
         };
-        if self.random.one_in(16) {
-            tables[self.random.below(2)] = vec![0x5b; self.random.of(&[0, 16, 15])];
-        }
         let buf = buffer(&mut self.random);
-        let expected = self.ends.refusal_of_take(&msg, &tables, buf.len());
-        let call = Call::Take { msg, tables, buf };
+        let expected = self.ends.refusal_of_take(&msg, buf.len());
+        let call = Call::Take { msg, buf };
         let outcome = self.counted(&call);
         assert_eq!(outcome.returned, expected, "{call:02x?}");
         assert!(outcome.returned != 22 || !self.fair, "a fair request drew 22");
-        if matches!(outcome.returned, 1 | 9) {
+        if outcome.returned == 1 {
             return Channel::Open;
         }
         self.ends.to_port.pop_front();
-        self.taken(&call, &outcome)
+        self.taken(call.input(), tables, &outcome)
     }
 
     /// "A command taken is open until it ends. A task request ends in the same call, as do the open commands that it
     /// aborts and any command that draws 10."
-    fn taken(&mut self, call: &Call, outcome: &Outcome) -> Channel {
-        let (msg, [out, inn]) = (call.input(), call.tables());
+    fn taken(&mut self, msg: &[u8], tables: [Vec<u8>; 2], outcome: &Outcome) -> Channel {
         let Ok(message) = self.ends.read(msg) else {
             return Channel::Closed;
         };
         match (outcome.returned, message) {
-            (0, Message::Command(command)) => {
-                let lists = [command.data_out.segment_list(out), command.data_in.segment_list(inn)];
-                let pieces = lists.map(|list| Pieces::new(&segments(&list).collect::<Vec<_>>()));
-                let (tag, lun) = (command.request.tag, command.request.lun);
-                if self.ends.taken.contains(&tag) {
-                    self.states.add("a tag used again");
-                }
-                self.ends.taken.push(tag);
-                self.ends.open.push(Open { tag, lun, planned: false, pieces });
-            }
+            (0, Message::Command(command)) => self.command_taken(command, tables, outcome.answer[6]),
             (0, Message::Task { request, function, task_tag }) => {
                 let aborted = |record: &[u64; 4]| match function {
                     0x01 => record[0] == task_tag && record[1] == request.lun,
                     0x02 | 0x04 | 0x08 => record[1] == request.lun,
                     _ => false,
                 };
-                if self.ends.in_the_middle(aborted) {
-                    self.states.add("aborted in the middle");
-                }
+                self.note_abort(aborted);
                 self.ends.open.retain(|command| !aborted(&command.record()));
                 self.written(outcome);
             }
@@ -80,8 +70,34 @@ impl<T: Target> Machine<T> {
         Channel::Open
     }
 
+    /// "With a fetch named, the command is open and waiting."
+    fn command_taken(&mut self, command: Command, tables: [Vec<u8>; 2], waits: u64) {
+        let Command { request, data_out, data_in, .. } = command;
+        let fetch = has_fetch([&data_out, &data_in]);
+        assert_eq!(waits, fetch.into(), "whether the command waits");
+        let pieces = match fetch {
+            true => [[], []].map(|none| Pieces::new(&none)),
+            false => [&data_out, &data_in].map(|data| pieces_of(&data.segment_list(&[]))),
+        };
+        if self.ends.taken.contains(&request.tag) {
+            self.states.add("a tag used again");
+        }
+        self.ends.taken.push(request.tag);
+        let waiting = fetch.then_some(Waiting { descriptors: [data_out, data_in], tables });
+        self.ends.open.push(Open { tag: request.tag, lun: request.lun, waiting, planned: false, pieces });
+    }
+
+    fn note_abort(&mut self, aborted: impl Fn(&[u64; 4]) -> bool) {
+        if self.ends.in_the_middle(&aborted) {
+            self.states.add("aborted in the middle");
+        }
+        if self.ends.open.iter().any(|command| command.waiting.is_some() && aborted(&command.record())) {
+            self.states.add("aborted while it waited");
+        }
+    }
+
     /// An SRP_RSP or an SRP_CRED_REQ, which the call must have written.
-    fn written(&mut self, outcome: &Outcome) {
+    pub(super) fn written(&mut self, outcome: &Outcome) {
         let message = outcome.message();
         let name = if message[0] == 0x81 { "SRP_CRED_REQ" } else { "SRP_RSP" };
         let lift = ["0", "1", "more"][delta(message).unwrap_or(0).clamp(0, 2) as usize];

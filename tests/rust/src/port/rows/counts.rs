@@ -82,3 +82,28 @@ pub const JOB_6: [(&str, usize); 13] = [
     ("list", 1003),
     ("counters", 1345),
 ];
+
+/// Those of job7.rows.
+pub const JOB_7: [(&str, usize); 14] = [
+    ("session", 160),
+    ("login", 183),
+    ("take", 631),
+    ("tables", 297),
+    ("plan", 349),
+    ("move", 338),
+    ("step", 239),
+    ("finish", 198),
+    ("add", 387),
+    ("withdraw", 292),
+    ("grant", 633),
+    ("close", 18),
+    ("list", 875),
+    ("counters", 1160),
+];
+
+/// Takes that levels below 7 lend tables to, by `earlier`'s kinds.
+pub const BASE_LENT: [u64; 4] = [41, 8, 18, 7];
+pub const JOB_1_LENT: [u64; 4] = [29, 2, 2, 17];
+pub const JOB_4_LENT: [u64; 4] = [88, 4, 14, 20];
+pub const JOB_5_LENT: [u64; 4] = [82, 7, 7, 19];
+pub const JOB_6_LENT: [u64; 4] = [73, 2, 4, 17];

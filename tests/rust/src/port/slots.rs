@@ -1,0 +1,73 @@
+//! The words of a command's slot that say whether it waits for its tables, and what these are judged by; for ports whose
+//! words no login made.
+
+use super::frame::Memory;
+use crate::model::descriptors::{Descriptor, Table};
+use crate::model::MemoryDescriptor;
+
+/// Words before the slots, and of a slot.
+const HEAD: usize = 16;
+const SLOT: usize = 32;
+
+/// Of the head: odd where the port is open, and how many slots are in use, from the first on.
+const OPEN: usize = 0;
+const HELD: usize = 1;
+
+/// Of a slot: the tag; the place in the store, by its lowest 4 bits; odd where the command waits; and each way format,
+/// count, table length and total length.
+const TAG: usize = 0;
+const PLACE: usize = 5;
+pub const WAITS: usize = 20;
+pub const DIRECTIONS: [usize; 2] = [21, 25];
+
+/// Bytes of a place in the store, of which the second half is for data-in.
+const PLACE_BYTES: usize = 1024;
+
+/// Where a word of a slot stands among those of the port.
+pub fn word_of(slot: usize, word: usize) -> usize {
+    HEAD + SLOT * slot + word
+}
+
+fn word(memory: &Memory, slot: usize, at: usize) -> u64 {
+    memory.words[word_of(slot, at)]
+}
+
+/// How many commands are open; none where the port is closed.
+pub fn held(memory: &Memory) -> usize {
+    match memory.words[OPEN] % 2 {
+        1 => memory.words[HELD].min(16) as usize,
+        _ => 0,
+    }
+}
+
+pub fn tag(memory: &Memory, slot: usize) -> u64 {
+    word(memory, slot, TAG)
+}
+
+/// The first slot in use with that tag.
+pub fn slot_of(memory: &Memory, searched: u64) -> Option<usize> {
+    (0..held(memory)).find(|&slot| tag(memory, slot) == searched)
+}
+
+/// The descriptors, data-out and data-in, that a command waits with; none where it does not wait. Each number is read
+/// into its range.
+pub fn waiting(memory: &Memory, slot: usize) -> Option<[Descriptor; 2]> {
+    let place = PLACE_BYTES * (word(memory, slot, PLACE) % 16) as usize;
+    let halves = [place, place + PLACE_BYTES / 2];
+    let waits = word(memory, slot, WAITS) % 2 == 1;
+    waits.then(|| [0, 1].map(|way| descriptor(memory, slot, DIRECTIONS[way], &memory.store[halves[way]..])))
+}
+
+/// One direction, by its words from `at` on and the bytes that the store has of it.
+fn descriptor(memory: &Memory, slot: usize, at: usize, kept: &[u8]) -> Descriptor {
+    let [format, count, length, total] = [0, 1, 2, 3].map(|k| word(memory, slot, at + k));
+    match format % 3 {
+        0 => Descriptor::None,
+        1 => Descriptor::Direct(MemoryDescriptor::read(kept)),
+        _ => Descriptor::Indirect(Table {
+            descriptor: MemoryDescriptor { address: 0, handle: 0, length: length as u32 },
+            total: total as u32,
+            copies: kept[..16 * count.min(32) as usize].to_vec(),
+        }),
+    }
+}
