@@ -2,6 +2,7 @@
 //! what a closed port is. Checked of garbage too; of the model it uses only which refusals hang up.
 
 use super::call::{Call, Outcome, UNWRITTEN};
+use super::slots::shares_a_place;
 use crate::interface::{PORT_WORDS, STORE_BYTES};
 use crate::model::Refusal;
 
@@ -52,13 +53,6 @@ fn closes(call: &Call, outcome: &Outcome) -> bool {
         Call::Close { .. } => outcome.returned == 0,
         _ => false,
     }
-}
-
-/// Whether two open commands have one place of the store, as no calls leave them.
-fn shares_a_place(words: &[u64]) -> bool {
-    let held = words[1].min(16) as usize;
-    let places: Vec<u64> = (0..held).map(|slot| words[16 + 32 * slot + 5] % 16).collect();
-    (0..held).any(|slot| places[..slot].contains(&places[slot]))
 }
 
 /// The store with one place's bytes at another place, and the tables written over them there.

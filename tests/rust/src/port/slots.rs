@@ -40,6 +40,13 @@ pub fn held(memory: &Memory) -> usize {
     }
 }
 
+/// Whether two open commands have one place of the store, as no calls leave them.
+pub fn shares_a_place(words: &[u64]) -> bool {
+    let held = words[HELD].min(16) as usize;
+    let places: Vec<u64> = (0..held).map(|slot| words[word_of(slot, PLACE)] % 16).collect();
+    (0..held).any(|slot| places[..slot].contains(&places[slot]))
+}
+
 pub fn tag(memory: &Memory, slot: usize) -> u64 {
     word(memory, slot, TAG)
 }
