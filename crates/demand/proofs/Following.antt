@@ -22,7 +22,8 @@ use Rattle.srp.specs.Requests.{readMessage, commandOf, unlessBad, lookChecks}
 use Rattle.srp.specs.Descriptors.{fetchOf}
 use Rattle.srp.specs.Outside.{fetchBytes}
 use Rattle.srp.specs.Writing.{placed}
-use Rattle.srp.specs.Take.{Outcome, Tables, takeRead, takeDef}
+use Rattle.srp.specs.Take.{Outcome, takeRead, takeDef}
+use Rattle.srp.specs.Tables.{tablesDef}
 use Rattle.srp.specs.Calls.{unless, finishDef, grantDef, closeDef}
 use Rattle.srp.specs.Login.{loginByValues, settingChecks, rejections, judged, loginChecks, loginDef}
 use Rattle.srp.specs.Ranges as def
@@ -48,9 +49,9 @@ use Rattle.page.proofs.Written.{prints-written}
 use Rattle.exports.specs.Arguments.{settingsIn, wayIn}
 use Rattle.demand.specs.Calls.{Memory, seen, LoggedIn}
 use Rattle.demand.specs.Judgement.{readOn, shortAnswer, JudgesLook, JudgesTrace}
-use Rattle.demand.specs.Following.{PortCall, take-call, plan-call, move-call, step-call, finish-call, add-call, withdraw-call, grant-call, close-call, Sendable, Receives, callingOf, Led, begins, goes-on, InRoom, ByLayouts, LoginByLayouts, LookByLayouts, TraceByLayouts, Demand2InC}
+use Rattle.demand.specs.Following.{PortCall, take-call, tables-call, plan-call, move-call, step-call, finish-call, add-call, withdraw-call, grant-call, close-call, Sendable, Receives, callingOf, Led, begins, goes-on, InRoom, ByLayouts, LoginByLayouts, LookByLayouts, TraceByLayouts, Demand2InC}
 use Rattle.demand.proofs.Judges.{judges-look, judges-trace}
-use Rattle.demand.proofs.Holds.{took, planned-is, named, stepped, finished, added, withdrew, granted, ended, logged-in}
+use Rattle.demand.proofs.Holds.{took, brought, planned-is, named, stepped, finished, added, withdrew, granted, ended, logged-in}
 
 -- ── every message written follows its layout and fits
 
@@ -82,8 +83,8 @@ command-read-as agreed formats msg c k e = (
       (command-received agreed formats c (k .ranged) (k .cdb) (k .out-fits .0) (k .in-fits .0) (k .out-fits .1) (k .in-fits .1) (k .out-fits .2) (k .in-fits .2) (k .fits)),
 )
 
-receives : (s : Memory) (room : ℕ) (t : Tables) (msg : List ℕ) → Receives s room t msg (takeDef (seen s) room msg t)
-receives s room t msg =
+receives : (s : Memory) (room : ℕ) (msg : List ℕ) → Receives s room msg (takeDef (seen s) room msg)
+receives s room msg =
     record {
       layout = read-as agreed formats msg;
       outcome = refl;
@@ -107,8 +108,8 @@ receives s room t msg =
     again e = ap (λ (l : List ℕ). readOn p l) e
 
     -- the outcome, by what the message is read as
-    by-read : (x : Message) → readOn p msg ≡ x → takeDef p room msg t ≡ takeRead p room msg t x
-    by-read x e = ap (λ (y : Message). takeRead p room msg t y) e
+    by-read : (x : Message) → readOn p msg ≡ x → takeDef p room msg ≡ takeRead p room msg x
+    by-read x e = ap (λ (y : Message). takeRead p room msg y) e
 
 -- ── the theorem
 
@@ -132,8 +133,10 @@ module _ (s : Memory) (r : Reply) (ss : List (List ℕ)) (s′ : Memory) (R : de
   unwritten o is e = subst (λ (ms : List (List ℕ)). All (InRoom 0) ms) (e ∙ sym (ap (λ (x : Outcome). x .wrote) is)) tt
 
   follows : (c : PortCall) → callingOf c .typed → callingOf c .made s r ss s′ → ByLayouts s c r ss s′
-  follows (take-call room t msg) y m =
-      gives (take-call room t msg) _ (took room t msg m) (def.took R room msg t y) (in-room room (takeDef (seen s) room msg t .wrote) (every-write R .taking room msg t y) (λ e. rw e)) (receives s room t msg)
+  follows (take-call room msg) y m =
+      gives (take-call room msg) _ (took room msg m) (def.took R room msg y) (in-room room (takeDef (seen s) room msg .wrote) (every-write R .taking room msg y) (λ e. rw e)) (receives s room msg)
+  follows (tables-call room tag t) y m =
+      gives (tables-call room tag t) _ (brought room tag t m) (def.brought R room tag t) (in-room room (tablesDef (seen s) room tag t .wrote) (every-write R .bringing room tag t) (λ e. rw e)) tt
   follows (plan-call tag out inn) y m =
       let is = planned-is tag out inn m in
       gives (plan-call tag out inn) _ is (def.planned R tag out inn (y .0) (y .1)) (unwritten _ is (m .wrote)) tt

@@ -13,6 +13,7 @@ use Rattle.srp.specs.Refusals.{firstOf}
 use Rattle.srp.specs.Credit.{Port, owed}
 use Rattle.srp.specs.Take.{Outcome, silent, Tables, takeDef}
 use Rattle.srp.specs.Take as def
+use Rattle.srp.specs.Tables.{tablesDef}
 use Rattle.srp.specs.Calls.{unless, planDef, moveDef, stepDef, finishDef, addDef, withdrawDef, grantDef, closeDef, countersDef, listOutcome, listDef}
 use Rattle.srp.specs.Login.{loginDef}
 use Rattle.srp.specs.Answers.{returned, sizeOf}
@@ -25,29 +26,34 @@ use Rattle.srp.specs.declared.Reply.{Reply}
 use Rattle.srp.specs.declared.Reply.the-variants.{Performed, Counts, Listed}
 use Rattle.machine.specs.Machine.{Machine, requestsHeld, Login, loginOf}
 use Rattle.machine.specs.Actions.{atFront}
-use Rattle.machine.specs.Events.{sends, delivers, takes, plans, names, steps, finishes, adds, withdraws, grants}
+use Rattle.machine.specs.Events.{sends, delivers, takes, brings, plans, names, steps, finishes, adds, withdraws, grants}
 use Rattle.machine.specs.Demand.{counted, Now, Meets}
 use Rattle.machine.proofs.Demand.{demand-3}
 use Rattle.answer.specs.Words.{answerWords}
 use Rattle.words.specs.View.{view}
-use Rattle.take.specs.Taking.{tables}
+use Rattle.tables.specs.Bringing.{tables}
 use Rattle.exports.specs.Arguments.{recordSize, allWords, settingsIn, directionIn}
 use Rattle.exports.specs.Calls.{InC, AnswersInC, RepliesInC, CountersInC, ListInC}
 use Rattle.exports.proofs.Listing.{counters-unwritten, list-unwritten}
 use Rattle.srp.proofs.Listing.{listed-all}
 use Rattle.demand.specs.Posts.{Slice}
 use Rattle.demand.specs.Replies.{performed}
-use Rattle.demand.specs.Calls.{Memory, seen, LoggedIn, Took, WithMessage, Finished, Granted, Ended, WithoutMessage, Planned, Named, Stepped, Added, Withdrew, Untouched, TookFront, Call}
+use Rattle.demand.specs.Calls.{Memory, seen, LoggedIn, Took, Brought, WithMessage, Finished, Granted, Ended, WithoutMessage, Planned, Named, Stepped, Added, Withdrew, Untouched, TookFront, Call}
 use Rattle.demand.specs.Holding.{Holds, Reports, Lists, Demand3InC}
 use Rattle.demand.proofs.Told as told
 
 -- ── each call that was made is its definition's
 
 module _ {s : Memory} {r : Reply} {ss : List (List ℕ)} {s′ : Memory} where
-  pub took : (room : ℕ) (t : Tables) (msg : List ℕ) → Took s room t msg r ss s′ → takeDef (seen s) room msg t ≡ record { reply = r; port = seen s′; wrote = ss }
-  took room t msg c =
-      rw (← c .words, ← c .store, ← c .message, ← c .lent, ← c .gave .room-is, ← c .gave .reply, ← c .gave .wrote, ← c .words′, ← c .store′)
-      (told.answers (c .post .1 .answers) (told.take-told (view (now (c .p)) (now (c .st))) (length (now (c .b))) (now (c .m)) (tables (now (c .out)) (now (c .inn)))))
+  pub took : (room : ℕ) (msg : List ℕ) → Took s room msg r ss s′ → takeDef (seen s) room msg ≡ record { reply = r; port = seen s′; wrote = ss }
+  took room msg c =
+      rw (← c .words, ← c .store, ← c .message, ← c .gave .room-is, ← c .gave .reply, ← c .gave .wrote, ← c .words′, ← c .store′)
+      (told.answers (c .post .1 .answers) (told.take-told (view (now (c .p)) (now (c .st))) (length (now (c .b))) (now (c .m))))
+
+  pub brought : (room tag : ℕ) (t : Tables) → Brought s room tag t r ss s′ → tablesDef (seen s) room tag t ≡ record { reply = r; port = seen s′; wrote = ss }
+  brought room tag t c =
+      rw (← c .words, ← c .store, ← c .lent, ← c .gave .room-is, ← c .gave .reply, ← c .gave .wrote, ← c .words′, ← c .store′)
+      (told.answers (c .post .1 .answers) (told.tables-told (view (now (c .p)) (now (c .st))) (length (now (c .b))) tag (tables (now (c .out)) (now (c .inn)))))
 
   -- with a lent message buffer: o is the call's definition, by the port and the buffer's length
   module _ (o : Port → ℕ → Outcome) (one : (p : Port) (room : ℕ) → told.Told performed (o p room)) {Post : (p q b d w v : Slice) (n : ℕ) → Type 0}
@@ -98,15 +104,16 @@ module _ {s : Memory} {r : Reply} {ss : List (List ℕ)} {s′ : Memory} where
   untouched : Untouched s r ss s′ → silent (seen s) Performed ≡ record { reply = r; port = seen s′; wrote = ss }
   untouched c = λ i. record { reply = c .reply i; port = seen (c .same i); wrote = c .wrote i }
 
-front : (s : Memory) (room : ℕ) (t : Tables) (queue : List (List ℕ)) (r : Reply) (ss : List (List ℕ)) (s′ : Memory) → TookFront s room t queue r ss s′
-    → atFront queue (silent (seen s) Performed) (λ msg rest. takeDef (seen s) room msg t) ≡ record { reply = r; port = seen s′; wrote = ss }
-front s room t [] r ss s′ c = untouched c
-front s room t (msg ∷ rest) r ss s′ c = took room t msg c
+front : (s : Memory) (room : ℕ) (queue : List (List ℕ)) (r : Reply) (ss : List (List ℕ)) (s′ : Memory) → TookFront s room queue r ss s′
+    → atFront queue (silent (seen s) Performed) (λ msg rest. takeDef (seen s) room msg) ≡ record { reply = r; port = seen s′; wrote = ss }
+front s room [] r ss s′ c = untouched c
+front s room (msg ∷ rest) r ss s′ c = took room msg c
 
 pub meets : (L : Login) → Meets L seen Call
 meets L s m (sends x) r ss s′ c = untouched c
 meets L s m delivers r ss s′ c = untouched c
-meets L s m (takes room t) r ss s′ c = front s room t (m .wire .toPort) r ss s′ c
+meets L s m (takes room) r ss s′ c = front s room (m .wire .toPort) r ss s′ c
+meets L s m (brings room tag t) r ss s′ c = brought room tag t c
 meets L s m (plans tag out inn) r ss s′ c = planned-is tag out inn c
 meets L s m (names tag d offset count) r ss s′ c = named tag d offset count c
 meets L s m (steps tag d) r ss s′ c = stepped tag d c

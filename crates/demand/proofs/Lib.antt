@@ -2,6 +2,7 @@ pub mod Told
 pub mod Judging
 pub mod Judges
 pub mod JudgesTake
+pub mod JudgesTables
 pub mod JudgesLogin
 pub mod Demand1
 pub mod Holds

@@ -24,7 +24,8 @@ pub each-says : EachSays
 each-says =
     record {
       login = λ p q κs c id m b d a post. answers (post [] .answer);
-      take = λ p q κs s s′ m out inn b d a post. answers (post .answers .answer);
+      take = λ p q κs s s′ m b d a post. answers (post .answers .answer);
+      tables = λ p q κs s s′ tag out inn b d a post. answers (post .answers .answer);
       plan = λ st p q κs tag out inn r post. says (post st .reply);
       move = λ st p q κs tag d offset count r post. says (post st .reply);
       step = λ p q κs s tag d r post. says (post .replies .reply);
@@ -42,7 +43,8 @@ pub each-counts : EachCounts
 each-counts =
     record {
       login = λ p q c Q id m b d w v n post. counts (post .1 [] .numbers);
-      take = λ p q st st′ m out inn b d w v n post. counts (post .1 .answers .numbers);
+      take = λ p q st st′ m b d w v n post. counts (post .1 .answers .numbers);
+      tables = λ p q st st′ out inn b d w v tag n post. counts (post .1 .answers .numbers);
       plan = λ st p q tag out inn n post. post .1 st .number;
       move = λ st p q tag direction offset count n post. post .1 st .number;
       step = λ p q st w v tag direction n post. counts (post .1 .steps .numbers);

@@ -1,6 +1,6 @@
 -- What the numbers of a call from C tell: its reply is read back from the number and the words, its message from the lent buffer. Assumes nothing.
 use mathlib.Core.Path.{_≡_, refl, sym, _∙_, ap}
-use mathlib.Core.Bool.{true, false, true≢false}
+use mathlib.Core.Bool.{Bool, true, false, true≢false}
 use mathlib.Core.List.{List, [], _∷_}
 use mathlib.Core.Option.{Option, none, some}
 use Prim.Native.Nat.{ℕ, _≤_}
@@ -14,7 +14,10 @@ use Rattle.srp.specs.Lists.{find, isSome}
 use Rattle.srp.specs.Refusals.{Conduct, hangsUp, answered, stays, altersNothing, conductOf, numberOf, firstOf}
 use Rattle.srp.specs.Writing.{placed}
 use Rattle.srp.specs.Credit.{Open, Port}
-use Rattle.srp.specs.Take.{Outcome, silent, hasTag, isOpen, Tables, takeChecks, conducted, accepted, takeBy, takeDef}
+use Rattle.srp.specs.Bytes.{bit}
+use Rattle.srp.proofs.Refusing.{answered-open}
+use Rattle.srp.specs.Tables.{badResponse, tablesChecks, tablesRefused, tablesBy, tablesDef}
+use Rattle.srp.specs.Take.{Outcome, silent, hasTag, isOpen, Tables, waits, takeChecks, conducted, accepted, takeBy, takeDef}
 use Rattle.srp.specs.Calls.{unless, planChecks, planOutcome, planDef, moveChecks, moveOutcome, moveDef, addChecks, addOutcome, addDef, withdrawChecks, withdrawOutcome, withdrawDef, handOut, nextOf, numberIn, stepChecks, stepDef, finalResponse, finishChecks, finishOutcome, finishDef, grantChecks, grantOutcome, grantDef, closeChecks, closeOutcome, closeDef}
 use Rattle.srp.specs.Login.{loginChecks, rejections, loginBy, loginDef}
 use Rattle.srp.specs.Answers.{returned, sizeOf, answerOf}
@@ -26,7 +29,7 @@ use Rattle.srp.specs.declared.Refusal.{Refusal}
 use Rattle.srp.specs.declared.Message.{Message}
 use Rattle.srp.specs.declared.Message.the-variants.{Bad, Cmd, TskMgmt, CredRsp, ILogout}
 use Rattle.srp.specs.declared.Reply.{Reply}
-use Rattle.srp.specs.declared.Reply.the-variants.{Refused, Performed}
+use Rattle.srp.specs.declared.Reply.the-variants.{Refused, Performed, NewCommand}
 use Rattle.srp.proofs.RefusalLaws.{numbered}
 use Rattle.srp.proofs.Checks.{passes, hit}
 use Rattle.answer.specs.Words.{answerWords}
@@ -83,19 +86,42 @@ module _ (p : Port) where
   conducted-told m f stays = refused-told taken f _ [] tt
   conducted-told m f altersNothing = refused-told taken f _ [] tt
 
-  accepted-told : (s : List ℕ) (t : Tables) (m : Message) → Told taken (accepted p s t m)
-  accepted-told s t (Bad r) = conducted-told (Bad r) r (conductOf r)
-  accepted-told s t (Cmd c) = record { reply = refl; size = refl; single = tt }
-  accepted-told s t (TskMgmt k) = record { reply = refl; size = refl; single = omega arith }
-  accepted-told s t (CredRsp g) = record { reply = refl; size = refl; single = tt }
-  accepted-told s t ILogout = record { reply = refl; size = refl; single = tt }
+  -- whether it waits is told by its word
+  waits-told : (b : Bool) → eqb (bit b) 1 ≡ b
+  waits-told true = refl
+  waits-told false = refl
 
-  pub take-told : (room : ℕ) (s : List ℕ) (t : Tables) → Told taken (takeDef p room s t)
-  take-told room s t = go (firstOf (takeChecks p room s t (readOn p s))) (readOn p s)
+  accepted-told : (s : List ℕ) (m : Message) → Told taken (accepted p s m)
+  accepted-told s (Bad r) = conducted-told (Bad r) r (conductOf r)
+  accepted-told s (Cmd c) = record { reply = ap (NewCommand (c .request .tag) (c .request .lun) (c .cdb)) (waits-told (waits c)); size = refl; single = tt }
+  accepted-told s (TskMgmt k) = record { reply = refl; size = refl; single = omega arith }
+  accepted-told s (CredRsp g) = record { reply = refl; size = refl; single = tt }
+  accepted-told s ILogout = record { reply = refl; size = refl; single = tt }
+
+  pub take-told : (room : ℕ) (s : List ℕ) → Told taken (takeDef p room s)
+  take-told room s = go (firstOf (takeChecks p room s (readOn p s))) (readOn p s)
     where
-      go : (v : Option Refusal) (m : Message) → Told taken (takeBy v p s t m)
-      go none m = accepted-told s t m
+      go : (v : Option Refusal) (m : Message) → Told taken (takeBy v p s m)
+      go none m = accepted-told s m
       go (some f) m = conducted-told m f (conductOf f)
+
+  -- only a command that is open is answered
+  pub tables-told : (room tag : ℕ) (t : Tables) → Told performed (tablesDef p room tag t)
+  tables-told room tag t = go (firstOf (tablesChecks p room tag t)) refl
+    where
+      single : (v : Option Open) (d : ℕ) → isSome v ≡ true → 1 ≤ length (badResponse v d)
+      single none d e = absurd (true≢false (sym e))
+      single (some c) d e = omega arith
+
+      by : (c : Conduct) (f : Refusal) → (c ≡ answered → isOpen p tag ≡ true) → Told performed (tablesRefused c p tag f)
+      by (hangsUp reason) f e = refused-told performed f _ [] tt
+      by answered f e = refused-told performed f _ _ (single (find (hasTag tag) (p .held)) _ (e refl))
+      by stays f e = refused-told performed f _ [] tt
+      by altersNothing f e = refused-told performed f _ [] tt
+
+      go : (v : Option Refusal) → firstOf (tablesChecks p room tag t) ≡ v → Told performed (tablesBy v p tag t)
+      go none e = performed-told _ [] tt
+      go (some f) e = by (conductOf f) f (answered-open p tag room t f e)
 
   pub grant-told : (room : ℕ) → Told performed (grantDef p room)
   grant-told room = unless-told performed (firstOf (grantChecks p room)) p (grantOutcome p) λ _. performed-told _ _ (omega arith)

@@ -12,11 +12,11 @@ use Rattle.srp.specs.declared.Direction.{Direction}
 use Rattle.srp.specs.declared.Reply.{Reply}
 use Rattle.srp.specs.declared.Reply.the-variants.{Performed}
 use Rattle.machine.specs.Machine.{Machine}
-use Rattle.machine.specs.Events.{Event, sends, delivers, takes, plans, names, steps, finishes, adds, withdraws, grants}
+use Rattle.machine.specs.Events.{Event, sends, delivers, takes, brings, plans, names, steps, finishes, adds, withdraws, grants}
 use Rattle.words.specs.View.{view}
-use Rattle.take.specs.Taking.{tables}
+use Rattle.tables.specs.Bringing.{tables}
 use Rattle.exports.specs.Arguments.{directionIn}
-use Rattle.demand.specs.Posts.{Slice, LoginPost, TakePost, PlanPost, MovePost, StepPost, FinishPost, AddPost, WithdrawPost, GrantPost, ClosePost}
+use Rattle.demand.specs.Posts.{Slice, LoginPost, TakePost, TablesPost, PlanPost, MovePost, StepPost, FinishPost, AddPost, WithdrawPost, GrantPost, ClosePost}
 use Rattle.demand.specs.Replies.{replyBy, performed, taken, stepped, loggedIn, messageIn}
 
 -- what the owner keeps of a port: its words and its store
@@ -56,12 +56,31 @@ pub record LoggedIn (settings : List ℕ) (Q : ℕ) (own msg : List ℕ) (room :
 
 -- ── the calls with a lent message buffer
 
-pub record Took (s : Memory) (room : ℕ) (t : Tables) (msg : List ℕ) (r : Reply) (ss : List (List ℕ)) (s′ : Memory) : Type 0 where
+pub record Took (s : Memory) (room : ℕ) (msg : List ℕ) (r : Reply) (ss : List (List ℕ)) (s′ : Memory) : Type 0 where
   pub p : Slice
   pub q : Slice
   pub st : Slice
   pub st′ : Slice
   pub m : Slice
+  pub b : Slice
+  pub d : Slice
+  pub w : Slice
+  pub v : Slice
+  pub n : ℕ
+  pub words : now p ≡ s .words
+  pub store : now st ≡ s .store
+  pub message : now m ≡ msg
+  pub post : TakePost p q st st′ m b d w v n
+  pub gave : Gave taken room (now b) (now d) (now v) n r ss
+  pub words′ : now q ≡ s′ .words
+  pub store′ : now st′ ≡ s′ .store
+
+-- the tables t for the command with the tag
+pub record Brought (s : Memory) (room tag : ℕ) (t : Tables) (r : Reply) (ss : List (List ℕ)) (s′ : Memory) : Type 0 where
+  pub p : Slice
+  pub q : Slice
+  pub st : Slice
+  pub st′ : Slice
   pub out : Slice
   pub inn : Slice
   pub b : Slice
@@ -71,10 +90,9 @@ pub record Took (s : Memory) (room : ℕ) (t : Tables) (msg : List ℕ) (r : Rep
   pub n : ℕ
   pub words : now p ≡ s .words
   pub store : now st ≡ s .store
-  pub message : now m ≡ msg
   pub lent : tables (now out) (now inn) ≡ t
-  pub post : TakePost p q st st′ m out inn b d w v n
-  pub gave : Gave taken room (now b) (now d) (now v) n r ss
+  pub post : TablesPost p q st st′ out inn b d w v tag n
+  pub gave : Gave performed room (now b) (now d) (now v) n r ss
   pub words′ : now q ≡ s′ .words
   pub store′ : now st′ ≡ s′ .store
 
@@ -154,15 +172,16 @@ pub record Untouched (s : Memory) (r : Reply) (ss : List (List ℕ)) (s′ : Mem
 
 -- ── the call that an event makes
 
-abbrev pub TookFront : Memory → ℕ → Tables → List (List ℕ) → Reply → List (List ℕ) → Memory → Type 0
-TookFront s room t [] r ss s′ = Untouched s r ss s′
-TookFront s room t (msg ∷ rest) r ss s′ = Took s room t msg r ss s′
+abbrev pub TookFront : Memory → ℕ → List (List ℕ) → Reply → List (List ℕ) → Memory → Type 0
+TookFront s room [] r ss s′ = Untouched s r ss s′
+TookFront s room (msg ∷ rest) r ss s′ = Took s room msg r ss s′
 
 -- on s with the machine m it replied r, wrote ss and left s′
 abbrev pub Call : Memory → Machine → Event → Reply → List (List ℕ) → Memory → Type 0
 Call s m (sends x) r ss s′ = Untouched s r ss s′
 Call s m delivers r ss s′ = Untouched s r ss s′
-Call s m (takes room t) r ss s′ = TookFront s room t (m .wire .toPort) r ss s′
+Call s m (takes room) r ss s′ = TookFront s room (m .wire .toPort) r ss s′
+Call s m (brings room tag t) r ss s′ = Brought s room tag t r ss s′
 Call s m (plans tag out inn) r ss s′ = Planned s tag out inn r ss s′
 Call s m (names tag d offset count) r ss s′ = Named s tag d offset count r ss s′
 Call s m (steps tag d) r ss s′ = Stepped s tag d r ss s′

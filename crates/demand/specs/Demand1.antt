@@ -1,16 +1,18 @@
 -- Demand 1, whole: of each C function that makes checks, of every call that was made of it by its own contract.
 use Prim.Native.Nat.{ℕ}
 use denote.Ref.{now}
-use Rattle.take.specs.Taking.{tables}
+use Rattle.tables.specs.Bringing.{tables as tablesOf}
 use Rattle.exports.specs.Arguments.{wayIn}
-use Rattle.demand.specs.Posts.{Slice, LoginPost, TakePost, PlanPost, MovePost, StepPost, FinishPost, AddPost, WithdrawPost, GrantPost, ClosePost, CountersPost, ListPost, LookPost, CutPost, TracePost}
-use Rattle.demand.specs.Judgement.{JudgesTake, JudgesLogin, JudgesPlan, JudgesMove, JudgesStep, JudgesFinish, JudgesAdd, JudgesWithdraw, JudgesGrant, JudgesClose, JudgesCounters, JudgesList, JudgesLook, JudgesCut, JudgesTrace}
+use Rattle.demand.specs.Posts.{Slice, LoginPost, TakePost, TablesPost, PlanPost, MovePost, StepPost, FinishPost, AddPost, WithdrawPost, GrantPost, ClosePost, CountersPost, ListPost, LookPost, CutPost, TracePost}
+use Rattle.demand.specs.Judgement.{JudgesTake, JudgesTables, JudgesLogin, JudgesPlan, JudgesMove, JudgesStep, JudgesFinish, JudgesAdd, JudgesWithdraw, JudgesGrant, JudgesClose, JudgesCounters, JudgesList, JudgesLook, JudgesCut, JudgesTrace}
 
 pub record Demand1InC : Type 0 where
   pub login : (p q c : Slice) (Q : ℕ) (id m b d w v : Slice) (n : ℕ) → LoginPost p q c Q id m b d w v n
       → JudgesLogin (now b) (now q) (now d) (now c) Q (now id) (now m) n (now v)
-  pub take : (p q st st′ m out inn b d w v : Slice) (n : ℕ) → TakePost p q st st′ m out inn b d w v n
-      → JudgesTake (now p) (now st) (now b) (now q) (now st′) (now d) (now m) (tables (now out) (now inn)) n (now v)
+  pub take : (p q st st′ m b d w v : Slice) (n : ℕ) → TakePost p q st st′ m b d w v n
+      → JudgesTake (now p) (now st) (now b) (now q) (now st′) (now d) (now m) n (now v)
+  pub tables : (p q st st′ out inn b d w v : Slice) (tag n : ℕ) → TablesPost p q st st′ out inn b d w v tag n
+      → JudgesTables (now p) (now st) (now b) (now q) (now st′) (now d) tag (tablesOf (now out) (now inn)) n (now v)
   pub plan : (p q : Slice) (tag out inn n : ℕ) → PlanPost p q tag out inn n → JudgesPlan (now p) (now q) tag out inn n
   pub move : (p q : Slice) (tag direction offset count n : ℕ) → MovePost p q tag direction offset count n → JudgesMove (now p) (now q) tag direction offset count n
   pub step : (p q st w v : Slice) (tag direction n : ℕ) → StepPost p q st w v tag direction n → JudgesStep (now p) (now q) (now st) tag direction n (now v)

@@ -36,13 +36,14 @@ use Rattle.page.specs.declared.Way.{Way}
 use Rattle.exports.specs.Arguments.{settingsIn, wayIn}
 use Rattle.demand.specs.Posts.{Slice, LookPost, TracePost}
 use Rattle.demand.specs.Judgement.{readOn}
-use Rattle.demand.specs.Calls.{Memory, seen, LoggedIn, Took, Finished, Granted, Ended, Planned, Named, Stepped, Added, Withdrew}
+use Rattle.demand.specs.Calls.{Memory, seen, LoggedIn, Took, Brought, Finished, Granted, Ended, Planned, Named, Stepped, Added, Withdrew}
 
 -- ── the calls
 
 -- a call that may change a port, with its arguments; `room` is the length of the lent buffer
 pub data PortCall : Type 0 where
-  take-call : (room : ℕ) → Tables → (msg : List ℕ) → PortCall
+  take-call : (room : ℕ) (msg : List ℕ) → PortCall
+  tables-call : (room tag : ℕ) → Tables → PortCall
   plan-call : (tag out inn : ℕ) → PortCall
   move-call : (tag : ℕ) → Direction → (offset count : ℕ) → PortCall
   step-call : (tag : ℕ) → Direction → PortCall
@@ -64,22 +65,22 @@ pub record Sendable (agreed formats : ℕ) (c : CommandFields) : Type 0 where
   pub fits : length (commandBytes c) ≤ agreed
 
 -- a message msg put to take on s, whose reply, port and messages are the outcome o
-pub record Receives (s : Memory) (room : ℕ) (t : Tables) (msg : List ℕ) (o : Outcome) : Type 0 where
+pub record Receives (s : Memory) (room : ℕ) (msg : List ℕ) (o : Outcome) : Type 0 where
   -- it is read as the fields of its layout, and the outcome is that of what was read
   pub layout : ReadAs (seen s .terms .agreed) msg (readOn (seen s) msg)
-  pub outcome : o ≡ takeRead (seen s) room msg t (readOn (seen s) msg)
+  pub outcome : o ≡ takeRead (seen s) room msg (readOn (seen s) msg)
   -- `read_message` reads it so, by its own contract
   pub reader : (κs : Lfts 1) (m : Slice) → now m ≡ msg → (x : Message)
       → let T : Terms = seen s .terms in
       read-message.Post κs (m, (T .agreed, (T .formats, tt))) x (m, (T .agreed, (T .formats, tt))) → x ≡ readOn (seen s) msg
   -- written by the layouts while the channel is open, it is read as the values that were written
   pub task : seen s .live ≡ true → (u c g l f k : ℕ) → InRange (tskMgmt .fields) (u ∷ c ∷ g ∷ l ∷ f ∷ k ∷ []) → msg ≡ write tskMgmt (u ∷ c ∷ g ∷ l ∷ f ∷ k ∷ [])
-      → o ≡ takeRead (seen s) room msg t (TskMgmt (record { request = record { tag = g; lun = l; ucsolnt = flag u; scsolnt = flag c }; function = f; managed = k }))
-  pub credit : seen s .live ≡ true → (g : ℕ) → InRange (credRsp .fields) (g ∷ []) → msg ≡ write credRsp (g ∷ []) → o ≡ takeRead (seen s) room msg t (CredRsp g)
-  pub logout : seen s .live ≡ true → (vs : List ℕ) → InRange (iLogout .fields) vs → msg ≡ write iLogout vs → o ≡ takeRead (seen s) room msg t ILogout
+      → o ≡ takeRead (seen s) room msg (TskMgmt (record { request = record { tag = g; lun = l; ucsolnt = flag u; scsolnt = flag c }; function = f; managed = k }))
+  pub credit : seen s .live ≡ true → (g : ℕ) → InRange (credRsp .fields) (g ∷ []) → msg ≡ write credRsp (g ∷ []) → o ≡ takeRead (seen s) room msg (CredRsp g)
+  pub logout : seen s .live ≡ true → (vs : List ℕ) → InRange (iLogout .fields) vs → msg ≡ write iLogout vs → o ≡ takeRead (seen s) room msg ILogout
   -- of a command also the CDB and both buffers, with their addresses, handles and lengths (`Reads`)
   pub command : (c : CommandFields) → Sendable (seen s .terms .agreed) (seen s .terms .formats) c → msg ≡ commandBytes c
-      → Reads c msg × (o ≡ takeRead (seen s) room msg t (Cmd (commandIn c msg)))
+      → Reads c msg × (o ≡ takeRead (seen s) room msg (Cmd (commandIn c msg)))
 
 -- ── what each call is
 
@@ -99,7 +100,8 @@ abbrev pub quiet : (Memory → Reply → List (List ℕ) → Memory → Type 0) 
 quiet made typed = writing 0 made typed
 
 abbrev pub callingOf : PortCall → Calling
-callingOf (take-call room t msg) = record { made = λ s. Took s room t msg; typed = Bytes msg; room = room; received = λ s o. Receives s room t msg o }
+callingOf (take-call room msg) = record { made = λ s. Took s room msg; typed = Bytes msg; room = room; received = λ s o. Receives s room msg o }
+callingOf (tables-call room tag t) = writing room (λ s. Brought s room tag t) (Unit {0})
 callingOf (plan-call tag out inn) = quiet (λ s. Planned s tag out inn) ((out < 2 ^ 32) × (inn < 2 ^ 32))
 callingOf (move-call tag d offset count) = quiet (λ s. Named s tag d offset count) (Unit {0})
 callingOf (step-call tag d) = quiet (λ s. Stepped s tag d) (Unit {0})

@@ -17,6 +17,7 @@ use Rattle.srp.specs.Cutting.{cutChecks, cutOutcome}
 use Rattle.srp.specs.Credit.{Port, closedPort}
 use Rattle.srp.specs.Writing.{targetLogout, placed}
 use Rattle.srp.specs.Take.{Outcome, Tables, answerBad, refusedBy, accepted}
+use Rattle.srp.specs.Tables.{tablesChecks, tablesRefused, tablesOutcome}
 use Rattle.srp.specs.Order.{takeOrder}
 use Rattle.srp.specs.Calls.{planChecks, planOutcome, moveChecks, moveOutcome, stepChecks, stepOutcome, finishChecks, finishOutcome, addChecks, addOutcome, withdrawChecks, withdrawOutcome, grantChecks, grantOutcome, closeChecks, closeOutcome, countersChecks, countersOutcome, listing, listChecks, listOutcome}
 use Rattle.srp.specs.Login.{loginChecks, rejections, judged}
@@ -29,6 +30,7 @@ use Rattle.srp.specs.declared.Message.{Message}
 use Rattle.srp.specs.declared.Reply.the-variants.{Done, Accepted, Rejected}
 use Rattle.answer.specs.Words.{answerWords}
 use Rattle.words.specs.View.{view, closedWords}
+use Rattle.tables.specs.Bringing.{Accepted as Supplied}
 use Rattle.take.specs.Taking.{Stores}
 use Rattle.page.specs.Page.{traceLine, traceChecks}
 use Rattle.page.specs.declared.Way.{Way}
@@ -61,7 +63,7 @@ pub record Unaltered (l b l′ b′ w : List ℕ) : Type 0 where
   pub port : l′ ≡ l
   pub buffer : b′ ≡ b
 
--- ── take, of every message s with the tables t
+-- ── take, of every message s
 
 -- the message as the port p reads it
 abbrev pub readOn : Port → List ℕ → Message
@@ -78,7 +80,7 @@ pub record Left (l st b l′ st′ b′ s w : List ℕ) (f : Refusal) : Type 0 w
   pub responded : conductOf f ≡ answered
       → let o : Outcome = answerBad (view l st) (readOn (view l st) s) f in
       (view l′ st′ ≡ o .port) × (b′ ≡ placed (o .wrote) b)
-  -- "Every other refusal returns its number and alters nothing": 1 and 9, on which the message stays in its queue
+  -- "Every other refusal returns its number and alters nothing": 1, on which the message stays in its queue
   pub stayed : conductOf f ≡ stays → Unaltered l b l′ b′ w
   -- and those on which it leaves
   pub unaltered : conductOf f ≡ altersNothing → Unaltered l b l′ b′ w
@@ -91,9 +93,29 @@ pub record TakenAs (o : Outcome) (l st b l′ st′ b′ w : List ℕ) : Type 0 
   pub store : Stores l st l′ st′ (o .reply)
   pub closed : o .port .live ≡ false → l′ ≡ closedWords
 
-abbrev pub JudgesTake : (l st b l′ st′ b′ s : List ℕ) → Tables → (n : ℕ) (w : List ℕ) → Type 0
-JudgesTake l st b l′ st′ b′ s t n w =
-    Judgement (takeOrder (view l st) (length b) s t) n (TakenAs (accepted (view l st) s t (readOn (view l st) s)) l st b l′ st′ b′ w) (Left l st b l′ st′ b′ s w)
+abbrev pub JudgesTake : (l st b l′ st′ b′ s : List ℕ) (n : ℕ) (w : List ℕ) → Type 0
+JudgesTake l st b l′ st′ b′ s n w =
+    Judgement (takeOrder (view l st) (length b) s) n (TakenAs (accepted (view l st) s (readOn (view l st) s)) l st b l′ st′ b′ w) (Left l st b l′ st′ b′ s w)
+
+-- ── tables, of every tag and all tables t
+
+-- accepted: the store is altered at the command's own place alone
+pub record BroughtAs (o : Outcome) (l st b l′ st′ b′ w : List ℕ) (tag : ℕ) : Type 0 where
+  pub comes : Comes o l′ st′ b b′ w
+  pub store : Supplied l st l′ st′ tag
+
+-- what is left after tables refused with f
+pub record TablesLeft (l st b l′ st′ b′ w : List ℕ) (tag : ℕ) (f : Refusal) : Type 0 where
+  -- "10 still answering the command", which ends
+  pub responded : conductOf f ≡ answered → Comes (tablesRefused answered (view l st) tag f) l′ st′ b b′ w
+  -- "Every other refusal returns its number and alters nothing": the command waits on
+  pub unaltered : (conductOf f ≡ answered → ⊥) → Unaltered l b l′ b′ w
+  -- and whatever the refusal, no byte of the store is altered
+  pub store : st′ ≡ st
+
+abbrev pub JudgesTables : (l st b l′ st′ b′ : List ℕ) (tag : ℕ) → Tables → (n : ℕ) (w : List ℕ) → Type 0
+JudgesTables l st b l′ st′ b′ tag t n w =
+    Judgement (tablesChecks (view l st) (length b) tag t) n (BroughtAs (tablesOutcome (view l st) tag t) l st b l′ st′ b′ w tag) (TablesLeft l st b l′ st′ b′ w tag)
 
 -- ── login with the settings c, whose own identifier is `own`, by its rejections
 

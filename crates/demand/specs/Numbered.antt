@@ -11,6 +11,7 @@ use lib.ListN.{length}
 use denote.Ref.{now}
 use contract.Lifetimes.{Lfts}
 use Rattle.srp.specs.Limits.{mostBuffers}
+use Rattle.srp.specs.Tables.{tablesDef}
 use Rattle.srp.specs.Calls.{planDef, moveDef, stepDef, finishDef, addDef, withdrawDef, grantDef, closeDef, countersDef, listDef}
 use Rattle.srp.specs.Login.{loginDef}
 use Rattle.srp.specs.Requests.{lookDef}
@@ -21,7 +22,7 @@ use Rattle.srp.specs.declared.Direction.{Direction}
 use Rattle.srp.specs.declared.Record.{Record}
 use Rattle.srp.specs.declared.Settings.{Settings}
 use Rattle.words.specs.View.{view}
-use Rattle.take.specs.Taking.{tables}
+use Rattle.tables.specs.Bringing.{tables as tablesOf}
 use Rattle.report.specs.Reports.{WritesListing}
 use Rattle.report.specs.declared.Listing.{Listing}
 use Rattle.page.specs.Page.{traceInC}
@@ -29,6 +30,7 @@ use Rattle.exports.specs.Arguments.{recordSize, settingsIn, directionIn, wayIn}
 use Rattle.exports.specs.Answered.{Answered}
 use Rattle.login.proofs.login.Reads as login-call
 use Rattle.take.proofs.take.Reads as take-call
+use Rattle.tables.proofs.bring.Reads as tables-call
 use Rattle.transfer.proofs.plan.Reads as plan-call
 use Rattle.transfer.proofs.name_move.Reads as move-call
 use Rattle.transfer.proofs.step.Reads as step-call
@@ -39,7 +41,7 @@ use Rattle.credit.proofs.grant.Reads as grant-call
 use Rattle.close.proofs.close.Reads as close-call
 use Rattle.report.proofs.counters.Reads as counters-call
 use Rattle.report.proofs.list.Reads as list-call
-use Rattle.demand.specs.Posts.{Slice, LoginPost, TakePost, PlanPost, MovePost, StepPost, FinishPost, AddPost, WithdrawPost, GrantPost, ClosePost, CountersPost, ListPost, LookPost, CutPost, TracePost}
+use Rattle.demand.specs.Posts.{Slice, LoginPost, TakePost, TablesPost, PlanPost, MovePost, StepPost, FinishPost, AddPost, WithdrawPost, GrantPost, ClosePost, CountersPost, ListPost, LookPost, CutPost, TracePost}
 
 -- of a call by value: the reply r has the number and the values of the outcome
 pub record SaysAs (r : Reply) (o : Outcome) : Type 0 where
@@ -57,9 +59,12 @@ pub record EachSays : Type 0 where
   pub login : (p q : Slice) (κs : Lfts 4) (c : Settings) (id m b d : Slice) (a : Answer)
       → login-call.Post κs (p, (c, (id, (m, (b, tt))))) a (q, (c, (id, (m, (d, tt)))))
       → SaysAs (a .reply) (loginDef c (now id) (length (now b)) (now m))
-  pub take : (p q : Slice) (κs : Lfts 4) (s s′ m out inn b d : Slice) (a : Answer)
-      → take-call.Post κs (p, (s, (m, (out, (inn, (b, tt)))))) a (q, (s′, (m, (out, (inn, (d, tt))))))
-      → SaysAs (a .reply) (takeDef (view (now p) (now s)) (length (now b)) (now m) (tables (now out) (now inn)))
+  pub take : (p q : Slice) (κs : Lfts 4) (s s′ m b d : Slice) (a : Answer)
+      → take-call.Post κs (p, (s, (m, (b, tt)))) a (q, (s′, (m, (d, tt))))
+      → SaysAs (a .reply) (takeDef (view (now p) (now s)) (length (now b)) (now m))
+  pub tables : (p q : Slice) (κs : Lfts 5) (s s′ : Slice) (tag : ℕ) (out inn b d : Slice) (a : Answer)
+      → tables-call.Post κs (p, (s, (tag, (out, (inn, (b, tt)))))) a (q, (s′, (tag, (out, (inn, (d, tt))))))
+      → SaysAs (a .reply) (tablesDef (view (now p) (now s)) (length (now b)) tag (tablesOf (now out) (now inn)))
   pub plan : (st : List ℕ) (p q : Slice) (κs : Lfts 1) (tag out inn : ℕ) (r : Reply)
       → plan-call.Post κs (p, (tag, (out, (inn, tt)))) r (q, (tag, (out, (inn, tt))))
       → SaysAs r (planDef (view (now p) st) tag out inn)
@@ -100,8 +105,10 @@ pub record EachSays : Type 0 where
 pub record EachCounts : Type 0 where
   pub login : (p q c : Slice) (Q : ℕ) (id m b d w v : Slice) (n : ℕ) → LoginPost p q c Q id m b d w v n
       → CountsAs n (now v) (loginDef (settingsIn (now c) Q) (now id) (length (now b)) (now m))
-  pub take : (p q st st′ m out inn b d w v : Slice) (n : ℕ) → TakePost p q st st′ m out inn b d w v n
-      → CountsAs n (now v) (takeDef (view (now p) (now st)) (length (now b)) (now m) (tables (now out) (now inn)))
+  pub take : (p q st st′ m b d w v : Slice) (n : ℕ) → TakePost p q st st′ m b d w v n
+      → CountsAs n (now v) (takeDef (view (now p) (now st)) (length (now b)) (now m))
+  pub tables : (p q st st′ out inn b d w v : Slice) (tag n : ℕ) → TablesPost p q st st′ out inn b d w v tag n
+      → CountsAs n (now v) (tablesDef (view (now p) (now st)) (length (now b)) tag (tablesOf (now out) (now inn)))
   pub plan : (st : List ℕ) (p q : Slice) (tag out inn n : ℕ) → PlanPost p q tag out inn n → n ≡ returned (planDef (view (now p) st) tag out inn .reply)
   pub move : (st : List ℕ) (p q : Slice) (tag direction offset count n : ℕ) → MovePost p q tag direction offset count n
       → n ≡ returned (moveDef (view (now p) st) tag (directionIn direction) offset count .reply)

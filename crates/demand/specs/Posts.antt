@@ -6,7 +6,8 @@ use Prim.Native.Nat.{ℕ}
 use denote.Ref.{RefT}
 use contract.Lifetimes.{Lfts}
 use Rattle.exports.proofs.port.srp_target_login.Reads as login-in-c
-use Rattle.exports.proofs.port.srp_target_take.Reads as take-in-c
+use Rattle.exports.proofs.taking.srp_target_take.Reads as take-in-c
+use Rattle.exports.proofs.taking.srp_target_tables.Reads as tables-in-c
 use Rattle.exports.proofs.port.srp_target_plan.Reads as plan-in-c
 use Rattle.exports.proofs.port.srp_target_move.Reads as move-in-c
 use Rattle.exports.proofs.port.srp_target_step.Reads as step-in-c
@@ -29,9 +30,13 @@ Slice = RefT (List ℕ)
 abbrev pub LoginPost : (p q c : Slice) (Q : ℕ) (id m b d w v : Slice) (n : ℕ) → Type 0
 LoginPost p q c Q id m b d w v n = (κs : Lfts 6) × login-in-c.Post κs (p, (c, (Q, (id, (m, (b, (w, tt))))))) n (q, (c, (Q, (id, (m, (d, (v, tt)))))))
 
-abbrev pub TakePost : (p q st st′ m out inn b d w v : Slice) (n : ℕ) → Type 0
-TakePost p q st st′ m out inn b d w v n =
-    (κs : Lfts 5) × take-in-c.Post κs (p, (st, (m, (out, (inn, (b, (w, tt))))))) n (q, (st′, (m, (out, (inn, (d, (v, tt)))))))
+abbrev pub TakePost : (p q st st′ m b d w v : Slice) (n : ℕ) → Type 0
+TakePost p q st st′ m b d w v n = (κs : Lfts 5) × take-in-c.Post κs (p, (st, (m, (b, (w, tt))))) n (q, (st′, (m, (d, (v, tt)))))
+
+-- out and inn are the tables
+abbrev pub TablesPost : (p q st st′ out inn b d w v : Slice) (tag n : ℕ) → Type 0
+TablesPost p q st st′ out inn b d w v tag n =
+    (κs : Lfts 6) × tables-in-c.Post κs (p, (st, (tag, (out, (inn, (b, (w, tt))))))) n (q, (st′, (tag, (out, (inn, (d, (v, tt)))))))
 
 abbrev pub PlanPost : (p q : Slice) (tag out inn n : ℕ) → Type 0
 PlanPost p q tag out inn n = (κs : Lfts 1) × plan-in-c.Post κs (p, (tag, (out, (inn, tt)))) n (q, (tag, (out, (inn, tt))))

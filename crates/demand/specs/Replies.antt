@@ -22,15 +22,15 @@ replyBy said n w = refusedOr (refusalNumbered n) (said w)
 
 -- ── the words of each call
 
--- plan, move, finish, add, withdraw, grant, close: none but the length of the message
+-- tables, plan, move, finish, add, withdraw, grant, close: none but the length of the message
 abbrev pub performed : List ℕ → Reply
 performed w = Performed
 
--- take: behind that length 1 for a command, with tag, LUN, the place of its CDB and its length; 2 for a task request, with tag and LUN; 3 for a
--- credit response, 4 for a logout
+-- take: behind that length 1 for a command, with tag, LUN, the place of its CDB and its length, and 1 where it waits for its tables; 2 for a task request,
+-- with tag and LUN; 3 for a credit response, 4 for a logout
 abbrev pub taken : List ℕ → Reply
 taken w =
-    cond (eqb (getD w 1 0) 1) (NewCommand (getD w 2 0) (getD w 3 0) (getD w 5 0))
+    cond (eqb (getD w 1 0) 1) (NewCommand (getD w 2 0) (getD w 3 0) (getD w 5 0) (eqb (getD w 6 0) 1))
     (cond (eqb (getD w 1 0) 2) (TaskAnswered (getD w 2 0) (getD w 3 0))
     (cond (eqb (getD w 1 0) 3) CreditSettled LoggedOut))
 

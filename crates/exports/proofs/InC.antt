@@ -14,13 +14,15 @@ use Rattle.srp.specs.Login.{loginDef}
 use Rattle.login.specs.LoggingIn.{LogsIn}
 use Rattle.srp.specs.declared.Settings.{Settings}
 use Rattle.take.specs.Taking.{Takes, Stores}
+use Rattle.tables.specs.Bringing.{Brings}
+use Rattle.tables.specs.Bringing as bringing
 use Rattle.transfer.specs.Stepping.{Names, Steps}
 use Rattle.srp.specs.Writing.{placed}
 use Rattle.page.specs.Page.{traceWrites, Traced, traceInC}
 use Rattle.page.specs.declared.Way.{Way}
 use Rattle.exports.specs.Answered.{Answered}
 use Rattle.exports.specs.Arguments.{directionIn}
-use Rattle.exports.specs.Calls.{Gives, InC, AnswersInC, StepsInC, RepliesInC, LogsInC, TakeInC, MoveInC, StepInC}
+use Rattle.exports.specs.Calls.{Gives, InC, AnswersInC, StepsInC, RepliesInC, LogsInC, TakeInC, TablesInC, MoveInC, StepInC}
 
 pub in-numbers : {n : ℕ} {w : List ℕ} {r : Answer} {o : Outcome} → r ≡ answerOf o → Gives n w r → InC n w o
 in-numbers e g = record { number = g .0 ∙ ap (λ (a : Answer). returned (a .reply)) e; words = g .1 ∙ ap (λ (a : Answer). answerWords a) e }
@@ -32,10 +34,14 @@ silently o e f = ap (λ (x : Reply). record { reply = x; wrote = 0 }) e ∙ ap (
 pub answers-in-c : {l st b l′ st′ b′ : List ℕ} {n : ℕ} {w : List ℕ} {o : Outcome} {r : Answer} → AnswersAs l st b l′ st′ b′ r o → Gives n w r → AnswersInC l st b l′ st′ b′ n w o
 answers-in-c {l} {st} {b} {l′} {st′} {b′} {n} {w} {o} A g = record { numbers = in-numbers (A .answer) g; call = subst (λ (x : Answer). AnswersAs l st b l′ st′ b′ x o) (A .answer) A }
 
-pub take-in-c : {l st b l′ st′ b′ s : List ℕ} {t : Tables} {n : ℕ} {w : List ℕ} {r : Answer} → Takes l st b l′ st′ b′ s t r → Gives n w r
-    → TakeInC l st b l′ st′ b′ s t n w
+pub take-in-c : {l st b l′ st′ b′ s : List ℕ} {n : ℕ} {w : List ℕ} {r : Answer} → Takes l st b l′ st′ b′ s r → Gives n w r → TakeInC l st b l′ st′ b′ s n w
 take-in-c {l} {st} {b} {l′} {st′} T g =
     record { answers = answers-in-c (T .answers) g; store = subst (λ (x : Answer). Stores l st l′ st′ (x .reply)) (T .answers .answer) (T .store) }
+
+pub tables-in-c : {l st b l′ st′ b′ : List ℕ} {tag : ℕ} {t : Tables} {n : ℕ} {w : List ℕ} {r : Answer} → Brings l st b l′ st′ b′ tag t r → Gives n w r
+    → TablesInC l st b l′ st′ b′ tag t n w
+tables-in-c {l} {st} {b} {l′} {st′} {b′} {tag} T g =
+    record { answers = answers-in-c (T .answers) g; store = subst (λ (x : Answer). bringing.Stores l st l′ st′ tag (x .reply)) (T .answers .answer) (T .store) }
 
 -- a login with the settings c, which are c′
 pub logs-in-c : {st l′ b b′ : List ℕ} {n : ℕ} {w : List ℕ} {r : Answer} {c c′ : Settings} (own msg : List ℕ) (room : ℕ) → c ≡ c′

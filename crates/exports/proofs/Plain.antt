@@ -11,7 +11,9 @@ use Rattle.srp.proofs.Reply.{the-type}
 use Rattle.srp.specs.Refusals.{firstOf}
 use Rattle.srp.specs.Lists.{find, without}
 use Rattle.srp.specs.Credit.{Port}
-use Rattle.srp.specs.Take.{Outcome, hasTag}
+use Rattle.srp.specs.Take.{Outcome, hasTag, Tables}
+use Rattle.srp.specs.Tables.{tablesChecks, tablesBy, tablesDef}
+use Rattle.srp.proofs.Refusing.{tables-as}
 use Rattle.srp.specs.Calls.{unless, nextOf, numberIn, handOut, stepChecks, stepDef, finishChecks, finishDef, grantChecks, grantDef, closeDef, countersDef, finishOutcome, grantOutcome, closeChecks, closeOutcome, countersChecks, countersOutcome}
 use Rattle.srp.specs.Answers.{valuesOf, answerOf}
 use Rattle.srp.specs.declared.Refusal.{Refusal}
@@ -34,6 +36,13 @@ plain-unless (some f) p o e = λ wrote. refl
 pub finish-plain : (p : Port) (room tag status : ℕ) (sense : List ℕ) → Plain (finishDef p room tag status sense .reply)
 finish-plain p room tag status sense =
     plain-unless (firstOf (finishChecks p room tag status sense)) p (finishOutcome p tag status sense) refl
+
+pub tables-plain : (p : Port) (room tag : ℕ) (t : Tables) → Plain (tablesDef p room tag t .reply)
+tables-plain p room tag t = go (firstOf (tablesChecks p room tag t))
+  where
+    go : (x : Option Refusal) → Plain (tablesBy x p tag t .reply)
+    go none = λ wrote. refl
+    go (some f) = λ wrote. ap (λ (r : Reply). leading wrote r ++ valuesOf r) (tables-as p tag f)
 
 pub grant-plain : (p : Port) (room : ℕ) → Plain (grantDef p room .reply)
 grant-plain p room = plain-unless (firstOf (grantChecks p room)) p (grantOutcome p) refl

@@ -9,6 +9,7 @@ use lib.ListN.{length, replicate}
 use Rattle.srp.specs.Lists.{over}
 use Rattle.srp.specs.Credit.{Port}
 use Rattle.srp.specs.Take.{Outcome, Tables, takeDef}
+use Rattle.srp.specs.Tables.{tablesDef}
 use Rattle.srp.specs.Calls.{planDef, moveDef, stepDef, finishDef, addDef, withdrawDef, grantDef, closeDef, countersDef, listDef, recordsFor}
 use Rattle.srp.specs.Login.{loginDef}
 use Rattle.srp.specs.Answers.{returned, valuesOf, answerOf}
@@ -21,6 +22,7 @@ use Rattle.words.specs.View.{view}
 use Rattle.state.specs.Promises.{RepliesAs, AnswersAs}
 use Rattle.login.specs.LoggingIn.{LogsIn}
 use Rattle.take.specs.Taking.{Stores}
+use Rattle.tables.specs.Bringing as bringing
 use Rattle.exports.specs.Arguments.{recordSize, allWords, settingsIn, directionIn}
 
 -- an answer in numbers
@@ -32,7 +34,7 @@ pub record InC (n : ℕ) (w : List ℕ) (o : Outcome) : Type 0 where
   pub number : n ≡ returned (o .reply)
   pub words : w ≡ answerWords (answerOf o)
 
--- take, finish, grant, close
+-- take, tables, finish, grant, close
 pub record AnswersInC (l st b l′ st′ b′ : List ℕ) (n : ℕ) (w : List ℕ) (o : Outcome) : Type 0 where
   pub numbers : InC n w o
   pub call : AnswersAs l st b l′ st′ b′ (answerOf o) o
@@ -74,9 +76,13 @@ pub record ListsInC (p : Port) (before after : List ℕ) (n : ℕ) (w : List ℕ
 abbrev pub LoginInC : (b l′ b′ settings : List ℕ) (Q : ℕ) (own s : List ℕ) (n : ℕ) (w : List ℕ) → Type 0
 LoginInC b l′ b′ settings Q own s n w = (st : List ℕ) → LogsInC st l′ b b′ n w (loginDef (settingsIn settings Q) own (length b) s)
 
-pub record TakeInC (l st b l′ st′ b′ s : List ℕ) (t : Tables) (n : ℕ) (w : List ℕ) : Type 0 where
-  pub answers : AnswersInC l st b l′ st′ b′ n w (takeDef (view l st) (length b) s t)
-  pub store : Stores l st l′ st′ (takeDef (view l st) (length b) s t .reply)
+pub record TakeInC (l st b l′ st′ b′ s : List ℕ) (n : ℕ) (w : List ℕ) : Type 0 where
+  pub answers : AnswersInC l st b l′ st′ b′ n w (takeDef (view l st) (length b) s)
+  pub store : Stores l st l′ st′ (takeDef (view l st) (length b) s .reply)
+
+pub record TablesInC (l st b l′ st′ b′ : List ℕ) (tag : ℕ) (t : Tables) (n : ℕ) (w : List ℕ) : Type 0 where
+  pub answers : AnswersInC l st b l′ st′ b′ n w (tablesDef (view l st) (length b) tag t)
+  pub store : bringing.Stores l st l′ st′ tag (tablesDef (view l st) (length b) tag t .reply)
 
 abbrev pub PlanInC : (l l′ : List ℕ) (tag out inn n : ℕ) → Type 0
 PlanInC l l′ tag out inn n = (st : List ℕ) → RepliesInC l st l′ n (planDef (view l st) tag out inn)

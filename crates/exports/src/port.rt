@@ -15,15 +15,14 @@ ghost use Rattle.srp.specs.Limits.{mostBuffers};
 ghost use Rattle.srp.specs.Lists.{over};
 ghost use Rattle.words.specs.Sizes.{portWords};
 ghost use Rattle.report.specs.Reports.{slotRecords};
-ghost use Rattle.take.specs.Taking.{tables};
-ghost use Rattle.exports.specs.Calls.{Gives, Plain, Wordless, Ends, LoginInC, TakeInC, PlanInC, MoveInC, StepInC, FinishInC, AddInC, WithdrawInC, GrantInC, CloseInC, CountersInC, ListInC};
+ghost use Rattle.exports.specs.Calls.{Gives, Plain, Wordless, Ends, LoginInC, PlanInC, MoveInC, StepInC, FinishInC, AddInC, WithdrawInC, GrantInC, CloseInC, CountersInC, ListInC};
 ghost use Rattle.exports.specs.Arguments.{recordSize, recordWords, allWords, settingsIn, directionIn};
 
 // Words of a record.
 const RECORD: usize = 4;
 
 // The answer's eight words are written, and the number is returned.
-fn give(answer: &mut [u64; 8], a: Answer) -> u32
+pub fn give(answer: &mut [u64; 8], a: Answer) -> u32
     ensures { λ n. ⌜ Gives n (now (answer .exit)) a ⌝ }
 {
     *answer = answer::words_of(a);
@@ -32,7 +31,7 @@ fn give(answer: &mut [u64; 8], a: Answer) -> u32
 }
 
 // The same where there are no values: the length of the message alone.
-fn give_length(answer: &mut [u64; 8], a: Answer) -> u32
+pub fn give_length(answer: &mut [u64; 8], a: Answer) -> u32
     requires { ⌜ Plain (a .reply) ⌝ }
     ensures { λ n. ⌜ Gives n (now (answer .exit)) a ⌝ }
 {
@@ -109,29 +108,6 @@ pub extern "C" fn srp_target_login(
     let c = settings_of(settings, boundary);
     let a = login::login(port, c, own, msg, buf);
     give(answer, a)
-}
-
-#[no_mangle]
-pub extern "C" fn srp_target_take<'a>(
-    port: &mut [u64; PORT],
-    store: &mut [u8; STORE],
-    msg: &'a [u8],
-    out: &'a [u8],
-    inn: &'a [u8],
-    buf: &mut [u8],
-    answer: &mut [u64; 8],
-) -> u32
-    ensures { λ n. ⌜ TakeInC
-        (now (port .entry)) (now (store .entry)) (now (buf .entry)) (now (port .exit)) (now (store .exit)) (now (buf .exit))
-        (now (msg .entry)) (tables (now (out .entry)) (now (inn .entry))) n (now (answer .exit)) ⌝ }
-{
-    let a = take::take(port, store, msg, out, inn, buf);
-    let reply = a.reply;
-    let Reply::NewCommand { tag, lun, cdb } = reply else {
-        return give(answer, a);
-    };
-    *answer = answer::command_words(a.wrote, tag, lun, cdb);
-    0
 }
 
 #[no_mangle]

@@ -2,6 +2,7 @@
 //! what a closed port is. Checked of garbage too; of the model it uses only which refusals hang up.
 
 use super::call::{Call, Outcome, UNWRITTEN};
+use super::slots::shares_a_place;
 use crate::interface::{PORT_WORDS, STORE_BYTES};
 use crate::model::Refusal;
 
@@ -54,22 +55,31 @@ fn closes(call: &Call, outcome: &Outcome) -> bool {
     }
 }
 
+/// The store with one place's bytes at another place, and the tables written over them there.
+fn brought(before: &[u8], from: usize, to: usize, call: &Call) -> Vec<u8> {
+    let mut expected = before.to_vec();
+    expected.copy_within(from..from + PLACE_BYTES, to);
+    for (at, table) in [to, to + PLACE_BYTES / 2].into_iter().zip(call.tables()) {
+        expected[at..at + table.len()].copy_from_slice(table);
+    }
+    expected
+}
+
 /// What of the store may be written: for a command taken one place of it, for its tables those of its place, each as it
-/// was lent, and else nothing.
-fn writes_lawfully(call: &Call, outcome: &Outcome, [before, after]: [&[u8]; 2]) -> bool {
+/// was lent, and else nothing. A command that shares its place is first given one of its own.
+fn writes_lawfully(call: &Call, outcome: &Outcome, words: &[u64], [before, after]: [&[u8]; 2]) -> bool {
     match call {
         _ if before == after => true,
         Call::Take { .. } if outcome.returned == 0 && outcome.answer[1] == 1 => {
             let places = before.chunks(PLACE_BYTES).zip(after.chunks(PLACE_BYTES));
             places.filter(|(before, after)| before != after).count() == 1
         }
-        Call::Tables { .. } if outcome.returned == 0 => (0..before.len()).step_by(PLACE_BYTES).any(|place| {
-            let mut expected = before.to_vec();
-            for (at, table) in [place, place + PLACE_BYTES / 2].into_iter().zip(call.tables()) {
-                expected[at..at + table.len()].copy_from_slice(table);
-            }
-            expected == after
-        }),
+        Call::Tables { .. } if outcome.returned == 0 => {
+            let places = || (0..before.len()).step_by(PLACE_BYTES);
+            let own = |place| brought(before, place, place, call) == after;
+            let moved = |from| places().any(|to| brought(before, from, to, call) == after);
+            places().any(own) || (shares_a_place(words) && places().any(moved))
+        }
         _ => false,
     }
 }
@@ -114,7 +124,7 @@ pub fn check(call: &Call, outcome: &Outcome, change: &Change) {
     if !call.has_answer() && outcome.answer != UNWRITTEN {
         fail("the answer words were written by a call that has none");
     }
-    if !writes_lawfully(call, outcome, change.store) {
+    if !writes_lawfully(call, outcome, change.words[0], change.store) {
         fail("the store was written, and not as a command taken or its tables write it");
     }
     if only_reads(call, outcome) && !same_words {

@@ -16,7 +16,7 @@ const HELD: usize = 1;
 /// Of a slot: the tag; the place in the store, by its lowest 4 bits; odd where the command waits; and each way format,
 /// count, table length and total length.
 const TAG: usize = 0;
-const PLACE: usize = 5;
+pub const PLACE: usize = 5;
 pub const WAITS: usize = 20;
 pub const DIRECTIONS: [usize; 2] = [21, 25];
 
@@ -38,6 +38,13 @@ pub fn held(memory: &Memory) -> usize {
         1 => memory.words[HELD].min(16) as usize,
         _ => 0,
     }
+}
+
+/// Whether two open commands have one place of the store, as no calls leave them.
+pub fn shares_a_place(words: &[u64]) -> bool {
+    let held = words[HELD].min(16) as usize;
+    let places: Vec<u64> = (0..held).map(|slot| words[word_of(slot, PLACE)] % 16).collect();
+    (0..held).any(|slot| places[..slot].contains(&places[slot]))
 }
 
 pub fn tag(memory: &Memory, slot: usize) -> u64 {

@@ -4,44 +4,44 @@ use Rattle.srp.specs.Answers as def
 use Rattle.answer.specs.Words.{answerWords}
 use Rattle.exports.proofs.InC.{take-in-c}
 use borrow.Author.Needs.{needs}
-use Rattle.exports.proofs.port.srp_target_take.Statement.{statement}
-use Rattle.exports.proofs.port.srp_target_take.Tie as tie
-use Rattle.exports.proofs.port.srp_target_take.Reads as reads
-use Rattle.exports.proofs.port.srp_target_take.Lts as lts
+use Rattle.exports.proofs.taking.srp_target_take.Statement.{statement}
+use Rattle.exports.proofs.taking.srp_target_take.Tie as tie
+use Rattle.exports.proofs.taking.srp_target_take.Reads as reads
+use Rattle.exports.proofs.taking.srp_target_take.Lts as lts
 use Rattle.answer.proofs.command_words.Reads as command-words-reads
 use Rattle.exports.proofs.port.give.Reads as give-reads
 use Rattle.take.proofs.take.Reads as take-reads
 
--- src/port.rt:106:9
+-- src/taking.rt:21:9
 take-requires : tie.Need-take-requires
 take-requires c κs = search needs
 
--- src/port.rt:108:29
+-- src/taking.rt:24:9
 enum-known-reply : tie.Need-enum-known-reply
 enum-known-reply c = search needs
 
--- src/port.rt:109:9
+-- src/taking.rt:30:9
 give-requires : tie.Need-give-requires
 give-requires c κs = search needs
 
--- src/port.rt:109:9
+-- src/taking.rt:30:9
 same-length : tie.Need-same-length
 same-length c = search needs
 
--- src/port.rt:109:9
+-- src/taking.rt:30:9
 returns : tie.Need-returns
 returns c =
     take-in-c (c .before .before .before .before .before .take .ensures) (c .give .ensures)
 
--- src/port.rt:111:15
+-- src/taking.rt:32:15
 command-words-requires : tie.Need-command-words-requires
 command-words-requires c κs = search needs
 
--- src/port.rt:92:1
+-- src/taking.rt:9:1
 same-length-2 : tie.Need-same-length-2
 same-length-2 c = search needs
 
--- src/port.rt:92:1
+-- src/taking.rt:9:1
 returns-2 : tie.Need-returns-2
 returns-2 c =
     let a = c .before .before .before .before .before .before .take .result in
