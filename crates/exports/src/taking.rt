@@ -7,10 +7,10 @@ ghost use Rattle.tables.specs.Bringing.{tables};
 ghost use Rattle.exports.specs.Calls.{TakeInC, TablesInC};
 
 #[no_mangle]
-pub extern "C" fn srp_target_take<'a>(
+pub extern "C" fn srp_target_take(
     port: &mut [u64; PORT],
     store: &mut [u8; STORE],
-    msg: &'a [u8],
+    msg: &[u8],
     buf: &mut [u8],
     answer: &mut [u64; 8],
 ) -> u32

@@ -53,10 +53,10 @@ fn enter_waiting(s: &mut [u64], store: &mut [u8], msg: &[u8], c: Command) -> Ans
 }
 
 // A command without a fetch that passed its checks is open from here on.
-fn enter_ready<'a>(
+fn enter_ready(
     s: &mut [u64],
     store: &mut [u8],
-    msg: &'a [u8],
+    msg: &[u8],
     c: Command,
     out_total: u64,
     in_total: u64,
@@ -100,13 +100,7 @@ fn enter_ready<'a>(
 }
 
 // 10 of a command without a fetch, and what follows.
-fn take_fields<'a>(
-    s: &mut [u64],
-    store: &mut [u8],
-    msg: &'a [u8],
-    buf: &mut [u8],
-    c: Command,
-) -> Answer
+fn take_fields(s: &mut [u64], store: &mut [u8], msg: &[u8], buf: &mut [u8], c: Command) -> Answer
     requires { ⌜ length (now s) ≡ portWords ⌝ }
     requires { ⌜ length (now store) ≡ storeSize ⌝ }
     requires { ⌜ headOf (now s) .live ≡ true ⌝ }
@@ -134,10 +128,10 @@ fn take_fields<'a>(
 }
 
 // 22 and 23 of a command, and what follows.
-pub fn take_command<'a>(
+pub fn take_command(
     s: &mut [u64],
     store: &mut [u8],
-    msg: &'a [u8],
+    msg: &[u8],
     buf: &mut [u8],
     c: Command,
 ) -> Answer

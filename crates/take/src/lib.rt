@@ -127,12 +127,7 @@ fn take_logout(s: &mut [u64]) -> Answer
 }
 
 // Takes a message. Refused 1, 21, 3, 4, 3, 5, 6, 3, 7, 8, 22, 23, and 10 where no fetch is named; a credit response 25.
-pub fn take<'a>(
-    s: &mut [u64; PORT],
-    store: &mut [u8; STORE],
-    msg: &'a [u8],
-    buf: &mut [u8],
-) -> Answer
+pub fn take(s: &mut [u64; PORT], store: &mut [u8; STORE], msg: &[u8], buf: &mut [u8]) -> Answer
     ensures { λ r. ⌜ Takes
         (now (s .entry)) (now (store .entry)) (now (buf .entry)) (now (s .exit)) (now (store .exit)) (now (buf .exit))
         (now (msg .entry)) r ⌝ }

@@ -16,7 +16,7 @@ const HELD: usize = 1;
 /// Of a slot: the tag; the place in the store, by its lowest 4 bits; odd where the command waits; and each way format,
 /// count, table length and total length.
 const TAG: usize = 0;
-const PLACE: usize = 5;
+pub const PLACE: usize = 5;
 pub const WAITS: usize = 20;
 pub const DIRECTIONS: [usize; 2] = [21, 25];
 
