@@ -1,9 +1,11 @@
 // exchange: an initiator and the port, through two queues. A login; commands with data both ways, direct and indirect; a disk's middle sent before its
-// start, a last byte before the others; the listing; an abort; the listing oldest first, with a tag used again; buffers added, granted and withdrawn; a
-// logout; a second login with address boundaries, which the owner ends. Each message, each call and each RDMA operation is a line.
+// start, a last byte before the others; the listing; an abort; the listing oldest first, with a tag used again; commands that wait for their tables, of
+// which one's are bad and one is aborted; buffers added, granted and withdrawn; a logout; a second login with address boundaries, which the owner ends.
+// Each message, each call and each RDMA operation is a line.
 mod boundary;
 mod moves;
 mod order;
+mod waiting;
 
 use host::MESSAGE;
 use host::channel;
@@ -47,10 +49,12 @@ fn main() {
     let g = two_open(&mut port, &mut store, &mut to_port, &mut to_initiator, f);
     let h = abort(&mut port, &mut store, &mut to_port, &mut to_initiator, g);
     let i = order::oldest_first(&mut port, &mut store, &mut to_port, &mut to_initiator, h);
-    let j = change_buffers(&mut port, &mut store, &mut to_port, &mut to_initiator, i);
-    log_out(&mut port, &mut store, &mut to_port, &mut to_initiator, j);
-    let k = boundary::data_in(&mut port, &mut store, &mut to_port, &mut to_initiator);
-    close(&mut port, &mut to_initiator, k);
+    let j = waiting::side_by_side(&mut port, &mut store, &mut to_port, &mut to_initiator, i);
+    let k = waiting::ended_early(&mut port, &mut store, &mut to_port, &mut to_initiator, j);
+    let l = change_buffers(&mut port, &mut store, &mut to_port, &mut to_initiator, k);
+    log_out(&mut port, &mut store, &mut to_port, &mut to_initiator, l);
+    let m = boundary::data_in(&mut port, &mut store, &mut to_port, &mut to_initiator);
+    close(&mut port, &mut to_initiator, m);
 }
 
 // The login makes the port, and gives the initiator its limit.
@@ -104,17 +108,19 @@ fn data_out(
     owner::finish(port, 0x11, to_initiator, left)
 }
 
-// The oldest message is taken, with a table of two descriptors, 800 bytes together, in the initiator's memory.
+// The oldest message is taken, and its table brought: two descriptors, 800 bytes together, in the initiator's memory.
 fn take_two_entries(
     port: &mut [u64; PORT],
     store: &mut [u8; STORE],
     to_port: &mut [u8; QUEUE],
     to_initiator: &mut [u8; QUEUE],
+    tag: u64,
 ) {
     let mut memory = [0u8; MESSAGE];
     host::put_segment(&mut memory, 0, 0x6000, 5, 300);
     host::put_segment(&mut memory, SEGMENT, 0x8000, 6, 500);
-    owner::take_fetching(port, store, to_port, &memory, to_initiator);
+    let kept = owner::take_fetching(&mut *port, &mut *store, to_port, &mut *to_initiator);
+    owner::bring(port, store, tag, kept, &memory, to_initiator);
 }
 
 // 100 bytes out and 800 in, the latter by a table that is fetched; 900 are required, and the command fails.
@@ -142,7 +148,7 @@ fn both_ways(
     host::put_segment(&mut msg, CMD_SIZE, 0x4000, 4, 100);
     host::put_table(&mut msg, DIRECT_SIZE, 0xa000, 9, 2, 800);
     let left = channel::submit(&mut *to_port, message(&msg, DIRECT_SIZE + TABLE), limit);
-    take_two_entries(&mut *port, &mut *store, to_port, &mut *to_initiator);
+    take_two_entries(&mut *port, &mut *store, to_port, &mut *to_initiator, 0x12);
     owner::move_data(&mut *port, store, 0x12, 100, 900);
     fail(port, to_initiator, 0x12, left)
 }

@@ -147,14 +147,26 @@ pub fn refusal(lead: &[u8], r: Reply) {
     }
 }
 
+// A command that was taken, and whether it waits for its tables.
+fn command(tag: u64, cdb: usize, waits: bool) {
+    hexadecimal(b"   taken: tag ", tag, 4);
+    number(b", CDB ", cdb as u64);
+    text(b" bytes");
+    if waits {
+        text(b", waits for its tables");
+    }
+    end();
+}
+
 // What taking a message comes to.
 pub fn taken(r: Reply) {
     match r {
-        Reply::NewCommand { tag, lun, cdb } => {
-            hexadecimal(b"   taken: tag ", tag, 4);
-            number(b", CDB ", cdb as u64);
-            text(b" bytes\n");
-        }
+        Reply::NewCommand {
+            tag,
+            lun,
+            cdb,
+            waits,
+        } => command(tag, cdb, waits),
         Reply::Accepted => text(b"   accepted\n"),
         Reply::Rejected(_) => text(b"   rejected\n"),
         Reply::Refused(f) => {

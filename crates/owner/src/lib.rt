@@ -14,6 +14,7 @@ use host::first;
 use host::queue;
 use host::queue::QUEUE;
 use host::show;
+pub use requests::bring;
 pub use requests::end;
 pub use requests::finish;
 pub use requests::move_data;

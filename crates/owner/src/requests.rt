@@ -14,11 +14,31 @@ use host::show;
 use srp::Direction;
 use srp::Fetch;
 use srp::Look;
+use srp::Refusal;
+use srp::Reply;
 use words::PORT;
 use words::STORE;
 
 // more pieces than any command here has
 const PIECES: usize = 64;
+
+// A message is taken; whether it is a command that waits for its tables.
+fn take_one(
+    port: &mut [u64; PORT],
+    store: &mut [u8; STORE],
+    msg: &[u8],
+    to_initiator: &mut [u8; QUEUE],
+) -> bool {
+    let mut buf = [0u8; WRITTEN];
+    let a = take::take(port, store, msg, &mut buf);
+    let reply = a.reply;
+    show::taken(reply);
+    send(to_initiator, &buf, a.wrote);
+    match reply {
+        Reply::NewCommand { waits, .. } => waits,
+        _ => false,
+    }
+}
 
 fn show_fetch(f: Fetch) {
     if f.len != 0 {
@@ -26,72 +46,64 @@ fn show_fetch(f: Fetch) {
     }
 }
 
-// The table to fetch for a direction: its bytes are the first of those that the initiator's memory holds.
-fn fetched<'a>(msg: &'a [u8], memory: &'a [u8], d: Direction) -> &'a [u8] {
-    let Look::Fetches(out, inn) = command::look(msg, AGREED, FORMATS) else {
-        return first(memory, 0);
+// The fetches of a command that waits begin.
+fn begin(look: Look) {
+    let Look::Fetches(out, inn) = look else {
+        return;
     };
-    match d {
-        Direction::Out => {
-            show_fetch(out);
-            first(memory, out.len as usize)
-        }
-        Direction::In => {
-            show_fetch(inn);
-            first(memory, inn.len as usize)
-        }
-    }
+    show_fetch(out);
+    show_fetch(inn);
 }
 
-fn take_one<'a>(
+// The oldest message is taken, and leaves; where it waits its fetches begin. What look names of it is answered, for the owner to keep.
+pub fn take_fetching(
     port: &mut [u64; PORT],
     store: &mut [u8; STORE],
-    msg: &'a [u8],
-    memory: &'a [u8],
+    to_port: &mut [u8; QUEUE],
     to_initiator: &mut [u8; QUEUE],
-) {
-    let mut buf = [0u8; WRITTEN];
-    let out = fetched(msg, memory, Direction::Out);
-    let inn = fetched(msg, memory, Direction::In);
-    let a = take::take(port, store, msg, out, inn, &mut buf);
-    let reply = a.reply;
-    show::taken(reply);
-    send(to_initiator, &buf, a.wrote);
+) -> Look {
+    if queue::is_empty(to_port) {
+        return Look::LookRefused(Refusal::Length);
+    }
+    let look = command::look(queue::front(to_port), AGREED, FORMATS);
+    if take_one(port, store, queue::front(to_port), to_initiator) {
+        begin(look);
+    }
+    queue::pop(to_port);
+    look
 }
 
-// The oldest message is taken, and leaves.
+// The same of a message that names no fetch.
 pub fn take(
     port: &mut [u64; PORT],
     store: &mut [u8; STORE],
     to_port: &mut [u8; QUEUE],
     to_initiator: &mut [u8; QUEUE],
 ) {
-    take_with(port, store, to_port, b"", to_initiator);
+    take_fetching(port, store, to_port, to_initiator);
 }
 
-// The same, where a table is to be fetched: what the initiator's memory holds there.
-pub fn take_fetching(
+// The fetches kept of a command are complete, and its tables are brought: each is the first bytes that the initiator's memory holds.
+pub fn bring(
     port: &mut [u64; PORT],
     store: &mut [u8; STORE],
-    to_port: &mut [u8; QUEUE],
+    tag: u64,
+    kept: Look,
     memory: &[u8; MESSAGE],
     to_initiator: &mut [u8; QUEUE],
 ) {
-    take_with(port, store, to_port, memory, to_initiator);
-}
-
-fn take_with(
-    port: &mut [u64; PORT],
-    store: &mut [u8; STORE],
-    to_port: &mut [u8; QUEUE],
-    memory: &[u8],
-    to_initiator: &mut [u8; QUEUE],
-) {
-    if queue::is_empty(to_port) {
+    let mut buf = [0u8; WRITTEN];
+    let Look::Fetches(f, g) = kept else {
         return;
-    }
-    take_one(port, store, queue::front(to_port), memory, to_initiator);
-    queue::pop(to_port);
+    };
+    show::hexadecimal(b"   tables: tag ", tag, 4);
+    show::number(b", out ", f.len as u64);
+    show::number(b", in ", g.len as u64);
+    show::end();
+    let out = first(memory, f.len as usize);
+    let inn = first(memory, g.len as usize);
+    let a = tables::bring(port, store, tag, out, inn, &mut buf);
+    conclude(to_initiator, &buf, a);
 }
 
 // What the command requires each way.

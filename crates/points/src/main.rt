@@ -162,6 +162,7 @@ fn tables(
         &mut *to_port,
         &mut *to_initiator,
         message(&msg, 68),
+        0x31,
     );
     host::put_command(&mut msg, 0, IN_INDIRECT, 0, 2, 0x32, 0, 0x28);
     host::put_table(&mut msg, CMD_SIZE, 0x9000, 3, 2, 700);
@@ -170,20 +171,22 @@ fn tables(
     alone(port, store, to_port, to_initiator, message(&msg, 100));
 }
 
-// As alone, with the table in the initiator's memory.
+// As alone, with the table in the initiator's memory, for which the command waits.
 fn fetching(
     port: &mut [u64; PORT],
     store: &mut [u8; STORE],
     to_port: &mut [u8; QUEUE],
     to_initiator: &mut [u8; QUEUE],
     msg: &[u8],
+    tag: u64,
 ) {
     let mut memory = [0u8; MESSAGE];
     host::put_segment(&mut memory, 0, 0x3000, 1, 600);
     host::put_segment(&mut memory, SEGMENT, 0x5000, 1, 100);
     owner::log_in(&mut *port, BUFFERS);
     let left = channel::submit(&mut *to_port, msg, LIMIT);
-    owner::take_fetching(&mut *port, store, to_port, &memory, to_initiator);
+    let kept = owner::take_fetching(&mut *port, &mut *store, to_port, &mut *to_initiator);
+    owner::bring(&mut *port, store, tag, kept, &memory, to_initiator);
     owner::show_counts(port, left);
 }
 

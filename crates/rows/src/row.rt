@@ -190,13 +190,13 @@ fn segments_right(s: &[u8], e: Ends) -> bool
 }
 
 // Whether a direction's table has F bytes and no field of it is bad.
-fn fits<'a>(msg: &'a [u8], table: &'a [u8], d: Descriptor) -> bool
+fn fits(msg: &[u8], table: &[u8], d: Descriptor) -> bool
     requires { ⌜ LiesIn (now msg) d ⌝ }
 {
     if table.len() != (command::fetched_length(d) as usize) {
         return false;
     }
-    match command::fields(msg, table, d) {
+    match command::fields(command::standing(msg, d), table, d) {
         Total::Sum(_) => true,
         Total::Wrong => false,
     }
