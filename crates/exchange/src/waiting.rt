@@ -44,12 +44,14 @@ fn submit(
     channel::submit(to_port, message(&msg, ENTRIES), limit)
 }
 
-// 100 bytes in, one memory descriptor.
-fn submit_direct(to_port: &mut [u8; QUEUE], limit: u64) -> u64 {
+// Data out and data in, by tables; and 100 bytes in, one memory descriptor.
+fn submit_three(to_port: &mut [u8; QUEUE], limit: u64) -> u64 {
     let mut msg = [0u8; MESSAGE];
+    let a = submit(&mut *to_port, OUT_INDIRECT, FIRST, 0x2a, 0xa000, limit);
+    let b = submit(&mut *to_port, IN_INDIRECT, SECOND, 0x28, 0xb000, a);
     host::put_command(&mut msg, 0, IN_DIRECT, 0, 0, THIRD, 0, 0x28);
     host::put_segment(&mut msg, CMD_SIZE, 0x1000, 7, 100);
-    channel::submit(to_port, message(&msg, DIRECT_SIZE), limit)
+    channel::submit(to_port, message(&msg, DIRECT_SIZE), b)
 }
 
 fn submit_abort(to_port: &mut [u8; QUEUE], limit: u64) -> u64 {
@@ -74,7 +76,21 @@ fn bring(
     owner::bring(port, store, tag, kept, &memory, to_initiator);
 }
 
-// Two that wait, of which a plan draws 33, and a third that is served meanwhile; the second's table comes before the first's.
+// While two wait: all three are held and listed, a plan of the first draws 33, and the third is served.
+fn serve_third(
+    port: &mut [u64; PORT],
+    store: &[u8; STORE],
+    to_initiator: &mut [u8; QUEUE],
+    limit: u64,
+) -> u64 {
+    owner::show_counts(port, limit);
+    owner::plan(&mut *port, FIRST, 700, 0);
+    owner::show_list(port);
+    owner::move_data(&mut *port, store, THIRD, 0, 100);
+    owner::finish(port, THIRD, to_initiator, limit)
+}
+
+// Two that wait, and a third that is served meanwhile; the second's table comes before the first's.
 pub fn side_by_side(
     port: &mut [u64; PORT],
     store: &mut [u8; STORE],
@@ -85,17 +101,11 @@ pub fn side_by_side(
     show::text(
         b"two commands wait for their tables, a third is served meanwhile; the second's table comes before the first's\n",
     );
-    let a = submit(&mut *to_port, OUT_INDIRECT, FIRST, 0x2a, 0xa000, limit);
-    let b = submit(&mut *to_port, IN_INDIRECT, SECOND, 0x28, 0xb000, a);
-    let c = submit_direct(&mut *to_port, b);
+    let a = submit_three(&mut *to_port, limit);
     let first = owner::take_fetching(&mut *port, &mut *store, &mut *to_port, &mut *to_initiator);
     let second = owner::take_fetching(&mut *port, &mut *store, &mut *to_port, &mut *to_initiator);
     owner::take(&mut *port, &mut *store, to_port, &mut *to_initiator);
-    owner::show_counts(port, c);
-    owner::plan(&mut *port, FIRST, 700, 0);
-    owner::show_list(port);
-    owner::move_data(&mut *port, store, THIRD, 0, 100);
-    let d = owner::finish(&mut *port, THIRD, &mut *to_initiator, c);
+    let b = serve_third(&mut *port, store, &mut *to_initiator, a);
     bring(
         &mut *port,
         &mut *store,
@@ -106,7 +116,7 @@ pub fn side_by_side(
         &mut *to_initiator,
     );
     owner::move_data(&mut *port, store, SECOND, 0, 700);
-    let e = owner::finish(&mut *port, SECOND, &mut *to_initiator, d);
+    let c = owner::finish(&mut *port, SECOND, &mut *to_initiator, b);
     bring(
         &mut *port,
         &mut *store,
@@ -117,7 +127,7 @@ pub fn side_by_side(
         &mut *to_initiator,
     );
     owner::move_data(&mut *port, store, FIRST, 700, 0);
-    owner::finish(port, FIRST, to_initiator, e)
+    owner::finish(port, FIRST, to_initiator, c)
 }
 
 // Two that end as they wait: one by its table, which draws 10, one by an abort, after which its table draws 24.
