@@ -263,9 +263,9 @@ uint32_t srp_target_login(uint64_t *port, const uint32_t settings[5], uint64_t b
  * Where no message is named, buf is as it was. Unless a command was taken every byte of the store is as it was; a
  * command taken changes the bytes of its own place there, 1,024 that no other open command uses, and no other byte.
  *
- * Command: the whole CDB is part of msg, from byte 32 on, 16 + 4n long; n is byte 31 bits 7-2. The port keeps nothing
- * of msg: it may be lent again when the owner is done with the CDB and srp_look has named the fetches, also while the
- * command waits.
+ * Command: the whole CDB is part of msg, from byte 32 on, 16 + 4n long; n is byte 31 bits 7-2. What the port needs of
+ * msg it has copied: msg may be lent again when the owner is done with the CDB and srp_look has named the fetches, also
+ * while the command waits.
  *
  * w is 1 where the command waits for its tables, else 0. A command that waits is open: it counts as held from here on,
  * a request with its tag draws 23, it is listed, with 0 bytes each way, and it can be aborted. Until srp_target_tables
@@ -318,8 +318,8 @@ uint32_t srp_target_take(uint64_t *port, uint8_t *store, const uint8_t *msg, siz
  *   10                  40       the command is answered and not open any more: buf has its SRP_RSP
  *   1, 9, 21, 24, 33    0        all is as it was: after 1 and 9 the command waits on
  * Where no message is named, buf is as it was. After 0 each table of F bytes stands in the command's place of the
- * store; no other byte of the store is written, and none after a refusal. The port keeps nothing of out and in: they
- * may be lent again.
+ * store, and every byte of the other places is as it was; after a refusal every byte of the store is. The port keeps no
+ * pointer to out and in: they may be lent again.
  *
  * After 0 the command is as one that take took without waiting: it can be planned, and nothing was handed out. Its age
  * in the listing counts from its take.

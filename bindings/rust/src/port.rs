@@ -85,8 +85,8 @@ impl Port {
     }
 
     /// Takes a message from the initiator. A command for which [`look`](crate::look) names a table, in either direction,
-    /// waits for it: it is open, held and listed, and can be aborted, and [`Port::tables`] brings its tables. The port
-    /// keeps nothing of `msg`.
+    /// waits for it: it is open, held and listed, and can be aborted, and [`Port::tables`] brings its tables. What the
+    /// port needs of `msg` it has copied.
     ///
     /// # Errors
     /// Refused: 1 `buf` under 132 bytes; 21 closed; 3 message under 16 bytes or over the agreed length; 4 another type;
