@@ -12,8 +12,7 @@ use Rattle.srp.specs.Refusals.{firstOf}
 use Rattle.srp.specs.Descriptors.{segmentsOf, sumOf}
 use Rattle.srp.specs.Requests.{lookChecks, lookOutcome}
 use Rattle.srp.specs.Cutting.{upTo, next, cutNext, cutChecks, cutOutcome}
-use Rattle.srp.specs.Credit.{Open, Port}
-use Rattle.srp.specs.Take.{hasTag}
+use Rattle.srp.specs.Credit.{Open, Port, hasTag}
 use Rattle.srp.specs.Calls.{handOut, nextOf, numberIn, planChecks, planOutcome, moveChecks, moveOutcome, stepChecks, stepOutcome, finishChecks, finishOutcome, addChecks, addOutcome, withdrawChecks, withdrawOutcome, grantChecks, grantOutcome, closeChecks, closeOutcome, countersChecks, countersOutcome, listChecks, listOutcome, recordsBy, recordsFor}
 use Rattle.srp.specs.Outside.{lookInC, lookAnswer, cutInC, cutAnswer}
 use Rattle.srp.specs.Answers.{returned}

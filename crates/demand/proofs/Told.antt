@@ -13,11 +13,11 @@ use lib.Seq.{take-append-seam}
 use Rattle.srp.specs.Lists.{find, isSome}
 use Rattle.srp.specs.Refusals.{Conduct, hangsUp, answered, stays, altersNothing, conductOf, numberOf, firstOf}
 use Rattle.srp.specs.Writing.{placed}
-use Rattle.srp.specs.Credit.{Open, Port}
+use Rattle.srp.specs.Credit.{Open, Port, hasTag}
 use Rattle.srp.specs.Bytes.{bit}
 use Rattle.srp.proofs.Refusing.{answered-open}
 use Rattle.srp.specs.Tables.{badResponse, tablesChecks, tablesRefused, tablesBy, tablesDef}
-use Rattle.srp.specs.Take.{Outcome, silent, hasTag, isOpen, Tables, waits, takeChecks, conducted, accepted, takeBy, takeDef}
+use Rattle.srp.specs.Take.{Outcome, silent, isOpen, Tables, waits, takeChecks, conducted, accepted, takeBy, takeDef}
 use Rattle.srp.specs.Calls.{unless, planChecks, planOutcome, planDef, moveChecks, moveOutcome, moveDef, addChecks, addOutcome, addDef, withdrawChecks, withdrawOutcome, withdrawDef, handOut, nextOf, numberIn, stepChecks, stepDef, finalResponse, finishChecks, finishOutcome, finishDef, grantChecks, grantOutcome, grantDef, closeChecks, closeOutcome, closeDef}
 use Rattle.srp.specs.Login.{loginChecks, rejections, loginBy, loginDef}
 use Rattle.srp.specs.Answers.{returned, sizeOf, answerOf}

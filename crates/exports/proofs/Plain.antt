@@ -10,8 +10,8 @@ use types.Run.{OneOf, miss}
 use Rattle.srp.proofs.Reply.{the-type}
 use Rattle.srp.specs.Refusals.{firstOf}
 use Rattle.srp.specs.Lists.{find, without}
-use Rattle.srp.specs.Credit.{Port}
-use Rattle.srp.specs.Take.{Outcome, hasTag, Tables}
+use Rattle.srp.specs.Credit.{Port, hasTag}
+use Rattle.srp.specs.Take.{Outcome, Tables}
 use Rattle.srp.specs.Tables.{tablesChecks, tablesBy, tablesDef}
 use Rattle.srp.proofs.Refusing.{tables-as}
 use Rattle.srp.specs.Calls.{unless, nextOf, numberIn, handOut, stepChecks, stepDef, finishChecks, finishDef, grantChecks, grantDef, closeDef, countersDef, finishOutcome, grantOutcome, closeChecks, closeOutcome, countersChecks, countersOutcome}

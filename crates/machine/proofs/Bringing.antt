@@ -9,9 +9,9 @@ use Rattle.srp.specs.Bytes.{typeOf}
 use Rattle.srp.specs.Messages.{rsp}
 use Rattle.srp.specs.Lists.{find, without, isSome}
 use Rattle.srp.specs.Refusals.{Conduct, hangsUp, answered, stays, altersNothing, conductOf, firstOf}
-use Rattle.srp.specs.Credit.{Open, Port, due, withHeld}
+use Rattle.srp.specs.Credit.{Open, Port, due, withHeld, hasTag}
 use Rattle.srp.specs.Writing.{answer}
-use Rattle.srp.specs.Take.{hasTag, isOpen, Tables, newSide}
+use Rattle.srp.specs.Take.{isOpen, Tables, newSide}
 use Rattle.srp.specs.Tables.{tablesChecks, brought, badResponse, tablesRefused, tablesBy, tablesDef}
 use Rattle.machine.specs.Machine.{Track, fresh, Machine, tracked, endedBy, Login}
 use Rattle.machine.specs.Actions.{ifAnswered}

@@ -16,10 +16,10 @@ use Rattle.srp.specs.Refusals.{firstOf}
 use Rattle.srp.specs.Lists.{find, All, isSome}
 use Rattle.srp.specs.Descriptors.{Given, standingSize}
 use Rattle.srp.specs.Both.{Both, Each, each}
-use Rattle.srp.specs.Credit.{withSides, ruleOf, Open, Port, owed, due, withCredit, withHeld, withWanted, withUnanswered}
+use Rattle.srp.specs.Credit.{withSides, ruleOf, Open, Port, owed, due, withCredit, withHeld, withWanted, withUnanswered, hasTag}
 use Rattle.srp.specs.declared.Terms.{Terms}
 use Rattle.srp.specs.Writing.{answer}
-use Rattle.srp.specs.Take.{Outcome, silent, answering, hasTag, isOpen}
+use Rattle.srp.specs.Take.{Outcome, silent, answering, isOpen}
 use Rattle.srp.specs.Calls.{recordOf, listing}
 use Rattle.machine.specs.Machine.{deltaOf, deltas, requests, Track, shownAs, Wire, Work, Machine, four, lack, unused, wantedBy, tracked, requestsHeld, withWire, withWork, withBuffers, withQueue, joined, join, saysLogout, Login}
 use Rattle.machine.specs.Actions.{Action}

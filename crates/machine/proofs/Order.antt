@@ -8,7 +8,7 @@ use Prim.Native.Nat.{ℕ}
 use lib.Dec.{eqb}
 use borrow.Author.Tests.{eqb-true, eq-eqb}
 use Rattle.srp.specs.Lists.{find, without, change, isSome}
-use Rattle.srp.specs.Take.{hasTag}
+use Rattle.srp.specs.Credit.{hasTag}
 use Rattle.machine.specs.Machine.{Track, isAmong, oldestFirst}
 use Rattle.machine.specs.Demand.{Absent, Distinct}
 use Rattle.srp.specs.declared.Request.{Request}

@@ -11,10 +11,10 @@ use Rattle.srp.specs.Bytes.{typeOf}
 use Rattle.srp.specs.Lists.{find, change, without, isSome}
 use Rattle.srp.specs.Refusals.{firstOf}
 use Rattle.srp.specs.Requests.{isRequest}
-use Rattle.srp.specs.Credit.{Open, Port, due, withHeld}
+use Rattle.srp.specs.Credit.{Open, Port, due, withHeld, hasTag}
 use Rattle.srp.specs.declared.Terms.{Terms}
 use Rattle.srp.specs.Writing.{response, creditRequest}
-use Rattle.srp.specs.Take.{Outcome, silent, answering, hasTag, isOpen}
+use Rattle.srp.specs.Take.{Outcome, silent, answering, isOpen}
 use Rattle.srp.specs.Tables.{awaitedBy}
 use Rattle.srp.specs.Calls.{unless, isPlanned, planned, planChecks, planDef, finalOf, finalResponse, finishChecks, finishDef, addChecks, addDef, withdrawChecks, withdrawDef, grantChecks, grantDef}
 use Rattle.srp.specs.Answers.{refusalIn}

@@ -10,9 +10,8 @@ use borrow.Author.Tests.{ltb-false, not-false}
 use Rattle.srp.specs.Lists.{find, change, All}
 use Rattle.srp.specs.Refusals.{firstOf}
 use Rattle.srp.specs.Both.{of}
-use Rattle.srp.specs.Credit.{Side, movable, withSides, onSide, ruleOf, Port, withHeld}
+use Rattle.srp.specs.Credit.{Side, movable, withSides, onSide, ruleOf, Port, withHeld, hasTag}
 use Rattle.srp.specs.declared.Terms.{Terms}
-use Rattle.srp.specs.Take.{hasTag}
 use Rattle.srp.specs.Calls.{isPlanned, planned, moving, beyond, hasPieces, unfinished, moveChecks, moveDef, kindOf, handing, nextIn, nextOf, numberIn, wrapped, handOut, stepChecks, stepDef}
 use Rattle.srp.specs.Answers.{refusalIn}
 use Rattle.machine.specs.Machine.{Progress, soFar, movableIn, Track, withMove, withOperation, Machine, tracked, withTracks, Login}

@@ -9,7 +9,7 @@ use lib.ListN.{length}
 use lib.Dec.{eqb}
 use borrow.Author.Tests.{eqb-true, eqb-false, ne-eqb}
 use Rattle.srp.specs.Lists.{find, without, change, isSome}
-use Rattle.srp.specs.Take.{hasTag}
+use Rattle.srp.specs.Credit.{hasTag}
 use Rattle.machine.specs.Machine.{Track}
 use Rattle.machine.specs.Demand.{Absent, Distinct}
 use Rattle.srp.specs.declared.Request.{Request}

@@ -15,9 +15,8 @@ use Rattle.srp.specs.Lists.{find, All, isSome}
 use Rattle.srp.specs.Both.{Each}
 use Rattle.srp.specs.Cutting.{cutsOf}
 use Rattle.srp.specs.Moves.{CutAsMove}
-use Rattle.srp.specs.Credit.{Port, ruleOf, owed}
+use Rattle.srp.specs.Credit.{Port, ruleOf, owed, hasTag}
 use Rattle.srp.specs.declared.Terms.{Terms}
-use Rattle.srp.specs.Take.{hasTag}
 use Rattle.srp.specs.Calls.{listing, listDef, countersDef}
 use Rattle.srp.specs.declared.Refusal.{Refusal}
 use Rattle.srp.specs.declared.Reply.{Reply}

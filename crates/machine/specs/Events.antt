@@ -12,9 +12,9 @@ use Rattle.srp.specs.Refusals.{Conduct, hangsUp, answered, stays, altersNothing
 use Rattle.srp.specs.Lists.{change, without, isSome}
 use Rattle.srp.specs.Both.{of}
 use Rattle.srp.specs.Requests.{isRequest}
-use Rattle.srp.specs.Credit.{onSide}
+use Rattle.srp.specs.Credit.{onSide, hasTag}
 use Rattle.srp.specs.Writing.{response, answer}
-use Rattle.srp.specs.Take.{silent, hasTag, Tables, noTables, givenIn, fieldsFit, waits, aborted, takeDef}
+use Rattle.srp.specs.Take.{silent, Tables, noTables, givenIn, fieldsFit, waits, aborted, takeDef}
 use Rattle.srp.specs.Tables.{awaitedBy, isWaiting, badLengths, badTables, brought, tablesDef}
 use Rattle.srp.specs.Calls.{isPlanned, badSense, planDef, moveDef, stepDef, finishDef, addDef, withdrawDef, grantDef}
 use Rattle.srp.specs.Answers.{refusalIn, operationIn}

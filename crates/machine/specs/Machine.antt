@@ -14,10 +14,10 @@ use Rattle.srp.specs.Both.{along}
 use Rattle.srp.specs.Descriptors.{Segment, sumOf}
 use Rattle.srp.specs.Requests.{isRequest, readMessage}
 use Rattle.srp.specs.Cutting.{trimmed, highest}
-use Rattle.srp.specs.Credit.{Held, withSides}
+use Rattle.srp.specs.Credit.{Held, withSides, hasTag}
 use Rattle.srp.specs.declared.Terms.{Terms}
 use Rattle.srp.specs.Writing.{residual, Response, solicited}
-use Rattle.srp.specs.Take.{hasTag, newlyHeld}
+use Rattle.srp.specs.Take.{newlyHeld}
 use Rattle.srp.specs.Login.{termsOf}
 use Rattle.srp.specs.declared.Settings.{Settings}
 use Rattle.srp.specs.declared.Piece.{Piece}

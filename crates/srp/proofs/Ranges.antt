@@ -16,8 +16,8 @@ use Rattle.srp.specs.Refusals.{Conduct, hangsUp, answered, stays, alters
 use Rattle.srp.specs.Descriptors.{Given}
 use Rattle.srp.specs.Requests.{readMessage}
 use Rattle.srp.specs.Both.{Both, of}
-use Rattle.srp.specs.Credit.{Side, movable, onSide, Open, ruleOf, Port, closedPort, due, withHeld, withWanted, withUnanswered}
-use Rattle.srp.specs.Take.{Outcome, conducted, Tables, tablesFit, fieldsFit, newSide, newOpen, aborted, takeChecks, accepted, takeBy, takeDef, hasTag}
+use Rattle.srp.specs.Credit.{Side, movable, onSide, Open, ruleOf, Port, closedPort, due, withHeld, withWanted, withUnanswered, hasTag}
+use Rattle.srp.specs.Take.{Outcome, conducted, Tables, tablesFit, fieldsFit, newSide, newOpen, aborted, takeChecks, accepted, takeBy, takeDef}
 use Rattle.srp.specs.Tables.{badLengths, badTables, tablesChecks, broughtTo, brought as withTables, tablesRefused, tablesBy, tablesDef}
 use Rattle.srp.specs.Calls.{unless, planned as withPlan, planChecks, planDef, moving, moveChecks, moveDef, requiring, handing, nextIn, nextOf, numberIn, wrapped, handOut, stepChecks, stepDef, finishChecks, finishDef, addChecks, addDef, withdrawChecks, withdrawDef, grantChecks, grantDef, closeDef, closeChecks}
 use Rattle.srp.specs.declared.Refusal.{Refusal}

@@ -15,8 +15,8 @@ use Rattle.srp.specs.Bytes.{get, typeOf}
 use Rattle.srp.specs.Messages.{tag}
 use Rattle.srp.specs.Refusals.{Conduct, hangsUp, answered, stays, altersNothing, numberOf, conductOf, Check, firstOf}
 use Rattle.srp.specs.Requests.{commandChecks, commandOf, taskOf, unlessBad, sized, lengthChecks, byType, readMessage}
-use Rattle.srp.specs.Credit.{Open, Port}
-use Rattle.srp.specs.Take.{Outcome, conducted, hasTag, isOpen, Tables, noTables, givenIn, fieldsFit, waits, laterChecks, takeChecks, accepted, refusedBy, takeBy, takeRead, takeDef}
+use Rattle.srp.specs.Credit.{Open, Port, hasTag}
+use Rattle.srp.specs.Take.{Outcome, conducted, isOpen, Tables, noTables, givenIn, fieldsFit, waits, laterChecks, takeChecks, accepted, refusedBy, takeBy, takeRead, takeDef}
 use Rattle.srp.specs.Tables.{awaitedBy, badTables, tablesChecks, tablesRefused, tablesBy}
 use Rattle.srp.specs.Calls.{unless}
 use Rattle.srp.specs.Answers.{refusalIn}

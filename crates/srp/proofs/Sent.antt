@@ -18,11 +18,11 @@ use Rattle.srp.specs.Lists.{find, without, isSome, All}
 use Rattle.srp.specs.Limits.{bufferSize}
 use Rattle.srp.specs.Refusals.{Conduct, hangsUp, answered, stays, altersNothing, conductOf, firstOf}
 use Rattle.srp.specs.Requests.{isRequest, readMessage}
-use Rattle.srp.specs.Credit.{Side, Open, Port, due, withHeld}
+use Rattle.srp.specs.Credit.{Side, Open, Port, due, withHeld, hasTag}
 use Rattle.srp.specs.declared.Residual.{Residual}
 use Rattle.srp.specs.declared.Residual.the-variants.{Even, Over, Under}
 use Rattle.srp.specs.Writing.{residualOf, amount, isOver, isUnder, Response, responseBytes, responseValues, response, answer, targetLogout, solicited}
-use Rattle.srp.specs.Take.{Outcome, hasTag, isOpen, Tables, aborted, wholeLun, taskCode, requestIn, conducted, takeChecks, takeBy, takeDef}
+use Rattle.srp.specs.Take.{Outcome, isOpen, Tables, aborted, wholeLun, taskCode, requestIn, conducted, takeChecks, takeBy, takeDef}
 use Rattle.srp.specs.Tables.{tablesChecks, badResponse, tablesRefused, tablesBy, tablesDef}
 use Rattle.srp.specs.Calls.{unless, finalResponse, finishChecks, finishDef, grantChecks, grantDef, closeDef, closeChecks}
 use Rattle.srp.specs.Login.{badSettings, loginChecks, supported, rejections, judged, loginBy, loginDef}

@@ -9,12 +9,13 @@ use Rattle.srp.specs.Bytes.{bit}
 use Rattle.srp.specs.Messages.{cmd}
 use Rattle.srp.specs.Refusals.{numberOf}
 use Rattle.srp.specs.Take.{Outcome}
+use Rattle.srp.specs.Calls.{kindOf}
 use Rattle.srp.specs.declared.Refusal.{Refusal}
 use Rattle.srp.specs.declared.Kind.{Kind}
 use Rattle.srp.specs.declared.Kind.the-variants.{Read, Write}
 use Rattle.srp.specs.declared.Piece.{Piece}
 use Rattle.srp.specs.declared.Reply.{Reply}
-use Rattle.srp.specs.declared.Reply.the-variants.{Refused, Performed, NewCommand, TaskAnswered, CreditSettled, LoggedOut, Operation, Done, Accepted, Rejected, Counts, Listed}
+use Rattle.srp.specs.declared.Reply.the-variants.{Refused, Performed, NewCommand, TaskAnswered, CreditSettled, LoggedOut, Operation, Done, Served, Idle, Accepted, Rejected, Counts, Listed}
 use Rattle.srp.specs.declared.Answer.{Answer}
 
 -- an RDMA Read is 1, an RDMA Write 2
@@ -22,7 +23,7 @@ abbrev pub kindNumber : Kind → ℕ
 kindNumber Read = 1
 kindNumber Write = 2
 
--- what a reply says: the refusal, if it is one; the operation that a step hands out; and its values, in document 01's order
+-- what a reply says: the refusal, if it is one; the operation that a step or a turn hands out; and its values, in document 01's order
 pub record Said : Type 0 where
   pub refusal : Option Refusal
   pub operation : Option Piece
@@ -47,6 +48,14 @@ saidBy (Operation k o n) =
       values = pos (kindNumber k) ∷ pos (o .handle) ∷ pos (o .address) ∷ pos (o .len) ∷ pos (o .offset) ∷ pos n ∷ [];
     }
 saidBy (Done n) = saying (pos n ∷ [])
+-- the same, and its command's tag; the kind tells the direction
+saidBy (Served tag d o n) =
+    record {
+      refusal = none;
+      operation = some o;
+      values = pos (kindNumber (kindOf d)) ∷ pos (o .handle) ∷ pos (o .address) ∷ pos (o .len) ∷ pos (o .offset) ∷ pos n ∷ pos tag ∷ [];
+    }
+saidBy Idle = saying []
 saidBy Accepted = saying []
 saidBy (Rejected reason) = saying (pos reason ∷ [])
 -- W, A, H, D

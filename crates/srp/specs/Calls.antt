@@ -1,4 +1,4 @@
--- Document 01, and document 02, jobs 1, 4, 5 and 7: the other calls on a port. "Other calls: 1, 21, 11, 24, 30, 29, 26, 27, 28, those that apply"; a
+-- Document 01, and document 02, jobs 1, 4, 5, 7 and 8: the other calls on a port. "Other calls: 1, 21, 11, 24, 30, 29, 26, 27, 28, those that apply"; a
 -- refusal alters nothing.
 use mathlib.Core.Bool.{Bool, true, false, not, _&&_, _||_}
 use mathlib.Core.List.{List, [], _∷_, _++_, map}
@@ -7,25 +7,27 @@ use Prim.Native.Nat.{ℕ, _+_, _-_, _%_, _^_, max}
 use lib.Dec.{ltb, leb, eqb}
 use lib.ListN.{length}
 use Rattle.srp.specs.Limits.{mostBuffers, longestSense}
-use Rattle.srp.specs.Lists.{find, change, without, over}
+use Rattle.srp.specs.Lists.{find, change, over}
 use Rattle.srp.specs.Refusals.{Check, firstOf, short}
 use Rattle.srp.specs.Cutting.{piece, next, trimmed}
 use Rattle.srp.specs.Both.{of, along}
-use Rattle.srp.specs.Credit.{Side, withTransfer, withRequired, withCurrent, movable, Held, onSide, Open, ruleOf, Port, closedPort, owed, due, withHeld, withWanted, withUnanswered, withSides}
+use Rattle.srp.specs.Credit.{Side, withTransfer, withRequired, withCurrent, movable, Held, onSide, Open, hasTag, place, ruleOf, Port, closedPort, owed, due, withMoves, withHeld, withWanted, withUnanswered, withSides}
+use Rattle.srp.specs.Line.{moreIn, joins, putBack, keepsPlace}
 use Rattle.srp.specs.declared.Terms.{Terms}
 use Rattle.srp.specs.Writing.{residualOf, Response, response, creditRequest, targetLogout, solicited}
-use Rattle.srp.specs.Take.{Outcome, silent, answering, closed, hasTag, isOpen}
+use Rattle.srp.specs.Take.{Outcome, silent, answering, closed, isOpen, leaving}
 use Rattle.srp.specs.Tables.{isWaiting}
 use Rattle.srp.specs.declared.Refusal.{Refusal}
 use Rattle.srp.specs.declared.Refusal.the-variants.{Argument, TagNotOpen, Unanswered, NotOwed, Wanted, Unplanned, Planned, Offset, Unfinished, Waiting}
 use Rattle.srp.specs.declared.Direction.{Direction}
 use Rattle.srp.specs.declared.Direction.the-variants.{Out, In}
+use Rattle.srp.specs.declared.Place.{Place}
 use Rattle.srp.specs.declared.Kind.{Kind}
 use Rattle.srp.specs.declared.Kind.the-variants.{Read, Write}
 use Rattle.srp.specs.declared.Piece.{Piece}
 use Rattle.srp.specs.declared.Counters.{Counters}
 use Rattle.srp.specs.declared.Record.{Record}
-use Rattle.srp.specs.declared.Reply.the-variants.{Refused, Performed, Operation, Done, Counts, Listed}
+use Rattle.srp.specs.declared.Reply.the-variants.{Refused, Performed, Operation, Done, Served, Idle, Counts, Listed}
 
 -- the outcome o, where no check hits
 abbrev pub unless : Option Refusal → Port → Outcome → Outcome
@@ -74,8 +76,7 @@ abbrev pub hasPieces : Side → Bool
 hasPieces s = ltb (s .transfer .at) (s .transfer .end)
 
 abbrev pub unfinished : Direction → Option Open → Bool
-unfinished d none = false
-unfinished d (some c) = hasPieces (of d (c .sides))
+unfinished d c = moreIn hasPieces d c
 
 -- "both after 29, which moves draw too"
 abbrev pub moveChecks : Port → ℕ → Direction → ℕ → List Check
@@ -83,10 +84,15 @@ moveChecks p tag d offset =
     let c : Option Open = find (hasTag tag) (p .held) in
     closed p ∷ openChecks p tag ++ ((not (isPlanned c), Unplanned) ∷ (beyond d offset c, Offset) ∷ (unfinished d c, Unfinished) ∷ [])
 
--- "After plan, the owner names a move: direction, offset, count"
+-- one direction of the command with the tag changes by f, and the line by whether its move has pieces then
+abbrev pub altered : Port → ℕ → Direction → (Side → Side) → (line : Bool → List Place) → Port
+altered p tag d f line =
+    let cs : List Open = change (hasTag tag) (onSide d f) (p .held) in
+    withMoves p (p .announced) cs (line (unfinished d (find (hasTag tag) cs)))
+
+-- "After plan, the owner names a move: direction, offset, count"; "Each named move with pieces joins a line at its end"
 abbrev pub moveOutcome : Port → ℕ → Direction → ℕ → ℕ → Outcome
-moveOutcome p tag d offset count =
-    silent (withHeld p (p .announced) (change (hasTag tag) (onSide d (moving offset count)) (p .held))) Performed
+moveOutcome p tag d offset count = silent (altered p tag d (moving offset count) (λ more. joins more (place tag d) (p .line))) Performed
 
 abbrev pub moveDef : Port → ℕ → Direction → ℕ → ℕ → Outcome
 moveDef p tag d offset count = unless (firstOf (moveChecks p tag d offset)) p (moveOutcome p tag d offset count)
@@ -121,11 +127,12 @@ numberIn d (some c) = of d (c .sides) .transfer .number
 abbrev pub wrapped : Piece → Piece
 wrapped o = piece (o .address % 2 ^ 64) (o .handle) (o .len) (o .offset)
 
--- "Step's answers carry the number handed out so far for the current move, their own piece included": n is the number without it
+-- "Step's answers carry the number handed out so far for the current move, their own piece included": n is the number without it. "a single step's last
+-- piece" removes the move from the line
 abbrev pub handOut : Port → ℕ → Direction → (n : ℕ) → Option Piece → Outcome
 handOut p tag d n none = silent p (Done n)
 handOut p tag d n (some o) =
-    silent (withHeld p (p .announced) (change (hasTag tag) (onSide d (handing (o .len))) (p .held))) (Operation (kindOf d) (wrapped o) (n + 1))
+    silent (altered p tag d (handing (o .len)) (λ more. keepsPlace more (place tag d) (p .line))) (Operation (kindOf d) (wrapped o) (n + 1))
 
 abbrev pub stepChecks : Port → ℕ → List Check
 stepChecks p tag = closed p ∷ openChecks p tag ++ ((not (isPlanned (find (hasTag tag) (p .held))), Unplanned) ∷ [])
@@ -138,6 +145,29 @@ stepOutcome p tag d =
 
 abbrev pub stepDef : Port → ℕ → Direction → Outcome
 stepDef p tag d = unless (firstOf (stepChecks p tag)) p (stepOutcome p tag d)
+
+-- ── turn
+
+-- x stood before the others: "serves the first and puts it back at the end if pieces remain". "A piece comes with its tag, direction and Job 4's number".
+-- In a port that a login made it has one; where it has none, nothing is altered
+abbrev pub serve : Port → (x : Place) (others : List Place) (n : ℕ) → Option Piece → Outcome
+serve p x others n none = silent p Idle
+serve p x others n (some o) =
+    silent (altered p (x .tag) (x .direction) (handing (o .len)) (λ more. putBack more x others)) (Served (x .tag) (x .direction) (wrapped o) (n + 1))
+
+-- "The call says idle only with an empty line"
+abbrev pub serveFirst : Port → List Place → Outcome
+serveFirst p [] = silent p Idle
+serveFirst p (x ∷ others) =
+    let c : Option Open = find (hasTag (x .tag)) (p .held) in
+    serve p x others (numberIn (x .direction) c) (nextOf (p .terms) (x .direction) c)
+
+abbrev pub turnChecks : Port → List Check
+turnChecks p = closed p ∷ []
+
+-- "one call that picks the next piece"
+abbrev pub turnDef : Port → Outcome
+turnDef p = unless (firstOf (turnChecks p)) p (serveFirst p (p .line))
 
 -- ── finish
 
@@ -169,7 +199,7 @@ finishChecks p room tag status sense = short room ∷ closed p ∷ (badSense sta
 
 abbrev pub finishOutcome : Port → ℕ → ℕ → List ℕ → Outcome
 finishOutcome p tag status sense =
-    answering (withHeld p (p .announced) (without (hasTag tag) (p .held))) Performed (finalResponse (find (hasTag tag) (p .held)) status sense)
+    answering (leaving p (p .announced) (hasTag tag)) Performed (finalResponse (find (hasTag tag) (p .held)) status sense)
 
 abbrev pub finishDef : Port → ℕ → ℕ → ℕ → List ℕ → Outcome
 finishDef p room tag status sense = unless (firstOf (finishChecks p room tag status sense)) p (finishOutcome p tag status sense)

@@ -1,10 +1,14 @@
--- Document 01, "Credit", and document 02, jobs 1, 4, 6 and 7: the state of one channel, W, A, H and D, and what moves of its commands' data.
+-- Document 01, "Credit", and document 02, jobs 1, 4, 6, 7 and 8: the state of one channel, W, A, H and D, what moves of its commands' data, and the line
+-- of moves.
+use mathlib.Core.Path.{_≡_}
 use mathlib.Core.Bool.{Bool, false}
-use mathlib.Core.List.{List, []}
+use mathlib.Core.List.{List, [], _∷_}
 use mathlib.Core.Option.{Option}
 use Prim.Native.Nat.{ℕ, _+_, _-_, min}
+use lib.Dec.{eqb}
 use lib.IntN.{ℤ, subℕ}
 use lib.ListN.{length}
+use Rattle.srp.specs.Lists.{find, isSome}
 use Rattle.srp.specs.Both.{Both, alter}
 use Rattle.srp.specs.Descriptors.{Segment, Given}
 use Rattle.srp.specs.Cutting.{Rule, upTo}
@@ -12,6 +16,7 @@ use Rattle.srp.specs.declared.Request.{Request}
 use Rattle.srp.specs.declared.Terms.{Terms}
 use Rattle.srp.specs.declared.Direction.{Direction}
 use Rattle.srp.specs.declared.Transfer.{Transfer}
+use Rattle.srp.specs.declared.Place.{Place}
 
 -- one direction of a command's data: what is fixed, its segments and B
 pub record Extent : Type 0 where
@@ -61,6 +66,21 @@ onSide d f c = withSides c (c .planned) (alter d f (c .sides))
 abbrev pub Open : Type 0
 Open = Held Side
 
+abbrev pub hasTag : {S : Type 0} → ℕ → Held S → Bool
+hasTag tag c = eqb tag (c .request .tag)
+
+-- no command of these has the tag; no two have one tag
+abbrev pub Absent : {S : Type 0} → ℕ → List (Held S) → Type 0
+Absent tag cs = isSome (find (hasTag tag) cs) ≡ false
+
+abbrev pub Distinct : {S : Type 0} → List (Held S) → Type 0
+Distinct [] = Unit {0}
+Distinct (c ∷ cs) = Absent (c .request .tag) cs × Distinct cs
+
+-- a move in the line: its command's tag and its direction
+abbrev pub place : ℕ → Direction → Place
+place tag d = record { tag = tag; direction = d }
+
 -- the rule that a login's pieces are cut by
 abbrev pub ruleOf : Terms → Rule
 ruleOf T = upTo (T .maximum) (T .boundary)
@@ -69,7 +89,7 @@ abbrev pub noTerms : Terms
 noTerms = record { maximum = 0; boundary = 0; agreed = 0; formats = 0; crsolnt = false; losolnt = false }
 
 -- `wanted` is W, `announced` A, `held` the open commands, oldest first: between calls their number is H. `unanswered`: a credit request
--- waits for its response
+-- waits for its response. `line`: the moves that turns serve, the next one first
 pub record Port : Type 0 where
   pub live : Bool
   pub wanted : ℕ
@@ -77,10 +97,11 @@ pub record Port : Type 0 where
   pub held : List Open
   pub unanswered : Bool
   pub terms : Terms
+  pub line : List Place
 
 -- "without an accepted login it is closed": a closed channel is this value
 abbrev pub closedPort : Port
-closedPort = record { live = false; wanted = 0; announced = 0; held = []; unanswered = false; terms = noTerms }
+closedPort = record { live = false; wanted = 0; announced = 0; held = []; unanswered = false; terms = noTerms; line = [] }
 
 -- D, which may be negative: it is not kept, since A + H + D = W always
 abbrev pub owed : Port → ℤ
@@ -92,15 +113,18 @@ due p = p .wanted - (p .announced + length (p .held))
 
 -- ── the port with other numbers
 
--- other W, A, open commands, and whether a credit request is unanswered
-abbrev pub withCredit : Port → ℕ → ℕ → List Open → Bool → Port
-withCredit p w a cs u = record { live = p .live; wanted = w; announced = a; held = cs; unanswered = u; terms = p .terms }
+-- other W, A, open commands, whether a credit request is unanswered, and another line
+abbrev pub withCredit : Port → ℕ → ℕ → List Open → Bool → List Place → Port
+withCredit p w a cs u l = record { live = p .live; wanted = w; announced = a; held = cs; unanswered = u; terms = p .terms; line = l }
+
+abbrev pub withMoves : Port → ℕ → List Open → List Place → Port
+withMoves p a cs l = withCredit p (p .wanted) a cs (p .unanswered) l
 
 abbrev pub withHeld : Port → ℕ → List Open → Port
-withHeld p a cs = withCredit p (p .wanted) a cs (p .unanswered)
+withHeld p a cs = withMoves p a cs (p .line)
 
 abbrev pub withWanted : Port → ℕ → Port
-withWanted p w = withCredit p w (p .announced) (p .held) (p .unanswered)
+withWanted p w = withCredit p w (p .announced) (p .held) (p .unanswered) (p .line)
 
 abbrev pub withUnanswered : Port → Bool → Port
-withUnanswered p u = withCredit p (p .wanted) (p .announced) (p .held) u
+withUnanswered p u = withCredit p (p .wanted) (p .announced) (p .held) u (p .line)

@@ -6,6 +6,7 @@ pub mod Messages
 pub mod ReadBack
 pub mod Refusals
 pub mod Credit
+pub mod Line
 pub mod Descriptors
 pub mod Requests
 pub mod Unread

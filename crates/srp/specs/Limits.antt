@@ -1,4 +1,4 @@
--- Document 01's limits, and document 02's of job 6, each in one place.
+-- Document 01's limits, and document 02's of jobs 6 and 8, each in one place.
 use Prim.Native.Nat.{ℕ}
 
 -- a lent message buffer has at least this; so long is the longest message that the port writes
@@ -12,6 +12,10 @@ answerSize = 32
 -- N and W are 1 to this; so many records has a lent list
 abbrev pub mostBuffers : ℕ
 mostBuffers = 16
+
+-- the line has at most this many moves, two of each command
+abbrev pub mostMoves : ℕ
+mostMoves = 32
 
 -- M is 1 to this
 abbrev pub largestPiece : ℕ

@@ -49,7 +49,7 @@ termsBy c n f r o = record { maximum = c .maximum; boundary = c .boundary; agree
 
 -- "After login W = A = N, H = D = 0"
 abbrev pub openedWith : ℕ → Terms → Port
-openedWith n terms = record { live = true; wanted = n; announced = n; held = []; unanswered = false; terms = terms }
+openedWith n terms = record { live = true; wanted = n; announced = n; held = []; unanswered = false; terms = terms; line = [] }
 
 -- SRP_LOGIN_RSP: "4-7 N, 8-15 tag, 16-19 requested length, 20-23 132, 24-25 supported formats, 26 bit 4 SOLNTSUP"
 abbrev pub loginResponse : (c : Settings) (t n : ℕ) → List ℕ

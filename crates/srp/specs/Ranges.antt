@@ -14,10 +14,11 @@ use Rattle.srp.specs.Lists.{All, isSome}
 use Rattle.srp.specs.Descriptors.{standingSize, Given, sumOf, reachable}
 use Rattle.srp.specs.Cutting.{cutsOf, badBoundary}
 use Rattle.srp.specs.Both.{Both, Each}
-use Rattle.srp.specs.Credit.{Extent, Side, movable, Open, ruleOf, Port, closedPort}
+use Rattle.srp.specs.Credit.{Extent, Side, movable, Open, Distinct, ruleOf, Port, closedPort}
+use Rattle.srp.specs.Line.{Lined}
 use Rattle.srp.specs.Take.{Tables, takeDef}
 use Rattle.srp.specs.Tables.{tablesDef}
-use Rattle.srp.specs.Calls.{hasPieces, nextIn, planDef, moveDef, stepDef, finishDef, addDef, withdrawDef, grantDef, closeDef}
+use Rattle.srp.specs.Calls.{hasPieces, nextIn, planDef, moveDef, stepDef, turnDef, finishDef, addDef, withdrawDef, grantDef, closeDef}
 use Rattle.srp.specs.Login.{loginDef}
 use Rattle.srp.specs.declared.Settings.{Settings}
 use Rattle.srp.specs.declared.Terms.{Terms}
@@ -71,7 +72,7 @@ pub record OpenRanges (c : Open) : Type 0 where
   pub sides : Each SideRanges (c .sides)
   pub unplanned : c .planned ≡ false → Each (λ s. s .transfer .required ≡ 0) (c .sides)
 
--- a port that is open: W, A + H, M, Q and its commands
+-- a port that is open: W, A + H, M, Q and its commands, of which no two have one tag; and its line is each move with pieces, once
 pub record Ranges (p : Port) : Type 0 where
   pub live : p .live ≡ true
   pub least : 1 ≤ p .wanted
@@ -81,6 +82,8 @@ pub record Ranges (p : Port) : Type 0 where
   pub largest : p .terms .maximum ≤ largestPiece
   pub boundary : badBoundary (p .terms .boundary) ≡ false
   pub commands : All OpenRanges (p .held)
+  pub distinct : Distinct (p .held)
+  pub line : Lined hasPieces (p .held) (p .line)
 
 -- the ports that a login made, accepted or not, and calls changed, whatever they answered; a message is bytes, and R below 2^32
 pub data Reached : Port → Type 0 where
@@ -90,6 +93,7 @@ pub data Reached : Port → Type 0 where
   planned : {p : Port} → Reached p → (tag out inn : ℕ) → out < 2 ^ 32 → inn < 2 ^ 32 → Reached (planDef p tag out inn .port)
   moved : {p : Port} → Reached p → (tag : ℕ) (d : Direction) (offset count : ℕ) → Reached (moveDef p tag d offset count .port)
   stepped : {p : Port} → Reached p → (tag : ℕ) (d : Direction) → Reached (stepDef p tag d .port)
+  turned : {p : Port} → Reached p → Reached (turnDef p .port)
   finished : {p : Port} → Reached p → (room tag status : ℕ) (sense : List ℕ) → Reached (finishDef p room tag status sense .port)
   added : {p : Port} → Reached p → (k : ℕ) → Reached (addDef p k .port)
   withdrew : {p : Port} → Reached p → (k : ℕ) → Reached (withdrawDef p k .port)

@@ -3,13 +3,13 @@ use mathlib.Core.Bool.{Bool, false, not}
 use mathlib.Core.List.{List, [], _∷_}
 use mathlib.Core.Option.{Option, none, some}
 use Prim.Native.Nat.{ℕ}
-use Rattle.srp.specs.Lists.{find, change, without, isSome}
+use Rattle.srp.specs.Lists.{find, change, isSome}
 use Rattle.srp.specs.Both.{Both}
 use Rattle.srp.specs.Refusals.{Conduct, hangsUp, answered, stays, altersNothing, conductOf, Check, firstOf, short}
 use Rattle.srp.specs.Descriptors.{Segment, Given}
-use Rattle.srp.specs.Credit.{Held, Open, Port, withHeld}
+use Rattle.srp.specs.Credit.{Held, Open, hasTag, Port, withHeld}
 use Rattle.srp.specs.Writing.{answer}
-use Rattle.srp.specs.Take.{Outcome, silent, answering, closed, hasTag, isOpen, Tables, tablesFit, fieldsFit, ready, newSide}
+use Rattle.srp.specs.Take.{Outcome, silent, answering, closed, isOpen, leaving, Tables, tablesFit, fieldsFit, ready, newSide}
 use Rattle.srp.specs.declared.Refusal.{Refusal}
 use Rattle.srp.specs.declared.Refusal.the-variants.{TableLength, Fields, TagNotOpen, Waiting}
 use Rattle.srp.specs.declared.Reply.the-variants.{Refused, Performed}
@@ -61,7 +61,7 @@ badResponse (some c) delta = answer (c .request .ucsolnt) (c .request .tag) 0x02
 abbrev pub tablesRefused : Conduct → Port → ℕ → Refusal → Outcome
 tablesRefused (hangsUp reason) p tag r = silent p (Refused r)
 tablesRefused answered p tag r =
-    answering (withHeld p (p .announced) (without (hasTag tag) (p .held))) (Refused r) (badResponse (find (hasTag tag) (p .held)))
+    answering (leaving p (p .announced) (hasTag tag)) (Refused r) (badResponse (find (hasTag tag) (p .held)))
 tablesRefused stays p tag r = silent p (Refused r)
 tablesRefused altersNothing p tag r = silent p (Refused r)
 

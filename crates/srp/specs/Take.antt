@@ -1,4 +1,4 @@
--- Document 01, and document 02, job 7: take, with its checks, hang-ups, refusal 10, task management, credit responses and the initiator's logout.
+-- Document 01, and document 02, jobs 7 and 8: take, with its checks, hang-ups, refusal 10, task management, credit responses and the initiator's logout.
 use mathlib.Core.Bool.{Bool, true, false, cond, not, _&&_, _||_}
 use mathlib.Core.List.{List, [], _∷_, _++_}
 use mathlib.Core.Option.{Option, none, some}
@@ -11,7 +11,8 @@ use Rattle.srp.specs.Both.{Both, along}
 use Rattle.srp.specs.Refusals.{Conduct, hangsUp, answered, stays, altersNothing, conductOf, Check, firstOf, short}
 use Rattle.srp.specs.Descriptors.{Segment, Given, given, segments, sumOf, fetched, goodFields}
 use Rattle.srp.specs.Requests.{readMessage}
-use Rattle.srp.specs.Credit.{Side, unmoved, Held, Open, Port, closedPort, due, withHeld, withUnanswered}
+use Rattle.srp.specs.Credit.{Side, unmoved, Held, Open, hasTag, Port, closedPort, due, withMoves, withHeld, withUnanswered}
+use Rattle.srp.specs.Line.{leftBy}
 use Rattle.srp.specs.Writing.{answer, targetLogout, solicited}
 use Rattle.srp.specs.declared.Refusal.{Refusal}
 use Rattle.srp.specs.declared.Refusal.the-variants.{Fields, Closed, NoCredit, TagOpen, CreditResponse}
@@ -46,11 +47,12 @@ hangUp p r reason = record { reply = Refused r; port = closedPort; wrote = targe
 abbrev pub closed : Port → Check
 closed p = (not (p .live), Closed)
 
-abbrev pub hasTag : {S : Type 0} → ℕ → Held S → Bool
-hasTag tag c = eqb tag (c .request .tag)
-
 abbrev pub isOpen : Port → ℕ → Bool
 isOpen p tag = isSome (find (hasTag tag) (p .held))
+
+-- with A = a and without the commands that `ends` tells, whose moves leave the line
+abbrev pub leaving : Port → (a : ℕ) → (ends : Open → Bool) → Port
+leaving p a ends = withMoves p a (without ends (p .held)) (leftBy ends (p .held) (p .line))
 
 -- ── a command
 
@@ -158,7 +160,7 @@ accepted p s (Cmd c) =
     silent (withHeld p (p .announced - 1) (p .held ++ (newOpen c s ∷ []))) (NewCommand (c .request .tag) (c .request .lun) (c .cdb) (waits c))
 -- a task request ends in the same call, as do the commands that it aborts
 accepted p s (TskMgmt k) =
-    answering (withHeld p (p .announced - 1) (without (aborted k) (p .held))) (TaskAnswered (k .request .tag) (k .request .lun))
+    answering (leaving p (p .announced - 1) (aborted k)) (TaskAnswered (k .request .tag) (k .request .lun))
     (answer (solicited (k .request) (taskCode (k .function))) (k .request .tag) (taskCode (k .function)))
 -- "settles it and uses no credit"
 accepted p s (CredRsp g) = silent (withUnanswered p false) CreditSettled

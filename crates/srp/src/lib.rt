@@ -89,6 +89,12 @@ pub struct Transfer {
     pub number: u32,
 }
 
+// A move in the line of moves with pieces: its command's tag and its direction.
+pub struct Place {
+    pub tag: u64,
+    pub direction: Direction,
+}
+
 // An SRP_CMD. Its CDB is the cdb bytes of the message from byte 32 on.
 pub struct Command {
     pub request: Request,
@@ -183,6 +189,9 @@ pub enum Reply {
     // a step: an RDMA operation; done; each with the number handed out so far for the current move, this operation included
     Operation(Kind, Piece, u32),
     Done(u32),
+    // a turn: an operation with its command's tag, its direction and that number; none, since no move has pieces
+    Served(u64, Direction, Piece, u32),
+    Idle,
     // a login
     Accepted,
     Rejected(u32),

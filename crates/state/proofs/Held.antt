@@ -14,8 +14,7 @@ use lib.Dec.{eqb}
 use lib.ListN.{length, getD, take, drop, set, drop-of-length-le}
 use lib.Seq.{drop-cons, getD-take, getD-drop, drop-drop, take-suc-set, take-take, drop-set-lt, take-set-lt, set-getD}
 use Rattle.srp.specs.Lists.{find, change, without}
-use Rattle.srp.specs.Credit.{Open, withHeld}
-use Rattle.srp.specs.Take.{hasTag}
+use Rattle.srp.specs.Credit.{Open, withHeld, hasTag}
 use Rattle.srp.proofs.ListLaws.{map-same, without-map}
 use Rattle.words.specs.declared.Slot.{Slot}
 use Rattle.words.specs.declared.Head.{Head}

@@ -8,9 +8,9 @@ use Prim.Native.Nat.{ℕ, _+_, _-_, _<_}
 use native.Mathlib.Omega.{arith}
 use lib.ListN.{getD}
 use Rattle.srp.specs.Lists.{find, change, isSome}
-use Rattle.srp.specs.Credit.{Open, Port, due, withHeld, withUnanswered}
+use Rattle.srp.specs.Credit.{Open, Port, due, withHeld, withUnanswered, hasTag}
 use Rattle.srp.specs.Writing.{placed}
-use Rattle.srp.specs.Take.{Outcome, silent, hasTag, isOpen}
+use Rattle.srp.specs.Take.{Outcome, silent, isOpen}
 use Rattle.srp.specs.Answers.{refusalIn, returned, sizeOf, answerOf, refusing}
 use Rattle.srp.specs.declared.Refusal.{Refusal}
 use Rattle.srp.specs.declared.Reply.{Reply}

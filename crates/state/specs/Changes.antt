@@ -7,8 +7,8 @@ use Prim.Native.Nat.{ℕ, _+_, _-_, _<_}
 use lib.Dec.{eqb}
 use lib.ListN.{take, getD, set}
 use Rattle.srp.specs.Lists.{find, change, without}
-use Rattle.srp.specs.Credit.{Open, Port, due, withHeld}
-use Rattle.srp.specs.Take.{aborts, hasTag}
+use Rattle.srp.specs.Credit.{Open, Port, due, withHeld, hasTag}
+use Rattle.srp.specs.Take.{aborts}
 use Rattle.srp.specs.declared.Request.{Request}
 use Rattle.words.specs.Sizes.{mostSlots}
 use Rattle.words.specs.Slots.{slots, noSlot}

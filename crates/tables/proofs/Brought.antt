@@ -13,8 +13,8 @@ use lib.ListN.{length, getD, take, drop, set}
 use lib.Seq.{take-at, getD-take, take-set-lt}
 use Rattle.srp.specs.Lists.{find, change, over}
 use Rattle.srp.specs.Descriptors.{whole, goodTable, fetched, standingSize, Given, chosen, segments, sumOf, copiesAgree, goodFormat}
-use Rattle.srp.specs.Credit.{Open, Port, withHeld}
-use Rattle.srp.specs.Take.{hasTag, newSide}
+use Rattle.srp.specs.Credit.{Open, Port, withHeld, hasTag}
+use Rattle.srp.specs.Take.{newSide}
 use Rattle.srp.specs.Tables.{brought}
 use Rattle.srp.specs.declared.Descriptor.{Descriptor}
 use Rattle.srp.specs.declared.Direction.the-variants.{Out, In}

@@ -13,8 +13,8 @@ use Rattle.srp.specs.Lists.{find}
 use Rattle.srp.specs.Both.{Both}
 use Rattle.srp.specs.Refusals.{firstOf}
 use Rattle.srp.specs.Descriptors.{Given, segments, sumOf, fetched, goodFields}
-use Rattle.srp.specs.Credit.{Open, Port}
-use Rattle.srp.specs.Take.{silent, hasTag, isOpen, Tables, tablesFit, fieldsFit}
+use Rattle.srp.specs.Credit.{Open, Port, hasTag}
+use Rattle.srp.specs.Take.{silent, isOpen, Tables, tablesFit, fieldsFit}
 use Rattle.srp.specs.Tables.{isWaiting, tablesChecks, tablesOutcome, tablesBy, tablesDef}
 use Rattle.srp.specs.declared.Refusal.{Refusal}
 use Rattle.srp.specs.declared.Refusal.the-variants.{ShortBuffer, TableLength, Fields, Closed, TagNotOpen, Waiting}

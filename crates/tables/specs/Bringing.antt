@@ -11,8 +11,8 @@ use Rattle.srp.specs.Lists.{find, without}
 use Rattle.srp.specs.Both.{Both}
 use Rattle.srp.specs.Refusals.{firstOf}
 use Rattle.srp.specs.Descriptors.{standingSize, Given}
-use Rattle.srp.specs.Credit.{Port, withHeld}
-use Rattle.srp.specs.Take.{Outcome, answering, hasTag, Tables, tablesFit, fieldsFit}
+use Rattle.srp.specs.Credit.{Port, withHeld, hasTag}
+use Rattle.srp.specs.Take.{Outcome, answering, Tables, tablesFit, fieldsFit}
 use Rattle.srp.specs.Tables.{badResponse, tablesBy, tablesDef}
 use Rattle.srp.specs.declared.Refusal.the-variants.{TableLength, Fields}
 use Rattle.srp.specs.declared.Descriptor.{Descriptor}

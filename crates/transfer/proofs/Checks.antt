@@ -6,9 +6,9 @@ use mathlib.Core.Option.{none, some}
 use Prim.Native.Nat.{ℕ}
 use lib.Dec.{ltb}
 use Rattle.srp.specs.Lists.{find, change}
-use Rattle.srp.specs.Credit.{movable, Open, Port, withHeld}
+use Rattle.srp.specs.Credit.{movable, Open, Port, withHeld, hasTag}
 use Rattle.srp.specs.Both.{of}
-use Rattle.srp.specs.Take.{silent, hasTag}
+use Rattle.srp.specs.Take.{silent}
 use Rattle.srp.specs.Tables.{isWaiting}
 use Rattle.srp.specs.Calls.{planDef, planned, hasPieces, moveOutcome, moveDef, stepOutcome, stepDef}
 use Rattle.srp.specs.declared.Direction.{Direction}

@@ -11,8 +11,7 @@ use lib.ListN.{getD}
 use borrow.Author.Tests.{lt-ltb, le-ltb}
 use Rattle.srp.specs.Lists.{find}
 use Rattle.srp.specs.Both.{of}
-use Rattle.srp.specs.Credit.{Side, movable, onSide, Open, Port}
-use Rattle.srp.specs.Take.{hasTag}
+use Rattle.srp.specs.Credit.{Side, movable, onSide, Open, Port, hasTag}
 use Rattle.srp.specs.Tables.{isWaiting}
 use Rattle.srp.specs.Calls.{moving, hasPieces, kindOf, handing, nextIn, nextOf, numberIn, handOut, stepOutcome}
 use Rattle.srp.specs.declared.Direction.{Direction}

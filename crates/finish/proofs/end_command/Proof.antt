@@ -6,9 +6,9 @@ use mathlib.Core.Option.{Option, some}
 use Prim.Native.Nat.{ℕ}
 use native.Mathlib.Omega.{arith}
 use Rattle.srp.specs.Lists.{find}
-use Rattle.srp.specs.Credit.{Open, Port, due}
+use Rattle.srp.specs.Credit.{Open, Port, due, hasTag}
 use Rattle.srp.specs.Writing.{placed}
-use Rattle.srp.specs.Take.{answering, hasTag}
+use Rattle.srp.specs.Take.{answering}
 use Rattle.srp.specs.Calls.{finalResponse}
 use Rattle.srp.specs.declared.Reply.the-variants.{Performed}
 use Rattle.words.specs.Head.{headOf}
