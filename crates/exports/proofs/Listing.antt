@@ -114,7 +114,7 @@ module _ (l before : List ℕ) (r : Reply) (C : CountFor l (length before / reco
   list-wordless k = go (firstOf (listChecks (view l st) (length before / recordSize))) (C .reply st)
     where
       go : (x : Option Refusal) → r ≡ unless x (view l st) (listOutcome (view l st)) .reply → Wordless r
-      go none q = absurd (miss unlisted 11 tt (subst (λ (y : Reply). OneOf unlisted (tagOf the-type y)) q k))
+      go none q = absurd (miss unlisted 13 tt (subst (λ (y : Reply). OneOf unlisted (tagOf the-type y)) q k))
       go (some f) q = sym (ap (λ (y : Reply). answerWords (record { reply = y; wrote = 0 })) q)
 
   pub list-refused : {n : ℕ} {w : List ℕ} → Gives n w (record { reply = r; wrote = 0 }) → OneOf unlisted (tagOf the-type r) → ListsInC (view l st) before before n w

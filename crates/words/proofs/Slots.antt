@@ -18,20 +18,27 @@ use Rattle.srp.proofs.FieldLaws.{front}
 use Rattle.srp.proofs.Descriptor as descriptor
 use Rattle.words.proofs.Part as part
 use Rattle.words.proofs.Slot.{the-row}
-use Rattle.srp.specs.Limits.{mostCopies}
+use Rattle.srp.specs.Limits.{mostCopies, mostMoves}
 use Rattle.srp.specs.Descriptors.{placeless}
 use Rattle.srp.specs.declared.Descriptor.{Descriptor}
 use Rattle.words.specs.declared.Part.{Part}
 use Rattle.words.specs.declared.Slot.{Slot}
 use Rattle.words.specs.declared.Head.{Head}
-use Rattle.words.specs.Sizes.{portWords, mostSlots, headSize, slotWords, firstWords, usedWords}
+use Rattle.words.specs.Sizes.{portWords, mostSlots, headSize, slotWords, firstWords, usedWords, lineAt}
 use Rattle.words.specs.Slots.{on, slotRequest, partAt, partIn, slotOf, firstWordsOf, awaitedWordsOf, wordsOf, PartFits, TableFits, SlotFits, slotAt, region, slotsFrom, slots, noSlot, partFor}
+use Rattle.words.specs.Line.{countIn, firstIn, ringFrom, behind, line}
 use Rattle.words.specs.Head.{headOf, headWords, HeadFits, SlotChanged, HeadChanged}
 
 -- ── a list with a part written
 
 module _ {A : Type 0} where
   module _ (d : List A) (pos : ℕ) (s : List A) (n : ℕ) (room : pos + n ≤ length d) (fits : n ≤ length s) where
+    -- what is behind what is written stays
+    pub stays-behind : (at : ℕ) → pos + n ≤ at → drop at (paste d pos s n) ≡ drop at d
+    stays-behind at h =
+        let e : pos + n + (at - (pos + n)) ≡ at = omega arith in
+        rw e at (sym (drop-drop (at - (pos + n)) (pos + n) (paste d pos s n)) ∙ ap (drop (at - (pos + n))) (drop-paste d pos s n (omega arith) fits) ∙ drop-drop (at - (pos + n)) (pos + n) d)
+
     -- a part before or behind what is written keeps its content
     pub apart : (at k : ℕ) → (at + k ≤ pos) ⊎ (pos + n ≤ at) → take k (drop at (paste d pos s n)) ≡ take k (drop at d)
     apart at k =
@@ -42,9 +49,7 @@ module _ {A : Type 0} where
         (front (take pos d) (take n s ++ drop (pos + n) d) at k (omega arith)
         ∙ sym (front (take pos d) (drop pos d) at k (omega arith))
         ∙ ap (λ (x : List A). take k (drop at x)) (take-append-drop pos d)))
-        (λ h.
-        let e : pos + n + (at - (pos + n)) ≡ at = omega arith in
-        ap (take k) (rw e at (sym (drop-drop (at - (pos + n)) (pos + n) (paste d pos s n)) ∙ ap (drop (at - (pos + n))) (drop-paste d pos s n (omega arith) fits) ∙ drop-drop (at - (pos + n)) (pos + n) d)))
+        (λ h. ap (take k) (stays-behind at h))
 
   module _ (d : List A) (pos : ℕ) (s : List A) (h : pos + length s ≤ length d) where
     -- from where it is written on, a list is what is written and what was behind it
@@ -156,6 +161,10 @@ pub head-same : (l l′ : List ℕ) → take headSize l′ ≡ take headSize l �
 unfolding wordsAt
 head-same l l′ e = ap headOf (sym (words-front 11 0 headSize l′ (omega arith)) ∙ ap (wordsAt 11 0) e ∙ words-front 11 0 headSize l (omega arith))
 
+-- words that agree behind the slots say the same line
+pub line-same : (l l′ : List ℕ) → behind l′ ≡ behind l → line l′ ≡ line l
+line-same l l′ e = ap (λ (r : List ℕ). take (countIn r) (ringFrom mostMoves (firstIn r) r)) e
+
 -- ── what is written says what was meant
 
 -- a bit that is written is read
@@ -237,7 +246,12 @@ head-slots l ws long e =
 -- a head written
 pub head-written : (l : List ℕ) → length l ≡ portWords → (h : Head) → HeadFits h
     → HeadChanged l (paste l 0 (headWords h) (length (headWords h))) (λ _. h)
-head-written l long h F = record { slots = head-slots l (headWords h) long (omega arith); head = head-put l h F }
+head-written l long h F =
+    record {
+      slots = head-slots l (headWords h) long (omega arith);
+      head = head-put l h F;
+      line = line-same l (paste l 0 (headWords h) (length (headWords h))) (stays-behind l 0 (headWords h) (length (headWords h)) (omega arith) (omega arith) lineAt (omega arith));
+    }
 
 -- ── a slot written
 
@@ -253,8 +267,9 @@ pub record OnlySlot (l l′ : List ℕ) (i : ℕ) (r : List ℕ) : Type 0 where
   pub this : region l′ i ≡ r
   pub others : (j : ℕ) → (j ≡ i → ⊥) → region l′ j ≡ region l j
   pub head : headOf l′ ≡ headOf l
+  pub rest : behind l′ ≡ behind l
 
--- that slot is another, the other slots and the head stay
+-- that slot is another, the other slots, the head and the line stay
 pub put-slot : {l l′ : List ℕ} {i : ℕ} {r : List ℕ} → OnlySlot l l′ i r → i < mostSlots → (f : Slot → Slot) → slotOf r ≡ f (getD (slots l) i noSlot) → SlotChanged l l′ i f
 put-slot {l} {l′} {i} O h f e =
     record {
@@ -262,6 +277,7 @@ put-slot {l} {l′} {i} O h f e =
           slots-set mostSlots 0 l l′ i (f (getD (slots l) i noSlot)) h (rw zero-add (ap slotOf (O .this) ∙ e))
           (λ j ne. O .others j (λ q. ne (q ∙ sym (zero-add i))));
       head = O .head;
+      line = line-same l l′ (O .rest);
     }
 
 -- words written from a slot's start on
@@ -273,6 +289,7 @@ slot-put l long i h ws wl =
       this = ap (take slotWords) (from-written l (slotAt i) ws (omega arith));
       others = λ j ne. stays (slotAt j) slotWords (⊎-elim (λ q. inl (omega arith)) (λ q. inr (omega arith)) (either j i ne));
       head = head-same l (paste l (slotAt i) ws (length ws)) (stays 0 headSize (inl (omega arith)));
+      rest = stays-behind l (slotAt i) ws (length ws) (omega arith) (omega arith) lineAt (omega arith);
     }
 
 -- the words of a command written there: the slot has the command

@@ -14,16 +14,21 @@ use Rattle.srp.specs.Bytes.{bit}
 use Rattle.srp.specs.declared.Direction.{Direction}
 use Rattle.srp.specs.declared.Direction.the-variants.{Out, In}
 use Rattle.words.specs.declared.Slot.{Slot}
-use Rattle.words.specs.Sizes.{portWords, mostSlots, headSize, slotWords, partWords, usedWords}
+use Rattle.words.specs.Sizes.{portWords, mostSlots, headSize, slotWords, partWords, usedWords, lineAt}
 use Rattle.words.specs.Slots.{slotOf, slotAt, region, slots, noSlot, partAt, plannedSlot, movedSlot}
+use Rattle.words.specs.Line.{behind, line}
 use Rattle.words.specs.Head.{headOf, countedOf, CountsFit, SlotChanged, HeadChanged}
-use Rattle.words.proofs.Slots.{slots-same, slot-at, word-at, wordsAt, words-front, spread, on-bit, head-same, either, OnlySlot, put-slot}
+use Rattle.words.proofs.Slots.{slots-same, slot-at, word-at, wordsAt, words-front, spread, on-bit, head-same, line-same, either, OnlySlot, put-slot}
 
 -- ── words of the head
 
 -- a word of the head written leaves the slots
 pub head-word : (l : List ℕ) (k x : ℕ) → k < headSize → slots (set l k x) ≡ slots l
 head-word l k x h = slots-same mostSlots 0 l (set l k x) (λ j g. ap (take slotWords) (drop-set-lt (slotAt j) l k x (omega arith)))
+
+-- and the line
+head-word-line : (l : List ℕ) (k x : ℕ) → k < headSize → behind (set l k x) ≡ behind l
+head-word-line l k x h = drop-set-lt lineAt l k x (omega arith)
 
 module _ (l : List ℕ) (n w a : ℕ) (u : Bool) where
   -- the words with other counts
@@ -38,6 +43,15 @@ module _ (l : List ℕ) (n w a : ℕ) (u : Bool) where
       ∙ head-word (set l 1 n) 2 (w - 1) (omega arith)
       ∙ head-word l 1 n (omega arith)
 
+  -- and the line
+  recounted-line : line recounted ≡ line l
+  recounted-line =
+      line-same l recounted
+      (head-word-line (set (set (set l 1 n) 2 (w - 1)) 3 a) 4 (bit u) (omega arith)
+      ∙ head-word-line (set (set l 1 n) 2 (w - 1)) 3 a (omega arith)
+      ∙ head-word-line (set l 1 n) 2 (w - 1) (omega arith)
+      ∙ head-word-line l 1 n (omega arith))
+
   -- the head has them
   recounted-head : length l ≡ portWords → CountsFit n w a → headOf recounted ≡ countedOf n w a u (headOf l)
   unfolding wordsAt
@@ -49,13 +63,13 @@ module _ (l : List ℕ) (n w a : ℕ) (u : Bool) where
 
   -- other counts written
   pub recounted-put : length l ≡ portWords → CountsFit n w a → HeadChanged l recounted (countedOf n w a u)
-  recounted-put long F = record { slots = recounted-slots; head = recounted-head long F }
+  recounted-put long F = record { slots = recounted-slots; head = recounted-head long F; line = recounted-line }
 
 -- ── words of a slot
 
 -- no word written
 unwritten : (l : List ℕ) (i : ℕ) → OnlySlot l l i (region l i)
-unwritten l i = record { this = refl; others = λ j ne. refl; head = refl }
+unwritten l i = record { this = refl; others = λ j ne. refl; head = refl; rest = refl }
 
 -- a word of a slot written leaves the others
 other-slot : (l : List ℕ) (i k x : ℕ) → k < slotWords → (j : ℕ) → (j ≡ i → ⊥) → region (set l (slotAt i + k) x) j ≡ region l j
@@ -70,8 +84,8 @@ other-slot l i k x h j ne =
     (either j i ne)
 
 -- one word more of a slot written
-slot-word : {l l′ : List ℕ} (i : ℕ) {r : List ℕ} → OnlySlot l l′ i r → (k x : ℕ) → k < slotWords → OnlySlot l (set l′ (slotAt i + k) x) i (set r k x)
-slot-word {l} {l′} i O k x h =
+slot-word : {l l′ : List ℕ} (i : ℕ) {r : List ℕ} → i < mostSlots → OnlySlot l l′ i r → (k x : ℕ) → k < slotWords → OnlySlot l (set l′ (slotAt i + k) x) i (set r k x)
+slot-word {l} {l′} i small O k x h =
     record {
       this =
           ap (take slotWords) (drop-set-add (slotAt i) l′ k x)
@@ -79,6 +93,7 @@ slot-word {l} {l′} i O k x h =
           ∙ ap (λ (q : List ℕ). set q k x) (O .this);
       others = λ j ne. other-slot l′ i k x h j ne ∙ O .others j ne;
       head = head-same l′ (set l′ (slotAt i + k) x) (take-set-le headSize l′ (slotAt i + k) x (omega arith)) ∙ O .head;
+      rest = drop-set-lt lineAt l′ (slotAt i + k) x (omega arith) ∙ O .rest;
     }
 
 -- a change of a slot's words is a change of the slot
@@ -99,17 +114,17 @@ module _ (l : List ℕ) (long : length l ≡ portWords) (i : ℕ) (h : i < mostS
       → SlotChanged l (set (set (set l (slotAt i + 4) 1) (slotAt i + (partAt Out + 2)) out) (slotAt i + (partAt In + 2)) inn) i (plannedSlot out inn)
   unfolding wordsAt
   plan-put out inn o n =
-      changed i (slot-word i (slot-word i (slot-word i (unwritten l i) 4 1 (omega arith)) (partAt Out + 2) out (omega arith)) (partAt In + 2) inn (omega arith)) h (plannedSlot out inn)
+      changed i (slot-word i h (slot-word i h (slot-word i h (unwritten l i) 4 1 (omega arith)) (partAt Out + 2) out (omega arith)) (partAt In + 2) inn (omega arith)) h (plannedSlot out inn)
       (ap (λ (r : List ℕ). slotOf (set (set (set r 4 1) (partAt Out + 2) out) (partAt In + 2) inn)) whole ∙ simp (mod-eq-of-lt o, mod-eq-of-lt n))
 
   -- a move named or handed out
-  pub moved-put : (d : Direction) (h at end number : ℕ) → h < 2 ^ 32 → at < 2 ^ 32 → end < 2 ^ 32 → number ≤ at
-      → SlotChanged l (set (set (set (set l (slotAt i + (partAt d + 3)) h) (slotAt i + (partAt d + 4)) at) (slotAt i + (partAt d + 5)) end) (slotAt i + (partAt d + 6)) number) i
-      (movedSlot d h at end number)
+  pub moved-put : (d : Direction) (high at end number : ℕ) → high < 2 ^ 32 → at < 2 ^ 32 → end < 2 ^ 32 → number ≤ at
+      → SlotChanged l (set (set (set (set l (slotAt i + (partAt d + 3)) high) (slotAt i + (partAt d + 4)) at) (slotAt i + (partAt d + 5)) end) (slotAt i + (partAt d + 6)) number) i
+      (movedSlot d high at end number)
   unfolding wordsAt
   moved-put d high at end number bh ba be few =
-      let three = slot-word i (slot-word i (slot-word i (unwritten l i) (partAt d + 3) high (small d 3 (omega arith))) (partAt d + 4) at (small d 4 (omega arith))) (partAt d + 5) end (small d 5 (omega arith)) in
-      changed i (slot-word i three (partAt d + 6) number (small d 6 (omega arith))) h (movedSlot d high at end number) (said d)
+      let three = slot-word i h (slot-word i h (slot-word i h (unwritten l i) (partAt d + 3) high (small d 3 (omega arith))) (partAt d + 4) at (small d 4 (omega arith))) (partAt d + 5) end (small d 5 (omega arith)) in
+      changed i (slot-word i h three (partAt d + 6) number (small d 6 (omega arith))) h (movedSlot d high at end number) (said d)
     where
       counted : min number at ≡ number
       counted = omega arith
@@ -162,7 +177,7 @@ module _ (l : List ℕ) (long : length l ≡ portWords) (k i : ℕ) (h : k < mos
       record {
         turn = omega arith;
         same-long = simp length-set (C .same-long);
-        only = subst (λ (r : List ℕ). OnlySlot l (set l′ (slotAt i + j) x) i r) more (slot-word i (C .only) j x (omega arith));
+        only = subst (λ (r : List ℕ). OnlySlot l (set l′ (slotAt i + j) x) i r) more (slot-word i (omega arith) (C .only) j x (omega arith));
       }
 
   -- all that are used: the slot has the command

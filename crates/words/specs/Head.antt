@@ -1,4 +1,4 @@
--- The head of a port's words: what it says, and what changes of the words leave of head and slots.
+-- The head of a port's words: what it says, and what changes of the words leave of head, slots and line.
 use mathlib.Core.Path.{_≡_}
 use mathlib.Core.Bool.{Bool, false, cond}
 use mathlib.Core.List.{List, [], _∷_}
@@ -11,6 +11,7 @@ use Rattle.srp.specs.declared.Terms.{Terms}
 use Rattle.words.specs.declared.Head.{Head}
 use Rattle.words.specs.declared.Slot.{Slot}
 use Rattle.words.specs.Slots.{on, slots, noSlot}
+use Rattle.words.specs.Line.{line}
 
 -- ── the head's words
 
@@ -94,12 +95,14 @@ countedOf held wanted announced unanswered h =
 
 -- ── changes of the words
 
--- slot i is changed by f, the other slots and the head stay
+-- slot i is changed by f, the other slots, the head and the line stay
 pub record SlotChanged (l l′ : List ℕ) (i : ℕ) (f : Slot → Slot) : Type 0 where
   pub slots : slots l′ ≡ set (slots l) i (f (getD (slots l) i noSlot))
   pub head : headOf l′ ≡ headOf l
+  pub line : line l′ ≡ line l
 
--- the head is changed by f, the slots stay
+-- the head is changed by f, the slots and the line stay
 pub record HeadChanged (l l′ : List ℕ) (f : Head → Head) : Type 0 where
   pub slots : slots l′ ≡ slots l
   pub head : headOf l′ ≡ f (headOf l)
+  pub line : line l′ ≡ line l

@@ -1,6 +1,6 @@
 -- How long a port's words and its store are, and their parts. Each size stands here once.
 use Prim.Native.Nat.{ℕ, _+_, _*_}
-use Rattle.srp.specs.Limits.{mostBuffers, longestTable}
+use Rattle.srp.specs.Limits.{mostBuffers, mostMoves, longestTable}
 
 -- commands that can be open at once, and places of the store
 abbrev pub mostSlots : ℕ
@@ -13,8 +13,15 @@ headSize = 16
 abbrev pub slotWords : ℕ
 slotWords = 32
 
+-- where the line's words begin, behind the slots; where in these its places do, of two words each
+abbrev pub lineAt : ℕ
+lineAt = headSize + mostSlots * slotWords
+
+abbrev pub ringAt : ℕ
+ringAt = 2
+
 abbrev pub portWords : ℕ
-portWords = headSize + mostSlots * slotWords
+portWords = lineAt + ringAt + 2 * mostMoves
 
 -- words of a slot: of the request; before the directions; of a direction; of these; of a descriptor that is kept while the command waits; in use. Behind
 -- these are the words that are not read

@@ -9,11 +9,13 @@ use Rattle.srp.specs.Descriptors.{segmentsOf, standingSize, Given, giving}
 use Rattle.srp.specs.Credit.{Side, Open, Port, closedPort}
 use Rattle.srp.specs.declared.Direction.the-variants.{Out, In}
 use Rattle.srp.specs.declared.Descriptor.{Descriptor}
+use Rattle.srp.specs.declared.Place.{Place}
 use Rattle.words.specs.declared.Part.{Part}
 use Rattle.words.specs.declared.Slot.{Slot}
 use Rattle.words.specs.declared.Head.{Head}
 use Rattle.words.specs.Sizes.{portWords}
 use Rattle.words.specs.Slots.{slots, placeFor}
+use Rattle.words.specs.Line.{line}
 use Rattle.words.specs.Head.{headOf, CountsFit, TermsFit}
 
 -- the open commands' slots
@@ -44,9 +46,9 @@ openOf st c =
       sides = record { out = sideOf st (placeFor Out c) (c .out); inn = sideOf st (placeFor In c) (c .inn) };
     }
 
--- an open port, of its head, its slots and its store
-abbrev pub openPort : Head → List Slot → List ℕ → Port
-openPort h cs st =
+-- an open port, of its head, its slots, its line and its store
+abbrev pub openPort : Head → List Slot → List Place → List ℕ → Port
+openPort h cs x st =
     record {
       live = true;
       wanted = h .wanted;
@@ -54,11 +56,12 @@ openPort h cs st =
       held = map (openOf st) (take (h .held) cs);
       unanswered = h .unanswered;
       terms = h .terms;
+      line = x;
     }
 
 -- the port that words are while they say that it is open
 abbrev pub shown : List ℕ → List ℕ → Port
-shown l st = openPort (headOf l) (slots l) st
+shown l st = openPort (headOf l) (slots l) (line l) st
 
 -- the port that words and a store are
 abbrev pub view : List ℕ → List ℕ → Port

@@ -1,4 +1,5 @@
-// A port in lent words: a head, then a slot for each command that can be open. The open commands are the first slots, oldest first.
+// A port in lent words: a head, a slot for each command that can be open, and the line of moves (crate line). The open commands are the first slots,
+// oldest first.
 // Any words are a port: each number is read into its range, so that no caller owes anything but enough words. What is behind the words in use of
 // the head and of a slot is cleared by a login and not read.
 pub mod commands;
@@ -22,12 +23,20 @@ ghost use Rattle.words.specs.View.{closedWords};
 // Commands that can be open at once, and places of the store.
 pub const SLOTS: usize = limits::MOST_BUFFERS as usize;
 
+// Moves that can be in the line at once, two of each command.
+pub const MOVES: usize = 2 * SLOTS;
+
 // Words of the head, of a slot, and of a port.
 pub const HEAD: usize = 16;
 
 pub const SLOT: usize = 32;
 
-pub const PORT: usize = HEAD + SLOTS * SLOT;
+// Where the line's words begin: the first place, how many are in the line, and the places from RING on, of two words each.
+pub const LINE: usize = HEAD + SLOTS * SLOT;
+
+pub const RING: usize = LINE + 2;
+
+pub const PORT: usize = RING + 2 * MOVES;
 
 // Bytes of one direction's memory descriptors in the store, of a command's place there, and of the store.
 pub const LIST: usize = limits::LONGEST_LIST;
