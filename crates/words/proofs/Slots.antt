@@ -120,17 +120,17 @@ slots-long zero i l = refl
 slots-long (suc n) i l = ap suc (slots-long n (i + 1) l)
 
 -- words whose regions agree have the same slots
-pub slots-same : (n i : ℕ) (l l′ : List ℕ) → ((j : ℕ) → i ≤ j → region l′ j ≡ region l j) → slotsFrom n i l′ ≡ slotsFrom n i l
+pub slots-same : (n i : ℕ) (l l′ : List ℕ) → ((j : ℕ) → i ≤ j → j < i + n → region l′ j ≡ region l j) → slotsFrom n i l′ ≡ slotsFrom n i l
 unfolding slotsFrom
 slots-same zero i l l′ r = refl
-slots-same (suc n) i l l′ r = rw (r i (omega arith), slots-same n (i + 1) l l′ (λ j h. r j (omega arith))) refl
+slots-same (suc n) i l l′ r = rw (r i (omega arith) (omega arith), slots-same n (i + 1) l l′ (λ j h k. r j (omega arith) (omega arith))) refl
 
 -- words whose regions agree but for one have the same slots but for that one
 pub slots-set : (n i : ℕ) (l l′ : List ℕ) (k : ℕ) (c : Slot) → k < n → slotOf (region l′ (i + k)) ≡ c
     → ((j : ℕ) → (j ≡ i + k → ⊥) → region l′ j ≡ region l j) → slotsFrom n i l′ ≡ set (slotsFrom n i l) k c
 unfolding slotsFrom
 slots-set zero i l l′ k c h e r = let z : ⊥ = omega arith in absurd z
-slots-set (suc n) i l l′ zero c h e r = rw (rw add-zero at e, slots-same n (i + 1) l l′ (λ j g. r j (λ q. omega arith))) refl
+slots-set (suc n) i l l′ zero c h e r = rw (rw add-zero at e, slots-same n (i + 1) l l′ (λ j g k. r j (λ q. omega arith))) refl
 slots-set (suc n) i l l′ (suc k) c h e r =
     let x : i + suc k ≡ i + 1 + k = omega arith in
     rw (r i (λ q. omega arith), slots-set n (i + 1) l l′ k c (omega arith) (rw x at e) (λ j ne. r j (λ q. ne (q ∙ x)))) refl
@@ -241,7 +241,7 @@ head-put l h F =
 head-slots : (l : List ℕ) (ws : List ℕ) → length l ≡ portWords → length ws ≤ headSize → slots (paste l 0 ws (length ws)) ≡ slots l
 head-slots l ws long e =
     slots-same mostSlots 0 l (paste l 0 ws (length ws))
-    (λ j g. apart l 0 ws (length ws) (omega arith) (omega arith) (slotAt j) slotWords (inr (omega arith)))
+    (λ j g k. apart l 0 ws (length ws) (omega arith) (omega arith) (slotAt j) slotWords (inr (omega arith)))
 
 -- a head written
 pub head-written : (l : List ℕ) → length l ≡ portWords → (h : Head) → HeadFits h

@@ -24,7 +24,7 @@ use Rattle.words.proofs.Slots.{slots-same, slot-at, word-at, wordsAt, w
 
 -- a word of the head written leaves the slots
 pub head-word : (l : List ℕ) (k x : ℕ) → k < headSize → slots (set l k x) ≡ slots l
-head-word l k x h = slots-same mostSlots 0 l (set l k x) (λ j g. ap (take slotWords) (drop-set-lt (slotAt j) l k x (omega arith)))
+head-word l k x h = slots-same mostSlots 0 l (set l k x) (λ j g b. ap (take slotWords) (drop-set-lt (slotAt j) l k x (omega arith)))
 
 -- and the line
 head-word-line : (l : List ℕ) (k x : ℕ) → k < headSize → behind (set l k x) ≡ behind l
@@ -64,6 +64,21 @@ module _ (l : List ℕ) (n w a : ℕ) (u : Bool) where
   -- other counts written
   pub recounted-put : length l ≡ portWords → CountsFit n w a → HeadChanged l recounted (countedOf n w a u)
   recounted-put long F = record { slots = recounted-slots; head = recounted-head long F; line = recounted-line }
+
+-- ── words of the line
+
+-- a word of the line written leaves the slots, and the head
+pub line-word-slots : (l : List ℕ) (k x : ℕ) → slots (set l (lineAt + k) x) ≡ slots l
+line-word-slots l k x =
+    slots-same mostSlots 0 l (set l (lineAt + k) x)
+    (λ j g b.
+    let e : slotAt j + (lineAt + k - slotAt j) ≡ lineAt + k = omega arith in
+    rw (← e)
+    (ap (take slotWords) (drop-set-add (slotAt j) l (lineAt + k - slotAt j) x)
+    ∙ take-set-le slotWords (drop (slotAt j) l) (lineAt + k - slotAt j) x (omega arith)))
+
+pub line-word-head : (l : List ℕ) (k x : ℕ) → headOf (set l (lineAt + k) x) ≡ headOf l
+line-word-head l k x = head-same l (set l (lineAt + k) x) (take-set-le headSize l (lineAt + k) x (omega arith))
 
 -- ── words of a slot
 
