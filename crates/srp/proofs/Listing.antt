@@ -22,7 +22,7 @@ use Rattle.srp.proofs.Reply.{the-type}
 
 -- the replies other than `Listed`, by their place in the enum
 abbrev pub unlisted : List ℕ
-unlisted = 0 ∷ 1 ∷ 2 ∷ 3 ∷ 4 ∷ 5 ∷ 6 ∷ 7 ∷ 8 ∷ 9 ∷ 10 ∷ []
+unlisted = 0 ∷ 1 ∷ 2 ∷ 3 ∷ 4 ∷ 5 ∷ 6 ∷ 7 ∷ 8 ∷ 9 ∷ 10 ∷ 11 ∷ 12 ∷ []
 
 module _ (p : Port) (room : ℕ) where
   -- an unrefused listing says how many commands are open, and writes the record of each
@@ -38,7 +38,7 @@ module _ (p : Port) (room : ℕ) where
   refused-none r q k = go (firstOf (listChecks p room)) q
     where
       go : (x : Option Refusal) → r ≡ unless x p (listOutcome p) .reply → recordsBy x p ≡ []
-      go none q = absurd (miss unlisted 11 tt (subst (λ (y : Reply). OneOf unlisted (tagOf the-type y)) q k))
+      go none q = absurd (miss unlisted 13 tt (subst (λ (y : Reply). OneOf unlisted (tagOf the-type y)) q k))
       go (some f) q = refl
 
 module _ (p : Port) where
