@@ -17,7 +17,7 @@ use Rattle.srp.specs.Refusals.{Conduct, hangsUp, answered, stays, alters
 use Rattle.srp.specs.Descriptors.{descriptorSize, descriptorOf, fetchOf, given}
 use Rattle.srp.specs.Requests.{outAt, inAt, outDescriptor, inDescriptor, commandOf, commandChecks, taskOf, unlessBad, sized, lengthChecks, readMessage, lookDef}
 use Rattle.srp.specs.Credit.{Open, Port}
-use Rattle.srp.specs.Take.{givenIn, aborted, laterChecks, accepted, requestIn, conducted, takeBy, takeChecks, takeRead, takeDef}
+use Rattle.srp.specs.Take.{leaving, givenIn, aborted, laterChecks, accepted, requestIn, conducted, takeBy, takeChecks, takeRead, takeDef}
 use Rattle.srp.specs.Login.{loginDef}
 use Rattle.srp.specs.declared.Settings.{Settings}
 use Rattle.srp.specs.Unread.{also, changed, ChangeOf}
@@ -195,7 +195,7 @@ module _ (p : Port) (s s′ : List ℕ) where
       let r : gets (taskReads false) s ≡ gets (taskReads false) s′ = a .1 in
       let b : (c : Open) → aborted (taskOf s) c ≡ aborted (taskOf s′) c =
       λ c. cc (managed (eqb (get taskFunction s′) 1) (c .request .tag) (a .0)) in
-      let w = ap (λ (f : Open → Bool). without f (p .held)) (fun-ext b) in
+      let w = ap (λ (f : Open → Bool). leaving p (p .announced - 1) f) (fun-ext b) in
       record { checks = cc; done = cc; request = cc }
     where
       managed : (b : Bool) (g : ℕ) → cond b (get taskTag s) 0 ≡ cond b (get taskTag s′) 0 → (b && eqb (get taskTag s) g) ≡ (b && eqb (get taskTag s′) g)

@@ -2,6 +2,7 @@ pub mod Checks
 pub mod RefusalLaws
 pub mod ListLaws
 pub mod BothLaws
+pub mod Tags
 pub mod Numbers
 pub mod FieldLaws
 pub mod Layouts
@@ -23,7 +24,13 @@ pub mod Owed
 pub mod Opened
 pub mod Segments
 pub mod Given
+pub mod Places
+pub mod Lines
+pub mod LineLength
+pub mod Kept
+pub mod Moved
 pub mod Ranges
+pub mod Turns
 pub mod Sent
 pub mod Received
 pub mod Bench

@@ -50,6 +50,8 @@ login-kept c own room s = go (firstOf (loginChecks c room s)) refl
           largest = ltb-false 1048576 (c .maximum) (m .1);
           boundary = both-false (badBoundary (c .boundary)) _ (d .1) .0;
           commands = tt;
+          distinct = tt;
+          line = record { each = λ tag d. refl; once = tt };
         })
     opens e (some r) = inl refl
 

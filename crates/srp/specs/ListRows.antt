@@ -23,7 +23,7 @@ opened tag lun out inn =
     }
 
 abbrev pub holding : List Open → Port
-holding cs = record { live = true; wanted = 4; announced = 2; held = cs; unanswered = false; terms = noTerms }
+holding cs = record { live = true; wanted = 4; announced = 2; held = cs; unanswered = false; terms = noTerms; line = [] }
 
 abbrev pub listed-as : ℕ → ℕ → ℕ → ℕ → Record
 listed-as tag lun out inn = record { tag = tag; lun = lun; out = out; inn = inn }

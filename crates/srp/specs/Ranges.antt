@@ -1,28 +1,30 @@
 -- What every port has that a login made and calls changed, whatever they answered. The laws are `reached` of proofs/Ranges.antt, `has-pieces` of
--- proofs/Moves.antt and `operations-at-most` of proofs/Segments.antt.
+-- proofs/Moves.antt, `operations-at-most` of proofs/Segments.antt, and those of proofs/Turns.antt.
 use mathlib.Core.Path.{_≡_}
-use mathlib.Core.Logic.{_⊎_}
+use mathlib.Core.Logic.{_⊎_, _↔_}
 use mathlib.Core.Bool.{true, false, cond}
-use mathlib.Core.List.{List}
+use mathlib.Core.List.{List, [], _∷_}
 use mathlib.Core.Option.{some}
 use Prim.Native.Nat.{ℕ, _+_, _-_, _/_, _^_, _≤_, _<_}
 use lib.Dec.{eqb}
 use lib.ListN.{length}
-use Rattle.srp.specs.Limits.{mostBuffers, largestPiece, mostCopies}
+use Rattle.srp.specs.Limits.{mostBuffers, mostMoves, largestPiece, mostCopies}
 use Rattle.srp.specs.Messages.{tag}
-use Rattle.srp.specs.Lists.{All, isSome}
+use Rattle.srp.specs.Lists.{find, All, isSome}
 use Rattle.srp.specs.Descriptors.{standingSize, Given, sumOf, reachable}
 use Rattle.srp.specs.Cutting.{cutsOf, badBoundary}
 use Rattle.srp.specs.Both.{Both, Each}
-use Rattle.srp.specs.Credit.{Extent, Side, movable, Open, Distinct, ruleOf, Port, closedPort}
+use Rattle.srp.specs.Credit.{Extent, Side, movable, Open, hasTag, Distinct, ruleOf, Port, closedPort}
 use Rattle.srp.specs.Line.{Lined}
 use Rattle.srp.specs.Take.{Tables, takeDef}
 use Rattle.srp.specs.Tables.{tablesDef}
-use Rattle.srp.specs.Calls.{hasPieces, nextIn, planDef, moveDef, stepDef, turnDef, finishDef, addDef, withdrawDef, grantDef, closeDef}
+use Rattle.srp.specs.Calls.{hasPieces, unfinished, nextIn, nextOf, planDef, moveDef, stepDef, turnDef, finishDef, addDef, withdrawDef, grantDef, closeDef}
 use Rattle.srp.specs.Login.{loginDef}
 use Rattle.srp.specs.declared.Settings.{Settings}
 use Rattle.srp.specs.declared.Terms.{Terms}
 use Rattle.srp.specs.declared.Direction.{Direction}
+use Rattle.srp.specs.declared.Place.{Place}
+use Rattle.srp.specs.declared.Reply.the-variants.{Idle}
 use Rattle.srp.specs.Bytes.{Bytes}
 
 -- one direction: its segments are at most 32 and end by 2^64, `total` is B
@@ -84,6 +86,23 @@ pub record Ranges (p : Port) : Type 0 where
   pub commands : All OpenRanges (p .held)
   pub distinct : Distinct (p .held)
   pub line : Lined hasPieces (p .held) (p .line)
+
+-- "The line has at most 32 moves"
+abbrev pub ShortLine : Type 0
+ShortLine = (p : Port) → Ranges p → length (p .line) ≤ mostMoves
+
+-- the move that stands first has a piece, which a turn serves
+abbrev pub FirstHasPiece : Type 0
+FirstHasPiece = (p : Port) → Ranges p → (x : Place) (others : List Place) → p .line ≡ x ∷ others
+    → isSome (nextOf (p .terms) (x .direction) (find (hasTag (x .tag)) (p .held))) ≡ true
+
+-- "The call says idle only with an empty line", and with an empty line always; it is empty just where no open command has a move with pieces
+pub record IdleTurn (p : Port) : Type 0 where
+  pub says : (turnDef p .reply ≡ Idle) ↔ (p .line ≡ [])
+  pub means : (p .line ≡ []) ↔ ((tag : ℕ) (d : Direction) → unfinished d (find (hasTag tag) (p .held)) ≡ false)
+
+abbrev pub IdleTurns : Type 0
+IdleTurns = (p : Port) → Ranges p → IdleTurn p
 
 -- the ports that a login made, accepted or not, and calls changed, whatever they answered; a message is bytes, and R below 2^32
 pub data Reached : Port → Type 0 where

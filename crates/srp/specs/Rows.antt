@@ -11,7 +11,7 @@ use Rattle.srp.specs.Requests.{cdbDef, segmentsDef}
 use Rattle.srp.specs.Credit.{Port, closedPort}
 use Rattle.srp.specs.Take.{Outcome, Tables, takeDef}
 use Rattle.srp.specs.Tables.{tablesDef}
-use Rattle.srp.specs.Calls.{planDef, moveDef, stepDef, finishDef, addDef, withdrawDef, grantDef, closeDef, countersDef, listDef, listing}
+use Rattle.srp.specs.Calls.{planDef, moveDef, kindOf, stepDef, turnDef, finishDef, addDef, withdrawDef, grantDef, closeDef, countersDef, listDef, listing}
 use Rattle.srp.specs.Login.{loginDef}
 use Rattle.srp.specs.declared.Settings.{Settings}
 use Rattle.srp.specs.Outside.{CReturn, lookInC, cutInC, cutlist}
@@ -22,7 +22,7 @@ use Rattle.srp.specs.declared.Kind.the-variants.{Read, Write}
 use Rattle.srp.specs.declared.Piece.{Piece}
 use Rattle.srp.specs.declared.Record.{Record}
 use Rattle.srp.specs.declared.Reply.{Reply}
-use Rattle.srp.specs.declared.Reply.the-variants.{Refused, Performed, NewCommand, TaskAnswered, CreditSettled, LoggedOut, Operation, Done, Accepted, Rejected, Counts, Listed}
+use Rattle.srp.specs.declared.Reply.the-variants.{Refused, Performed, NewCommand, TaskAnswered, CreditSettled, LoggedOut, Operation, Done, Served, Idle, Accepted, Rejected, Counts, Listed}
 
 -- ── what is done and seen
 
@@ -33,6 +33,7 @@ pub data Act : Type 0 where
   plans : ℕ → ℕ → ℕ → Act
   names : ℕ → Direction → ℕ → ℕ → Act
   steps : ℕ → Direction → Act
+  turns : Act
   finishes : ℕ → ℕ → ℕ → List ℕ → Act
   adds : ℕ → Act
   withdraws : ℕ → Act
@@ -59,6 +60,9 @@ pub data Seen : Type 0 where
   reads : (handle address len offset number : ℕ) → Seen
   writes : (handle address len offset number : ℕ) → Seen
   done : (number : ℕ) → Seen
+  -- a turn's operation, with its command's tag; its kind tells the direction
+  served : (tag : ℕ) → Seen → Seen
+  idle : Seen
   accepted : Seen
   rejected : ℕ → Seen
   counters : (w a h : ℕ) → ℤ → Seen
@@ -82,6 +86,8 @@ seenOf p CreditSettled = settled
 seenOf p LoggedOut = logged-out
 seenOf p (Operation k o n) = operation k o n
 seenOf p (Done n) = done n
+seenOf p (Served tag d o n) = served tag (operation (kindOf d) o n)
+seenOf p Idle = idle
 seenOf p Accepted = accepted
 seenOf p (Rejected n) = rejected n
 seenOf p (Counts c) = counters (c .wanted) (c .announced) (c .held) (c .owed)
@@ -111,6 +117,7 @@ act p (brings room tag t) = called (tablesDef p room tag t)
 act p (plans tag out inn) = called (planDef p tag out inn)
 act p (names tag d offset count) = called (moveDef p tag d offset count)
 act p (steps tag d) = called (stepDef p tag d)
+act p turns = called (turnDef p)
 act p (finishes room tag status sense) = called (finishDef p room tag status sense)
 act p (adds k) = called (addDef p k)
 act p (withdraws k) = called (withdrawDef p k)
