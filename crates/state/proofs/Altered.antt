@@ -6,9 +6,9 @@ use mathlib.Core.List.{List}
 use Prim.Native.Nat.{ℕ, _+_, _-_}
 use lib.ListN.{length-map}
 use Rattle.srp.specs.Credit.{withWanted, withUnanswered}
-use Rattle.words.specs.declared.Slot.{Slot}
 use Rattle.words.specs.declared.Head.{Head}
 use Rattle.words.specs.Slots.{slots}
+use Rattle.words.specs.Line.{line}
 use Rattle.words.specs.Head.{headOf, countedOf, HeadChanged}
 use Rattle.words.specs.View.{openOf, openPort, opens, shown}
 use Rattle.words.proofs.Ports.{opens-long}
@@ -23,10 +23,9 @@ module _ {l l′ : List ℕ} where
     counted-live = ap (λ (h : Head). h .live) (H .head)
 
     -- the port with them
-    counted-port : (st : List ℕ) → shown l′ st ≡ openPort (countedOf held wanted announced unanswered (headOf l)) (slots l) st
+    counted-port : (st : List ℕ) → shown l′ st ≡ openPort (countedOf held wanted announced unanswered (headOf l)) (slots l) (line l) st
     counted-port st =
-        ap (λ (h : Head). openPort h (slots l′) st) (H .head)
-        ∙ ap (λ (cs : List Slot). openPort (countedOf held wanted announced unanswered (headOf l)) cs st) (H .slots)
+        λ i. openPort (H .head i) (H .slots i) (H .line i) st
 
   -- those of the head that was read
   module _ (h : Head) (is : h ≡ headOf l) where

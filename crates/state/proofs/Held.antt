@@ -21,11 +21,12 @@ use Rattle.words.specs.declared.Head.{Head}
 use Rattle.srp.specs.declared.Request.{Request}
 use Rattle.words.specs.Sizes.{portWords, mostSlots}
 use Rattle.words.specs.Slots.{slotAt, slots, noSlot}
+use Rattle.words.specs.Line.{line}
 use Rattle.words.specs.Head.{headOf, countedOf, SlotChanged, HeadChanged}
 use Rattle.words.specs.View.{opens, openOf, openPort, shown}
 use Rattle.words.proofs.Slots.{slots-long, slot-tag}
 use Rattle.words.proofs.Ports.{opens-long, tag-at}
-use Rattle.state.specs.Changes.{FoundAt, FoundIs, Alters, ends, over, NoneEnds, withoutEnded}
+use Rattle.state.specs.Changes.{FoundAt, FoundIs, Alters, ends, over, NoneEnds, ending, withoutSlots}
 use Rattle.state.specs.declared.Found.the-variants.{Nothing}
 use Rattle.state.specs.declared.Ending.{Ending}
 
@@ -108,10 +109,10 @@ module _ (l : List ℕ) (tag held i : ℕ) (S : Searching l tag held i) where
 
 module _ {A : Type 0} where
   -- lists that agree from i on agree behind it, and at it
-  tail-same : (l m : List A) (i : ℕ) → drop i l ≡ drop i m → drop (i + 1) l ≡ drop (i + 1) m
+  pub tail-same : (l m : List A) (i : ℕ) → drop i l ≡ drop i m → drop (i + 1) l ≡ drop (i + 1) m
   tail-same l m i e = sym (drop-drop 1 i l) ∙ ap (drop 1) e ∙ drop-drop 1 i m
 
-  head-same : (l m : List A) (i : ℕ) (d : A) → drop i l ≡ drop i m → getD l i d ≡ getD m i d
+  pub head-same : (l m : List A) (i : ℕ) (d : A) → drop i l ≡ drop i m → getD l i d ≡ getD m i d
   head-same l m i d e = rw (getD-drop i l, getD-drop i m, add-zero) at (ap (λ (x : List A). getD x 0 d) e)
 
   -- the first i stay where none of them ends
@@ -124,11 +125,11 @@ module _ {A : Type 0} where
 
   module _ (p : A → Bool) (l : List A) (i : ℕ) (d : A) (h : i < length l) where
     -- one that stays
-    stays : p (getD l i d) ≡ false → without p (drop i l) ≡ getD l i d ∷ without p (drop (i + 1) l)
+    pub stays : p (getD l i d) ≡ false → without p (drop i l) ≡ getD l i d ∷ without p (drop (i + 1) l)
     stays e = rw (drop-cons l i d, e, add-one) refl
 
     -- one that ends
-    goes : p (getD l i d) ≡ true → without p (drop i l) ≡ without p (drop (i + 1) l)
+    pub goes : p (getD l i d) ≡ true → without p (drop i l) ≡ without p (drop (i + 1) l)
     goes e = rw (drop-cons l i d, e, add-one) refl
 
 -- of the words p, with `held` open commands, the words q are made: the first i commands are looked at, `kept` of them stay
@@ -137,6 +138,7 @@ pub record Dropping (e : Ending) (held : ℕ) (p q : List ℕ) (i kept : ℕ) : 
   pub long : length q ≡ portWords
   pub same-long : length q ≡ length p
   pub head : headOf q ≡ headOf p
+  pub line : line q ≡ line p
   pub in-count : i ≤ held
   pub small : held ≤ mostSlots
   pub behind : kept ≤ i
@@ -152,6 +154,7 @@ drop-start e held p i n l h N =
       long = l;
       same-long = refl;
       head = refl;
+      line = refl;
       in-count = omega arith;
       small = omega arith;
       behind = omega arith;
@@ -180,6 +183,7 @@ module _ (e : Ending) (held : ℕ) (p q : List ℕ) (i kept : ℕ) (D : Dropping
         long = D .long;
         same-long = D .same-long;
         head = D .head;
+        line = D .line;
         in-count = omega arith;
         small = D .small;
         behind = omega (arith, D .behind);
@@ -197,6 +201,7 @@ module _ (e : Ending) (held : ℕ) (p q : List ℕ) (i kept : ℕ) (D : Dropping
         long = lq ∙ D .long;
         same-long = lq ∙ D .same-long;
         head = M .head ∙ D .head;
+        line = M .line ∙ D .line;
         in-count = omega arith;
         small = D .small;
         behind = omega (arith, D .behind);
@@ -208,7 +213,7 @@ module _ (e : Ending) (held : ℕ) (p q : List ℕ) (i kept : ℕ) (D : Dropping
   pub drop-unmoved : (r : Request) → r ≡ getD (slots q) i noSlot .request → ends e r ≡ false → i ≤ kept → Dropping e held p q (i + 1) (kept + 1)
   drop-unmoved r is t g =
       let k : kept ≡ i = omega (arith, D .behind) in
-      drop-kept r is t q refl (record { slots = rw k (sym (set-getD (slots q) i noSlot)); head = refl })
+      drop-kept r is t q refl (record { slots = rw k (sym (set-getD (slots q) i noSlot)); head = refl; line = refl })
 
 module _ (e : Ending) (held : ℕ) (p q : List ℕ) (i kept : ℕ) (D : Dropping e held p q i kept) (end : held ≤ i) where
   stay : take kept (slots q) ≡ without (over e) (opens p)
@@ -217,7 +222,7 @@ module _ (e : Ending) (held : ℕ) (p q : List ℕ) (i kept : ℕ) (D : Dropping
       rw (drop-of-length-le (opens p) o, append-nil) at (D .done)
 
   -- the port without those that ended, its other counts those of the head that was read
-  pub dropped : (h : Head) → h ≡ headOf p → (q′ : List ℕ) → HeadChanged q q′ (countedOf kept (h .wanted) (h .announced) (h .unanswered)) → Alters p q′ (withoutEnded e)
+  pub dropped : (h : Head) → h ≡ headOf p → (q′ : List ℕ) → HeadChanged q q′ (countedOf kept (h .wanted) (h .announced) (h .unanswered)) → Alters p q′ (withoutSlots e)
   dropped h is q′ H =
       let hp : headOf q′ ≡ countedOf kept (headOf p .wanted) (headOf p .announced) (headOf p .unanswered) (headOf p) =
       H .head
@@ -226,9 +231,9 @@ module _ (e : Ending) (held : ℕ) (p q : List ℕ) (i kept : ℕ) (D : Dropping
       record {
         live = ap (λ (x : Head). x .live) hp;
         port = λ st.
-            ap (λ (x : Head). openPort x (slots q′) st) hp
+            (λ i. openPort (hp i) (slots q′) ((H .line ∙ D .line) i) st)
             ∙ ap (λ (cs : List Open). withHeld (shown p st) (headOf p .announced) cs)
             (ap (λ (cs : List Slot). map (openOf st) (take kept cs)) (H .slots)
             ∙ ap (map (openOf st)) stay
-            ∙ sym (without-map (openOf st) (λ (c : Open). ends e (c .request)) (opens p)));
+            ∙ sym (without-map (openOf st) (ending e) (opens p)));
       }

@@ -108,8 +108,7 @@ module _ (l l′ st : List ℕ) where
       → view l′ st ≡ withHeld (view l st) (view l st .announced) (change (hasTag tag) g (view l st .held))
   changed-view {i} {tag} {f} e F C g q =
       while-open l′ st (ap (λ (h : Head). h .live) (C .head) ∙ e)
-      ∙ ap (λ (h : Head). openPort h (slots l′) st) (C .head)
-      ∙ ap (λ (cs : List Slot). openPort (headOf l) cs st) (C .slots)
+      ∙ (λ j. openPort (C .head j) (C .slots j) (C .line j) st)
       ∙ ap (λ (cs : List Open). withHeld (shown l st) (headOf l .announced) cs) (sym (F .changes st g (f (getD (slots l) i noSlot)) q))
       ∙ ap (λ (p : Port). withHeld p (p .announced) (change (hasTag tag) g (p .held))) (sym (while-open l st e))
 

@@ -8,7 +8,7 @@ use lib.Dec.{eqb}
 use lib.ListN.{take, getD, set}
 use Rattle.srp.specs.Lists.{find, change, without}
 use Rattle.srp.specs.Credit.{Open, Port, due, withHeld, hasTag}
-use Rattle.srp.specs.Take.{aborts}
+use Rattle.srp.specs.Take.{aborts, leaving}
 use Rattle.srp.specs.declared.Request.{Request}
 use Rattle.words.specs.Sizes.{mostSlots}
 use Rattle.words.specs.Slots.{slots, noSlot}
@@ -26,6 +26,9 @@ use Rattle.state.specs.declared.Ending.the-variants.{Finished, Aborted}
 abbrev pub ends : Ending → Request → Bool
 ends (Finished tag) r = eqb tag (r .tag)
 ends (Aborted t) r = aborts t r
+
+abbrev pub ending : Ending → Open → Bool
+ending e c = ends e (c .request)
 
 abbrev pub over : Ending → Slot → Bool
 over e c = ends e (c .request)
@@ -59,8 +62,12 @@ pub record Alters (l l′ : List ℕ) (f : Port → Port) : Type 0 where
   pub live : headOf l′ .live ≡ headOf l .live
   pub port : (st : List ℕ) → shown l′ st ≡ f (shown l st)
 
+-- the commands that end out of their slots; and their moves out of the line too
+abbrev pub withoutSlots : Ending → Port → Port
+withoutSlots e p = withHeld p (p .announced) (without (ending e) (p .held))
+
 abbrev pub withoutEnded : Ending → Port → Port
-withoutEnded e p = withHeld p (p .announced) (without (λ (c : Open). ends e (c .request)) (p .held))
+withoutEnded e p = leaving p (p .announced) (ending e)
 
 -- so many announced buffers less
 abbrev pub afterUse : ℕ → Port → Port

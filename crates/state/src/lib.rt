@@ -1,5 +1,8 @@
-// What changes an open port: its credit, a credit request unanswered, the commands that end; and the search for a tag.
+// What changes an open port: its credit, a credit request unanswered, the commands that end and the moves that leave the line; and the search for a tag.
 // Each change is said of the port that the words show, for every store: none of these touches the store.
+pub mod moves;
+
+use srp::Place;
 use srp::Request;
 use srp::TaskRequest;
 use words::HEAD;
@@ -13,7 +16,7 @@ ghost use Rattle.srp.specs.Credit.{withWanted, withUnanswered};
 ghost use Rattle.srp.specs.Limits.{mostBuffers};
 ghost use Rattle.words.specs.Sizes.{portWords};
 ghost use Rattle.words.specs.Head.{headOf};
-ghost use Rattle.state.specs.Changes.{FoundIs, ends, NoneEnds, withoutEnded, Alters, Settled};
+ghost use Rattle.state.specs.Changes.{FoundIs, ends, NoneEnds, withoutSlots, withoutEnded, Alters, Settled};
 
 // Where the open command with a tag stands.
 pub enum Found {
@@ -25,6 +28,12 @@ pub enum Found {
 pub enum Ending {
     Finished(u64),
     Aborted(TaskRequest),
+}
+
+// Which moves leave the line: one whose last piece a single step handed out, or those of commands that end.
+pub enum Leaving {
+    Handed(Place),
+    Ended(Ending),
 }
 
 // The open command with a tag.
@@ -53,13 +62,13 @@ fn ended(which: Ending, r: Request) -> bool
     }
 }
 
-// Ends commands, of which none stands before slot `first`; those that stay keep their order, and those before the first that ends are
-// not written.
-pub fn drop_commands(s: &mut [u64], first: usize, which: Ending)
+// Takes commands that end out of their slots; none of them stands before slot `first`. Those that stay keep their order, and those before the first
+// that ends are not written.
+fn drop_slots(s: &mut [u64], first: usize, which: Ending)
     requires { ⌜ length (now s) ≡ portWords ⌝ }
     requires { ⌜ first ≤ headOf (now s) .held ⌝ }
     requires { ⌜ NoneEnds which (now s) first ⌝ }
-    ensures { λ _. ⌜ Alters (now (s .entry)) (now (s .exit)) (withoutEnded which) ⌝ }
+    ensures { λ _. ⌜ Alters (now (s .entry)) (now (s .exit)) (withoutSlots which) ⌝ }
 {
     let h = words::get_head(s);
     let held = h.held;
@@ -76,6 +85,17 @@ pub fn drop_commands(s: &mut [u64], first: usize, which: Ending)
         i += 1;
     }
     words::set_counts(s, kept, h.wanted, h.announced, h.unanswered);
+}
+
+// Ends commands, of which none stands before slot `first`: their moves leave the line, and they their slots.
+pub fn drop_commands(s: &mut [u64], first: usize, which: Ending)
+    requires { ⌜ length (now s) ≡ portWords ⌝ }
+    requires { ⌜ first ≤ headOf (now s) .held ⌝ }
+    requires { ⌜ NoneEnds which (now s) first ⌝ }
+    ensures { λ _. ⌜ Alters (now (s .entry)) (now (s .exit)) (withoutEnded which) ⌝ }
+{
+    moves::leave(s, Leaving::Ended(which));
+    drop_slots(s, first, which);
 }
 
 // D, or 0 where it is negative.
