@@ -9,13 +9,13 @@ use Rattle.srp.proofs.Reply as reply
 use Rattle.srp.specs.declared.Refusal.{Refusal}
 use Rattle.srp.specs.declared.Refusal.the-variants.{ShortBuffer, Setting, Length, OtherType, OutFormat, InFormat, OutCount, InCount, TableLength, Fields, Argument, Closed, NoCredit, TagOpen, TagNotOpen, CreditResponse, Unanswered, NotOwed, Wanted, Unplanned, Planned, Offset, Unfinished, Waiting}
 use Rattle.srp.specs.declared.Reply.{Reply}
-use Rattle.srp.specs.declared.Reply.the-variants.{Refused, Performed, NewCommand, TaskAnswered, CreditSettled, LoggedOut, Operation, Done, Accepted, Rejected, Counts, Listed}
+use Rattle.srp.specs.declared.Reply.the-variants.{Refused, Performed, NewCommand, TaskAnswered, CreditSettled, LoggedOut, Operation, Done, Served, Idle, Accepted, Rejected, Counts, Listed}
 use Rattle.srp.specs.Refusals.{conductOf, reasonIn}
 use Rattle.srp.specs.Answers as def
 
 -- all replies but a refusal
 abbrev others : List ℕ
-others = 1 ∷ 2 ∷ 3 ∷ 4 ∷ 5 ∷ 6 ∷ 7 ∷ 8 ∷ 9 ∷ 10 ∷ 11 ∷ []
+others = 1 ∷ 2 ∷ 3 ∷ 4 ∷ 5 ∷ 6 ∷ 7 ∷ 8 ∷ 9 ∷ 10 ∷ 11 ∷ 12 ∷ 13 ∷ []
 
 -- they return 0
 pub unrefused : (r : Reply) → OneOf others (tagOf reply.the-type r) → 0 ≡ def.returned r
@@ -27,6 +27,8 @@ unrefused CreditSettled k = refl
 unrefused LoggedOut k = refl
 unrefused (Operation d p n) k = refl
 unrefused (Done n) k = refl
+unrefused (Served tag d p n) k = refl
+unrefused Idle k = refl
 unrefused Accepted k = refl
 unrefused (Rejected reason) k = refl
 unrefused (Counts c) k = refl

@@ -5,11 +5,11 @@ use lib.IntN.{ℤ, pos, negsuc}
 use lib.ListN.{length, replicate}
 use Rattle.srp.specs.Answers.{valuesOf}
 use Rattle.srp.specs.declared.Reply.{Reply}
-use Rattle.srp.specs.declared.Reply.the-variants.{Refused, Performed, NewCommand, TaskAnswered, CreditSettled, LoggedOut, Operation, Done, Accepted, Rejected, Counts, Listed}
+use Rattle.srp.specs.declared.Reply.the-variants.{Refused, Performed, NewCommand, TaskAnswered, CreditSettled, LoggedOut, Operation, Done, Served, Idle, Accepted, Rejected, Counts, Listed}
 use Rattle.srp.specs.declared.Answer.{Answer}
 
--- what stands before a reply's values: the length of the message written, then of a take the kind of message taken; of a step 1 for an operation, and for
--- done the words of an operation, all 0, so that the number of either stands in the same word
+-- what stands before a reply's values: the length of the message written, then of a take the kind of message taken; of a step or a turn 1 for an operation,
+-- and for done the words of an operation, all 0, so that the number of either stands in the same word
 abbrev pub leading : ℕ → Reply → List ℤ
 leading wrote (Refused f) = pos wrote ∷ []
 leading wrote Performed = pos wrote ∷ []
@@ -19,6 +19,8 @@ leading wrote CreditSettled = pos wrote ∷ pos 3 ∷ []
 leading wrote LoggedOut = pos wrote ∷ pos 4 ∷ []
 leading wrote (Operation k p n) = pos 1 ∷ []
 leading wrote (Done n) = replicate 6 (pos 0)
+leading wrote (Served tag d p n) = pos 1 ∷ []
+leading wrote Idle = []
 leading wrote Accepted = pos wrote ∷ []
 leading wrote (Rejected reason) = pos wrote ∷ []
 leading wrote (Counts c) = []

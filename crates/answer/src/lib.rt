@@ -1,6 +1,7 @@
 // What an answer is in numbers, for callers that have no enums; and the answer of a refusal without a message.
 use srp::Answer;
 use srp::Counters;
+use srp::Direction;
 use srp::Kind;
 use srp::Piece;
 use srp::Refusal;
@@ -9,8 +10,9 @@ use wire::layout::CDB;
 ghost use mathlib.Core.Path.{_≡_};
 ghost use Prim.Native.Nat.{ℕ};
 ghost use Rattle.srp.specs.Refusals.{numberOf, conductOf, reasonIn};
+ghost use Rattle.srp.specs.Calls.{kindOf};
 ghost use Rattle.srp.specs.Answers.{refusing, kindNumber};
-ghost use Rattle.srp.specs.declared.Reply.the-variants.{NewCommand, Operation, Done, Counts};
+ghost use Rattle.srp.specs.declared.Reply.the-variants.{NewCommand, Operation, Done, Served, Counts};
 ghost use Rattle.answer.specs.Words.{answerWords};
 
 // The kind of message taken, in take's answer.
@@ -132,6 +134,32 @@ pub fn done_words(n: u32) -> [u64; 8]
     [0, 0, 0, 0, 0, 0, n as u64, 0]
 }
 
+// Data-out goes by RDMA Reads, data-in by RDMA Writes.
+fn direction_number(d: Direction) -> u64
+    ensures { λ r. ⌜ r ≡ kindNumber (kindOf d) ⌝ }
+{
+    match d {
+        Direction::Out => 1,
+        Direction::In => 2,
+    }
+}
+
+// Those of a turn that serves a move.
+pub fn served_words(tag: u64, d: Direction, p: Piece, n: u32) -> [u64; 8]
+    ensures { λ r. ⌜ ((wrote : ℕ) → r ≡ answerWords (record { reply = Served tag d p n; wrote = wrote })) ⌝ }
+{
+    [
+        1,
+        direction_number(d),
+        p.handle as u64,
+        p.address,
+        p.len as u64,
+        p.offset as u64,
+        n as u64,
+        tag,
+    ]
+}
+
 // Those of the counters.
 pub fn counter_words(c: Counters) -> [u64; 8]
     ensures { λ r. ⌜ ((wrote : ℕ) → r ≡ answerWords (record { reply = Counts c; wrote = wrote })) ⌝ }
@@ -184,6 +212,8 @@ pub fn words_of(a: Answer) -> [u64; 8]
         Reply::LoggedOut => [wrote, LOGOUT, 0, 0, 0, 0, 0, 0],
         Reply::Operation(k, p, n) => operation_words(k, p, n),
         Reply::Done(n) => done_words(n),
+        Reply::Served(tag, d, p, n) => served_words(tag, d, p, n),
+        Reply::Idle => [0, 0, 0, 0, 0, 0, 0, 0],
         Reply::Accepted => [wrote, 0, 0, 0, 0, 0, 0, 0],
         Reply::Rejected(reason) => [wrote, reason as u64, 0, 0, 0, 0, 0, 0],
         Reply::Counts(c) => counter_words(c),

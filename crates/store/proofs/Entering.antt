@@ -114,6 +114,6 @@ module _ (st out inn : List ℕ) (o n : Part) (a : Awaited) (long : length st �
       let sl : slots l′ ≡ set (slots l) (headOf l .held) slot = H .slots ∙ S .slots ∙ ap (λ (x : Head). set (slots l) (x .held) slot) is in
       record {
         live = ap (λ (x : Head). x .live) hl;
-        port = ap (λ (x : Head). openPort x (slots l′) stored) hl ∙ rw (sl, held) refl;
+        port = (λ j. openPort (hl j) (slots l′) ((H .line ∙ S .line) j) stored) ∙ rw (sl, held) refl;
         place = own l′ sl;
       }

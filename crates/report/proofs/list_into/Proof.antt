@@ -111,8 +111,8 @@ module _ {M : Type 1} (𝓤 : URA M) (H : Heap 𝓤) (A : Atoms 𝓤) (mem : Mem
         let fields = turns.fields 𝓤 H A W mem run κ₀ κ₁ q₀ q₁ s t f is′ K room in
         land ! (from ! (stop !)) (init ! 26 refl (LL.lawful F.the-type F′.the-laws 𝓤 H A W .typed f (w ∷ []) is .0)) $ drop ! $
         rewrite ! 25 (λ (v : Val). ‵ (fat fullShare F′.mir l₃ 0 v)) (ap only same) refl $
-        assigns ! (of-opd ! (load ! (from ! (fld ! {τ = tyArray R′.mir 16} {d = 48} refl (stop !))) (look-in ! 25 (sub ! {τs = parts} 2 {d = 48} refl (whole !))))) (from ! (stop !)) (init ! 23 refl (F′.the-laws .1 .1 .0 .lawful 𝓤 H A W .typed (items f) (array f ∷ []) (fields .1 .1 .0) .0)) $
-        assigns ! (of-opd ! (load ! (from ! (fld ! {τ = tyInt w64} {d = 40} refl (stop !))) (look-in ! 25 (sub ! {τs = parts} 1 {d = 40} refl (whole !))))) (from ! (stop !)) (init ! 21 refl (tt, record { fits = fields .1 .0 .1 })) $
+        assigns ! (of-opd ! (load ! (from ! (fld ! {τ = tyArray R′.mir 16} {d = 64} refl (stop !))) (look-in ! 25 (sub ! {τs = parts} 2 {d = 64} refl (whole !))))) (from ! (stop !)) (init ! 23 refl (F′.the-laws .1 .1 .0 .lawful 𝓤 H A W .typed (items f) (array f ∷ []) (fields .1 .1 .0) .0)) $
+        assigns ! (of-opd ! (load ! (from ! (fld ! {τ = tyInt w64} {d = 56} refl (stop !))) (look-in ! 25 (sub ! {τs = parts} 1 {d = 56} refl (whole !))))) (from ! (stop !)) (init ! 21 refl (tt, record { fits = fields .1 .0 .1 })) $
         assigns ! (of-opd ! (lit ! tt)) (from ! (stop !)) (init ! 19 refl (tt, record { fits = lit< tt })) $
         -- the borrow is opened, and the array made a row of its elements
         move ! (1 ∷ []) $ fsplit ! $ fsplit ! $ drop ! $ fsplit ! $ move ! (4 ∷ []) $ split ! $ move ! (5 ∷ []) $ split ! $ move ! (4 ∷ 5 ∷ 2 ∷ []) $ opens-slice ! tt R.the-row (t .now) (t .ptr .0) (t .ptr .1) $
