@@ -1,14 +1,14 @@
 -- What a step answers is what demand 3 says: the next of a command's own cuts with the number handed out so far for its move, and of a finished move the least number.
 -- Assumes nothing.
 use mathlib.Core.Path.{_≡_, refl, ap, sym, _∙_, subst}
-use mathlib.Core.Bool.{false}
+use mathlib.Core.Bool.{true, false}
 use mathlib.Core.List.{List, [], _∷_, _++_, append-nil}
 use mathlib.Core.Option.{Option, none, some}
 use Prim.Native.Nat.{ℕ, _+_}
 use native.Mathlib.Omega.{arith}
 use lib.ListN.{length, drop, length-append, length-take, length-drop}
 use lib.Seq.{take-all}
-use borrow.Author.Tests.{ltb-false}
+use borrow.Author.Tests.{lt-ltb, le-ltb, ltb-false}
 use Rattle.srp.specs.Cutting.{cutsOf}
 use Rattle.srp.specs.Credit.{ruleOf}
 use Rattle.srp.specs.Moves.{CrossesNone}
@@ -18,7 +18,7 @@ use Rattle.srp.specs.declared.Direction.{Direction}
 use Rattle.srp.specs.declared.Piece.{Piece}
 use Rattle.srp.specs.declared.Reply.the-variants.{Operation, Done}
 use Rattle.machine.specs.Machine.{Move, Progress, soFar, withOperation}
-use Rattle.machine.specs.Operations.{cutsOfAll, wholeOf, piecesLeft, saidOf, Finished, CurrentFinished, Right}
+use Rattle.machine.specs.Operations.{cutsOfAll, wholeOf, piecesLeft, saidOf, Finished, CurrentFinished, HandedOut, Right}
 use Rattle.srp.proofs.CutLaws.{Lawful, some-maximum, stops, some-below, none-above}
 use Rattle.srp.proofs.Moves.{next-crosses-none}
 use Rattle.srp.proofs.Segments.{slots-enough}
@@ -30,6 +30,18 @@ use Rattle.machine.proofs.Moves.{toOf, endOf, atOf, leftOf, Steady, end
 -- where none was named there are no cuts
 no-cuts : (T : Terms) (g : Progress) → g .moves ≡ [] → length (wholeOf T g) ≡ 0
 no-cuts T g e = ap (λ (ms : List Move). length (cutsOfAll (ruleOf T) (g .segs) ms)) e
+
+pub no-pieces : (T : Terms) (g : Progress) → g .moves ≡ [] → piecesLeft T g ≡ false
+no-pieces T g e = le-ltb (length (g .operations)) (length (wholeOf T g)) (omega (arith, no-cuts T g e))
+
+-- ── pieces left
+
+module _ (T : Terms) (cut : Lawful (ruleOf T)) (g : Progress) (s : Steady T g) where
+  pub some-left : (o : Piece) → coming T cut g s ≡ some o → piecesLeft T g ≡ true
+  some-left o e = lt-ltb (length (g .operations)) (length (wholeOf T g)) (some-below (wholeOf T g) (length (g .operations)) o (turn T cut g s ∙ e))
+
+  pub none-left : coming T cut g s ≡ none → piecesLeft T g ≡ false
+  none-left e = le-ltb (length (g .operations)) (length (wholeOf T g)) (none-above (wholeOf T g) (length (g .operations)) (turn T cut g s ∙ e))
 
 -- ── a finished move
 
@@ -62,7 +74,18 @@ last-counted T cut g s o e h m f =
         let k = length (g .operations ++ (o ∷ [])) in
         absurd (omega (arith, ltb-false k (length (wholeOf T g)) h, some-below (wholeOf T g) k p (turn T cut (withOperation o g) s′ ∙ q)))
 
--- ── a step's answer
+-- ── what is said of a piece, and a step's answer
+
+-- the next piece
+pub handed-out : (T : Terms) (cut : Lawful (ruleOf T)) (g : Progress) (s : Steady T g) (o : Piece) → coming T cut g s ≡ some o → HandedOut T g o (soFar g + 1)
+handed-out T cut g s o e =
+    record {
+      next = turn T cut g s ∙ e;
+      number = refl;
+      uncrossed =
+          next-crosses-none (T .maximum) (T .boundary) (atOf T g) (endOf (g .moves)) (g .segs) o (some-maximum (T .maximum) (T .boundary) cut) e .0;
+      last = last-counted T cut g s o e;
+    }
 
 module _ (T : Terms) (cut : Lawful (ruleOf T)) (g : Progress) (s : Steady T g) (d : Direction) where
   -- a piece is left
@@ -74,14 +97,10 @@ module _ (T : Terms) (cut : Lawful (ruleOf T)) (g : Progress) (s : Steady T g) (
         before = λ f. absurd (omega (arith, no-cuts T g f, some-below (wholeOf T g) (length (g .operations)) o t));
         done-iff = ((λ f. absurd (no-done (f .0) (f .1))), λ f. absurd (omega (arith, ap length f, some-below (wholeOf T g) (length (g .operations)) o t)));
         finished = λ n f. absurd (no-done n f);
-        uncrossed = λ k o′ n f.
-            let same : o ≡ o′ = cc in
-            subst (CrossesNone (T .boundary)) same
-            (next-crosses-none (T .maximum) (T .boundary) (atOf T g) (endOf (g .moves)) (g .segs) o (some-maximum (T .maximum) (T .boundary) cut) e .0);
-        last = λ k o′ n f h.
+        handed = λ k o′ n f.
             let same : o ≡ o′ = cc in
             let number : soFar g + 1 ≡ n = cc in
-            subst (CurrentFinished T g) number (last-counted T cut g s o e (rw (sym same) at h));
+            subst (λ (x : Piece). HandedOut T g x n) same (subst (HandedOut T g o) number (handed-out T cut g s o e));
       }
     where
       no-done : (n : ℕ) → Operation (kindOf d) o (soFar g + 1) ≡ Done n → ⊥
@@ -98,6 +117,5 @@ module _ (T : Terms) (cut : Lawful (ruleOf T)) (g : Progress) (s : Steady T g) (
             ap Done none;
         done-iff = (λ f. s .order ∙ take-all (length (g .operations)) (wholeOf T g) (none-above (wholeOf T g) (length (g .operations)) t), λ f. (soFar g, refl));
         finished = λ n f. let number : soFar g ≡ n = cc in subst (CurrentFinished T g) number (all-counted T cut g s e);
-        uncrossed = λ k o n f. let z : _≡_ {A = ℕ} 0 1 = cc in absurd (omega arith);
-        last = λ k o n f. let z : _≡_ {A = ℕ} 0 1 = cc in absurd (omega arith);
+        handed = λ k o n f. let z : _≡_ {A = ℕ} 0 1 = cc in absurd (omega arith);
       }

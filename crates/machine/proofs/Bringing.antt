@@ -7,11 +7,11 @@ use mathlib.Core.Option.{Option, none, some}
 use Prim.Native.Nat.{ℕ}
 use Rattle.srp.specs.Bytes.{typeOf}
 use Rattle.srp.specs.Messages.{rsp}
-use Rattle.srp.specs.Lists.{find, without, isSome}
+use Rattle.srp.specs.Lists.{find, isSome}
 use Rattle.srp.specs.Refusals.{Conduct, hangsUp, answered, stays, altersNothing, conductOf, firstOf}
-use Rattle.srp.specs.Credit.{Open, Port, due, withHeld, hasTag}
+use Rattle.srp.specs.Credit.{Open, Port, due, hasTag}
 use Rattle.srp.specs.Writing.{answer}
-use Rattle.srp.specs.Take.{isOpen, Tables, newSide}
+use Rattle.srp.specs.Take.{isOpen, leaving, Tables, newSide}
 use Rattle.srp.specs.Tables.{tablesChecks, brought, badResponse, tablesRefused, tablesBy, tablesDef}
 use Rattle.machine.specs.Machine.{Track, fresh, Machine, tracked, endedBy, Login}
 use Rattle.machine.specs.Actions.{ifAnswered}
@@ -20,9 +20,10 @@ use Rattle.srp.specs.declared.Refusal.{Refusal}
 use Rattle.srp.specs.declared.Refusal.the-variants.{Fields}
 use Rattle.srp.specs.declared.Reply.the-variants.{Refused, Performed}
 use Rattle.srp.proofs.Checks.{passes}
+use Rattle.srp.proofs.ListLaws.{all-find}
 use Rattle.srp.proofs.Refusing.{unrefused, tables-as, tables-iff, answered-open}
-use Rattle.machine.proofs.Invariant.{Ok, open-same, Fine, Obeys, obeying, quiet, codes}
-use Rattle.machine.proofs.Waiting.{brought-request, brought-same, brought-sound}
+use Rattle.machine.proofs.Invariant.{Sound, Ok, open-same, Fine, Obeys, obeying, quiet, codes}
+use Rattle.machine.proofs.Waiting.{brought-request, brought-same, brought-sound, brought-none}
 use Rattle.machine.proofs.Owners.{changes, found, ends, awaited-same}
 
 module _ {L : Login} {m : Machine} {p : Port} (h : Ok L m p) (room tag : ℕ) (t : Tables) where
@@ -49,7 +50,7 @@ module _ {L : Login} {m : Machine} {p : Port} (h : Ok L m p) (room tag : ℕ) (t
   answers : (k : Conduct) (r : Refusal) → k ≡ answered → (c : Track) → tracked m tag ≡ some c
       → (delta : ℕ) × (tablesRefused k p tag r .wrote ≡ answer (c .request .ucsolnt) (c .request .tag) 0x02 delta ∷ [])
   answers k r e c f =
-      let delta = due (withHeld p (p .announced) (without (hasTag tag) (p .held))) in
+      let delta = due (leaving p (p .announced) (hasTag tag)) in
       (delta, ap (λ (x : Conduct). tablesRefused x p tag r .wrote) e ∙ ap (λ (o : Option Open). badResponse o delta ∷ []) (found h tag c f))
 
   -- the checks, by the port's state and by the machine's own tracks
@@ -65,7 +66,8 @@ module _ {L : Login} {m : Machine} {p : Port} (h : Ok L m p) (room tag : ℕ) (t
           obeying m (bringing room tag t) (tablesBy none p tag t)
           (quiet
           (changes h tag (brought newSide t) (brought fresh t) (brought-request (L .terms) t) (λ x f. brought-same (L .terms) t x)
-          (λ x f s. brought-sound (L .terms) t x s (rw (found h tag x f) at (c .0)) (rw (found h tag x f) at (c .1 .0))))
+          (λ x f s. brought-sound (L .terms) t x s (rw (found h tag x f) at (c .0)) (rw (found h tag x f) at (c .1 .0)))
+          (λ x f. brought-none (L .terms) t x (all-find (Sound (L .terms)) (hasTag tag) (m .work .tracks) x (h .work .sound) f)))
           Performed)
           refl (tables-iff p tag t none _ (sym e ∙ checks-same)) (λ g. absurd (unrefused Performed Fields refl g))
       go (some r) e =

@@ -16,22 +16,27 @@ use Rattle.srp.specs.Refusals.{firstOf}
 use Rattle.srp.specs.Lists.{find, All, isSome}
 use Rattle.srp.specs.Descriptors.{Given, standingSize}
 use Rattle.srp.specs.Both.{Both, Each, each}
-use Rattle.srp.specs.Credit.{withSides, ruleOf, Open, Port, owed, due, withCredit, withHeld, withWanted, withUnanswered, hasTag}
+use Rattle.srp.specs.Credit.{withSides, ruleOf, Open, Port, owed, due, withCredit, withMoves, withWanted, withUnanswered, hasTag, Distinct}
+use Rattle.srp.specs.Line.{Lined, isEnded, leftBy}
+use Rattle.srp.specs.Limits.{mostBuffers}
 use Rattle.srp.specs.declared.Terms.{Terms}
 use Rattle.srp.specs.Writing.{answer}
 use Rattle.srp.specs.Take.{Outcome, silent, answering, isOpen}
 use Rattle.srp.specs.Calls.{recordOf, listing}
 use Rattle.machine.specs.Machine.{deltaOf, deltas, requests, Track, shownAs, Wire, Work, Machine, four, lack, unused, wantedBy, tracked, requestsHeld, withWire, withWork, withBuffers, withQueue, joined, join, saysLogout, Login}
 use Rattle.machine.specs.Actions.{Action}
-use Rattle.machine.specs.Demand.{Until, Distinct, InOrder, CutAsNamed, Sum, ByLack, Lift, Now, Then}
+use Rattle.machine.specs.Operations.{piecesLeft}
+use Rattle.machine.specs.Demand.{Until, InOrder, CutAsNamed, Sum, ByLack, Lift, Now, Then}
 use Rattle.srp.specs.declared.Refusal.{Refusal}
 use Rattle.srp.specs.declared.Record.{Record}
+use Rattle.srp.specs.declared.Place.{Place}
 use Rattle.srp.specs.declared.Reply.{Reply}
 use Rattle.srp.specs.declared.Reply.the-variants.{Refused}
 use Rattle.machine.proofs.Order.{tagsOf, Ordered, by-tracks}
 use Rattle.machine.proofs.Moves.{sideIn, Steady, each-cut}
 use Rattle.srp.proofs.CutLaws.{Lawful}
-use Rattle.srp.proofs.ListLaws.{find-map, all-weaken}
+use Rattle.srp.proofs.ListLaws.{find-map, without-same, all-weaken}
+use Rattle.srp.proofs.LineLength.{lined-short}
 use Rattle.machine.proofs.Deltas.{Carries, answer-carries}
 
 -- ── numbers
@@ -56,21 +61,24 @@ abbrev pub Short : Option (Both Given) → Type 0
 Short none = Unit {0}
 Short (some g) = Each (λ g. length (g .bytes) ≤ standingSize (g .descriptor)) g
 
--- no move is named before the plan, each direction is followed, and tables to come leave at most 32 segments
+-- no plan is made while it waits, no move is named before the plan, each direction is followed, and tables to come leave at most 32 segments
 pub record Sound (T : Terms) (t : Track) : Type 0 where
+  pub waits : isSome (t .awaits) ≡ true → t .planned ≡ false
   pub unplanned : t .planned ≡ false → Each (λ g. g .moves ≡ []) (t .sides)
   pub steady : Each (Steady T) (t .sides)
   pub awaited : Short (t .awaits)
 
 -- ── the invariant
 
--- the port's commands cs are those that the machine follows
-pub record Follows (T : Terms) (w : Work) (cs : List Open) : Type 0 where
+-- the port's commands cs are those that the machine follows, and its line l is the machine's
+pub record Follows (T : Terms) (w : Work) (cs : List Open) (l : List Place) : Type 0 where
   pub counts : w .taken ≡ w .ended + length (w .tracks)
   pub commands : cs ≡ map (openIn T) (w .tracks)
   pub sound : All (Sound T) (w .tracks)
   pub distinct : Distinct (w .tracks)
   pub order : Ordered (tagsOf (w .tracks)) (w .tags)
+  pub line : l ≡ w .line
+  pub lined : Lined (piecesLeft T) (w .tracks) (w .line)
 
 pub record Ok (L : Login) (m : Machine) (p : Port) : Type 0 where
   pub live : p .live ≡ true
@@ -78,7 +86,8 @@ pub record Ok (L : Login) (m : Machine) (p : Port) : Type 0 where
   pub small : p .wanted ≤ 16
   pub credit : p .announced ≡ unused m
   pub wanted : p .wanted + m .withdrawn ≡ L .buffers + m .added
-  pub work : Follows (L .terms) (m .work) (p .held)
+  pub room : p .announced + length (p .held) ≤ mostBuffers
+  pub work : Follows (L .terms) (m .work) (p .held) (p .line)
   pub unanswered : p .unanswered ≡ m .wire .waiting
 
 some-map : {A B : Type 0} (f : A → B) (o : Option A) → isSome (Option·map f o) ≡ isSome o
@@ -120,6 +129,16 @@ module _ {L : Login} {m : Machine} {p : Port} (h : Ok L m p) where
   listed : listing p ≡ map shownAs (m .work .tracks)
   listed = ap (map recordOf) (h .work .commands) ∙ shown-map (L .terms) (m .work .tracks)
 
+  -- the line without the moves of commands that end, in the port and in the machine
+  pub left-same : (f : Open → Bool) (g : Track → Bool) → ((t : Track) → f (openIn (L .terms) t) ≡ g t)
+      → leftBy f (p .held) (p .line) ≡ leftBy g (m .work .tracks) (m .work .line)
+  left-same f g e =
+      ap (leftBy f (p .held)) (h .work .line) ∙ without-same _ _ (λ x. ap (isEnded f) (find-same (x .tag)) ∙ by-case (tracked m (x .tag))) (m .work .line)
+    where
+      by-case : (o : Option Track) → isEnded f (Option·map (openIn (L .terms)) o) ≡ isEnded g o
+      by-case none = refl
+      by-case (some t) = e t
+
   -- what demand 3 says of the moments between events
   pub now : Lawful (ruleOf (L .terms)) → Now L m p
   now cut =
@@ -131,6 +150,8 @@ module _ {L : Login} {m : Machine} {p : Port} (h : Ok L m p) where
         listed = listed;
         oldest-first = ap (map (λ r. r .tag)) listed ∙ listed-tags (m .work .tracks) ∙ by-tracks (m .work .tracks) (m .work .tags) (h .work .order);
         distinct = h .work .distinct;
+        lined = h .work .lined;
+        line-short = omega (arith, held, h .room, lined-short (piecesLeft (L .terms)) (m .work .tracks) (m .work .line) (h .work .lined));
         in-order = all-weaken (Sound (L .terms)) (InOrder (L .terms)) (λ t s. (s .steady .0 .order, s .steady .1 .order)) (m .work .tracks) (h .work .sound);
         moves = all-weaken (Sound (L .terms)) (CutAsNamed (L .terms)) (λ t s. (each-cut (L .terms) cut (t .sides .out) (s .steady .0), each-cut (L .terms) cut (t .sides .inn) (s .steady .1))) (m .work .tracks) (h .work .sound);
       }
@@ -168,22 +189,22 @@ lifts m s l = record { by-lack = (l, tt); rises = four-join m (s ∷ []) }
 -- ── the invariant when a part moves
 
 module _ {L : Login} {m : Machine} {p : Port} (h : Ok L m p) where
-  -- other commands and counts of requests, and another queue to the port
-  pub with-work : (a : ℕ) (cs : List Open) (queue : List (List ℕ)) (w : Work) → a ≡ m .wire .limit + requests queue + deltas (m .wire .toInitiator)
-      → Follows (L .terms) w cs → Ok L (withWork (withQueue m queue) w) (withHeld p a cs)
-  with-work a cs queue w e f =
-      record { live = h .live; terms = h .terms; small = h .small; credit = e; wanted = h .wanted; work = f; unanswered = h .unanswered }
+  -- other commands and counts of requests, another line, and another queue to the port
+  pub with-work : (a : ℕ) (cs : List Open) (l : List Place) (queue : List (List ℕ)) (w : Work) → a ≡ m .wire .limit + requests queue + deltas (m .wire .toInitiator)
+      → a + length cs ≤ mostBuffers → Follows (L .terms) w cs l → Ok L (withWork (withQueue m queue) w) (withMoves p a cs l)
+  with-work a cs l queue w e r f =
+      record { live = h .live; terms = h .terms; small = h .small; credit = e; wanted = h .wanted; room = r; work = f; unanswered = h .unanswered }
 
   -- another limit and other queues, and whether a credit request is unanswered
-  pub with-wire : (w : Wire) (a : ℕ) (u : Bool) → a ≡ w .limit + requests (w .toPort) + deltas (w .toInitiator) → u ≡ w .waiting
-      → Ok L (withWire m w) (withCredit p (p .wanted) a (p .held) u)
-  with-wire w a u e f =
-      record { live = h .live; terms = h .terms; small = h .small; credit = e; wanted = h .wanted; work = h .work; unanswered = f }
+  pub with-wire : (w : Wire) (a : ℕ) (u : Bool) → a ≡ w .limit + requests (w .toPort) + deltas (w .toInitiator) → a + length (p .held) ≤ mostBuffers
+      → u ≡ w .waiting → Ok L (withWire m w) (withCredit p (p .wanted) a (p .held) u (p .line))
+  with-wire w a u e r f =
+      record { live = h .live; terms = h .terms; small = h .small; credit = e; wanted = h .wanted; room = r; work = h .work; unanswered = f }
 
   -- another number of wanted buffers
   pub with-wanted : (w a k : ℕ) → w ≤ 16 → w + k ≡ L .buffers + a → Ok L (withBuffers m a k) (withWanted p w)
   with-wanted w a k small e =
-      record { live = h .live; terms = h .terms; small = small; credit = h .credit; wanted = e; work = h .work; unanswered = h .unanswered }
+      record { live = h .live; terms = h .terms; small = small; credit = h .credit; wanted = e; room = h .room; work = h .work; unanswered = h .unanswered }
 
 module _ {L : Login} {m : Machine} {p : Port} (h : Ok L m p) where
   -- a call that writes nothing and leaves the invariant
@@ -203,6 +224,7 @@ module _ {L : Login} {m : Machine} {p : Port} (h : Ok L m p) where
             rw (k .stays)
             (with-wire h (joined m (message (due p)) .wire) (p .announced + due p) b
             (omega (arith, h .credit, deltas-snoc (m .wire .toInitiator) (message (due p)), k .delta))
+            (omega (arith, h .room, h .small))
             (w ∙ ap (λ (x : Bool). m .wire .waiting || x) (sym (k .credit))));
       }
 

@@ -16,11 +16,11 @@ use Rattle.srp.specs.Login.{loginDef}
 use Rattle.srp.specs.declared.Settings.{Settings}
 use Rattle.machine.specs.Machine.{Machine, start, Login, loginOf}
 use Rattle.machine.specs.Events.{Event, sends, takes, withdraws, actionOf, after}
-use Rattle.machine.specs.Demand.{Now, Run, Fair, Demand, Meets}
+use Rattle.machine.specs.Demand.{Now, Run, Fair, Demand, Attended, Meets}
 use Rattle.srp.specs.Rows.{login-req, own, settings, no-data}
 use Rattle.srp.specs.declared.Reply.{Reply}
 use Rattle.srp.specs.declared.Reply.the-variants.{Accepted}
-use Rattle.machine.proofs.Demand.{demand-3}
+use Rattle.machine.proofs.Demand.{demand-3, turns-served}
 
 module _ (L : Login) where
   abbrev pub Call : Port → Machine → Event → Reply → List (List ℕ) → Port → Type 0
@@ -45,6 +45,11 @@ module _ (c : Settings) (own : List ℕ) (room : ℕ) (l : List ℕ) (agreed : l
   pub demand : (es : List Event) → Fair (loginOf c l) (λ p. p) (Call (loginOf c l)) (loginDef c own room l .port) (start (c .buffers)) es (itself es)
       → Demand (loginOf c l) (λ p. p) (Call (loginOf c l)) (loginDef c own room l .port) (start (c .buffers)) es (itself es)
   demand es f = demand-3 c own room l agreed (λ p. p) (Call (loginOf c l)) (meets (loginOf c l)) (loginDef c own room l .port) refl es (itself es) f
+
+  -- and of the same runs, that turns serve each move in time
+  pub attended : (es : List Event) → Fair (loginOf c l) (λ p. p) (Call (loginOf c l)) (loginDef c own room l .port) (start (c .buffers)) es (itself es)
+      → Attended (loginOf c l) (λ p. p) (Call (loginOf c l)) (loginDef c own room l .port) (start (c .buffers)) es (itself es)
+  attended es f = turns-served c own room l agreed (λ p. p) (Call (loginOf c l)) (meets (loginOf c l)) (loginDef c own room l .port) refl es (itself es) f
 
 -- ── P8, drawn from the theorem
 

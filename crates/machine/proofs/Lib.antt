@@ -1,4 +1,3 @@
-pub mod Tags
 pub mod Order
 pub mod OrderRows
 pub mod Deltas
@@ -10,5 +9,7 @@ pub mod Taking
 pub mod Owners
 pub mod Bringing
 pub mod Steps
+pub mod Serving
+pub mod Turns
 pub mod Demand
 pub mod Itself

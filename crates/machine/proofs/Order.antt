@@ -8,12 +8,11 @@ use Prim.Native.Nat.{ℕ}
 use lib.Dec.{eqb}
 use borrow.Author.Tests.{eqb-true, eq-eqb}
 use Rattle.srp.specs.Lists.{find, without, change, isSome}
-use Rattle.srp.specs.Credit.{hasTag}
+use Rattle.srp.specs.Credit.{hasTag, Absent, Distinct}
 use Rattle.machine.specs.Machine.{Track, isAmong, oldestFirst}
-use Rattle.machine.specs.Demand.{Absent, Distinct}
 use Rattle.srp.specs.declared.Request.{Request}
 use Rattle.srp.proofs.ListLaws.{cond-out, map-snoc}
-use Rattle.machine.proofs.Tags.{other-way, absent-without}
+use Rattle.srp.proofs.Tags.{other-way, absent-without}
 
 abbrev pub tagsOf : List Track → List ℕ
 tagsOf ts = map (λ t. t .request .tag) ts

@@ -8,37 +8,47 @@ use Prim.Native.Nat.{ℕ, _+_, _-_, _≤_}
 use native.Mathlib.Omega.{arith}
 use borrow.Author.Tests.{ltb-false, leb-false, not-false}
 use Rattle.srp.specs.Bytes.{typeOf}
-use Rattle.srp.specs.Lists.{find, change, without, isSome}
+use lib.ListN.{length}
+use Rattle.srp.specs.Lists.{find, change, without, isSome, All}
 use Rattle.srp.specs.Refusals.{firstOf}
 use Rattle.srp.specs.Requests.{isRequest}
-use Rattle.srp.specs.Credit.{Open, Port, due, withHeld, hasTag}
+use Rattle.srp.specs.Both.{of}
+use Rattle.srp.specs.Credit.{Open, Port, due, withMoves, withHeld, hasTag}
+use Rattle.srp.specs.Line.{Lined, leftBy}
 use Rattle.srp.specs.declared.Terms.{Terms}
 use Rattle.srp.specs.Writing.{response, creditRequest}
-use Rattle.srp.specs.Take.{Outcome, silent, answering, isOpen}
-use Rattle.srp.specs.Tables.{awaitedBy}
+use Rattle.srp.specs.Take.{Outcome, silent, answering, isOpen, leaving}
+use Rattle.srp.specs.Tables.{awaitedBy, isWaiting}
 use Rattle.srp.specs.Calls.{unless, isPlanned, planned, planChecks, planDef, finalOf, finalResponse, finishChecks, finishDef, addChecks, addDef, withdrawChecks, withdrawDef, grantChecks, grantDef}
 use Rattle.srp.specs.Answers.{refusalIn}
-use Rattle.machine.specs.Machine.{deltas, requests, Track, plannedFor, Work, Machine, tracked, withWork, withTracks, endedBy, Login}
+use Rattle.machine.specs.Machine.{deltas, requests, Track, plannedFor, Work, Machine, tracked, withWork, withMoving, withTracks, endedBy, Login}
 use Rattle.machine.specs.Actions.{Owners, byOwner, atFront, between}
-use Rattle.machine.specs.Events.{sending, delivered, delivering, planning, finishing, adding, withdrawing, granting}
+use Rattle.machine.specs.Operations.{piecesLeft}
+use Rattle.machine.specs.Transfers.{planning}
+use Rattle.machine.specs.Events.{sending, delivered, delivering, finishing, adding, withdrawing, granting}
 use Rattle.srp.specs.declared.Refusal.{Refusal}
+use Rattle.srp.specs.declared.Direction.{Direction}
+use Rattle.srp.specs.declared.Direction.the-variants.{Out, In}
+use Rattle.srp.specs.declared.Place.{Place}
 use Rattle.srp.specs.declared.Reply.the-variants.{Refused, Performed}
 use Rattle.srp.proofs.Checks.{passes}
-use Rattle.srp.proofs.ListLaws.{length-change, without-map, change-map, all-without, all-change}
-use Rattle.machine.proofs.Tags.{distinct-without, distinct-change, one-goes}
+use Rattle.srp.proofs.ListLaws.{length-change, length-without, without-map, change-map, all-without, all-change}
+use Rattle.srp.proofs.Lines.{lined-change, lined-endings}
+use Rattle.srp.proofs.Tags.{distinct-without, distinct-change, one-goes}
 use Rattle.machine.proofs.Order.{Ordered, ordered-without, tags-change}
 use Rattle.machine.proofs.Deltas.{response-carries, request-carries}
 use Rattle.srp.proofs.Refusing.{unrefused, unless-iff}
 use Rattle.machine.proofs.Moves.{plan-steady}
-use Rattle.machine.proofs.Invariant.{openIn, Sound, Follows, Ok, find-same, open-same, lacks, wanted-same, with-work, with-wire, with-wanted, Fine, Obeys, obeying, quiet, few, pays, responds}
+use Rattle.machine.proofs.Invariant.{openIn, Sound, Follows, Ok, find-same, open-same, left-same, lacks, wanted-same, with-work, with-wire, with-wanted, Fine, Obeys, obeying, quiet, few, pays, responds}
 
 -- ── a plan
 
 -- before the plan no move was named, so that the plan may state any lengths
-sound-plan : (T : Terms) (a b : ℕ) (t : Track) → Sound T t → t .planned ≡ false → Sound T (plannedFor a b t)
-sound-plan T a b t s e =
+sound-plan : (T : Terms) (a b : ℕ) (t : Track) → Sound T t → isSome (t .awaits) ≡ false → t .planned ≡ false → Sound T (plannedFor a b t)
+sound-plan T a b t s w e =
     let u = s .unplanned e in
     record {
+      waits = λ z. absurd (true≢false (sym z ∙ w));
       unplanned = λ q. absurd (true≢false q);
       steady = (plan-steady T a (t .sides .out) (s .steady .0) (u .0), plan-steady T b (t .sides .inn) (s .steady .1) (u .1));
       awaited = s .awaited;
@@ -65,14 +75,14 @@ module _ {L : Login} {m : Machine} {p : Port} (h : Ok L m p) where
   send-obeys s a =
       without-call m _ _
       (with-wire h (sending s .effect m Performed .wire) (p .announced) (p .unanswered)
-      (omega (arith, h .credit, requests-snoc (m .wire .toPort) s, affordable (isRequest s) (m .wire .limit) a)) (h .unanswered))
+      (omega (arith, h .credit, requests-snoc (m .wire .toPort) s, affordable (isRequest s) (m .wire .limit) a)) (h .room) (h .unanswered))
 
   pub deliver-obeys : Obeys L m delivering (silent p Performed)
   deliver-obeys = without-call m _ _ (go (m .wire .toInitiator) refl)
     where
       go : (q : List (List ℕ)) → m .wire .toInitiator ≡ q → Ok L (atFront q m (delivered m)) p
       go [] e = h
-      go (s ∷ ss) e = with-wire h (delivered m s ss .wire) (p .announced) (p .unanswered) (omega (arith, h .credit, ap deltas e)) (h .unanswered)
+      go (s ∷ ss) e = with-wire h (delivered m s ss .wire) (p .announced) (p .unanswered) (omega (arith, h .credit, ap deltas e)) (h .room) (h .unanswered)
 
   -- ── the owner's calls
 
@@ -91,24 +101,47 @@ module _ {L : Login} {m : Machine} {p : Port} (h : Ok L m p) where
   owned c (some r) x e u f =
       obeying m (byOwner c) (silent p (Refused r)) (quiet h (Refused r)) refl (unless-iff p (some r) _ x e u) (λ z. absurd (Option·none-ne-some r (sym z)))
 
-  -- the invariant at other commands, with other counts of requests
-  recast : (cs : List Open) (w : Work) → Follows (L .terms) w cs → Ok L (withWork m w) (withHeld p (p .announced) cs)
-  recast cs w f = with-work h (p .announced) cs (m .wire .toPort) w (h .credit) f
+  -- the invariant at other commands and another line, with other counts of requests
+  recast : (cs : List Open) (l : List Place) (w : Work) → length cs ≤ length (p .held) → Follows (L .terms) w cs l
+      → Ok L (withWork m w) (withMoves p (p .announced) cs l)
+  recast cs l w r f = with-work h (p .announced) cs l (m .wire .toPort) w (h .credit) (omega (arith, h .room)) f
 
   -- the first command with the tag changes as g in the port and as g′ in the machine
-  pub changes : (tag : ℕ) (g : Open → Open) (g′ : Track → Track) → ((t : Track) → g′ t .request ≡ t .request)
-      → ((t : Track) → find (hasTag tag) (m .work .tracks) ≡ some t → g (openIn (L .terms) t) ≡ openIn (L .terms) (g′ t))
-      → ((t : Track) → find (hasTag tag) (m .work .tracks) ≡ some t → Sound (L .terms) t → Sound (L .terms) (g′ t))
-      → Ok L (withTracks m (change (hasTag tag) g′ (m .work .tracks))) (withHeld p (p .announced) (change (hasTag tag) g (p .held)))
-  changes tag g g′ same agree keep =
-      recast (change (hasTag tag) g (p .held)) (withTracks m (change (hasTag tag) g′ (m .work .tracks)) .work)
-      (record {
-        counts = omega (arith, h .work .counts, length-change (hasTag tag) g′ (m .work .tracks));
-        commands = rw (h .work .commands) (change-map (openIn (L .terms)) (hasTag tag) g g′ (m .work .tracks) agree);
-        sound = all-change (Sound (L .terms)) (hasTag tag) g′ (m .work .tracks) (h .work .sound) keep;
-        distinct = distinct-change (hasTag tag) g′ same (m .work .tracks) (h .work .distinct);
-        order = subst (λ (tags : List ℕ). Ordered tags (m .work .tags)) (sym (tags-change (hasTag tag) g′ same (m .work .tracks))) (h .work .order);
-      })
+  module _ (tag : ℕ) (g : Open → Open) (g′ : Track → Track) (same : (t : Track) → g′ t .request ≡ t .request)
+      (agree : (t : Track) → find (hasTag tag) (m .work .tracks) ≡ some t → g (openIn (L .terms) t) ≡ openIn (L .terms) (g′ t))
+      (keep : (t : Track) → find (hasTag tag) (m .work .tracks) ≡ some t → Sound (L .terms) t → Sound (L .terms) (g′ t)) where
+    abbrev cs′ : List Open
+    cs′ = change (hasTag tag) g (p .held)
+
+    abbrev ts′ : List Track
+    ts′ = change (hasTag tag) g′ (m .work .tracks)
+
+    pub commands′ : cs′ ≡ map (openIn (L .terms)) ts′
+    commands′ = rw (h .work .commands) (change-map (openIn (L .terms)) (hasTag tag) g g′ (m .work .tracks) agree)
+
+    pub sound′ : All (Sound (L .terms)) ts′
+    sound′ = all-change (Sound (L .terms)) (hasTag tag) g′ (m .work .tracks) (h .work .sound) keep
+
+    -- with the lines l and l′
+    pub lines : (l l′ : List Place) → l ≡ l′ → Lined (piecesLeft (L .terms)) ts′ l′ → Ok L (withMoving m ts′ l′) (withMoves p (p .announced) cs′ l)
+    lines l l′ e r =
+        recast cs′ l (withMoving m ts′ l′ .work) (omega (arith, length-change (hasTag tag) g (p .held)))
+        (record {
+          counts = omega (arith, h .work .counts, length-change (hasTag tag) g′ (m .work .tracks));
+          commands = commands′;
+          sound = sound′;
+          distinct = distinct-change (hasTag tag) g′ same (m .work .tracks) (h .work .distinct);
+          order = subst (λ (tags : List ℕ). Ordered tags (m .work .tags)) (sym (tags-change (hasTag tag) g′ same (m .work .tracks))) (h .work .order);
+          line = e;
+          lined = r;
+        })
+
+    -- the line stays where no pieces come or go
+    pub changes : ((t : Track) → find (hasTag tag) (m .work .tracks) ≡ some t → (d : Direction) → piecesLeft (L .terms) (of d (g′ t .sides)) ≡ piecesLeft (L .terms) (of d (t .sides)))
+        → Ok L (withTracks m ts′) (withHeld p (p .announced) cs′)
+    changes k =
+        lines (p .line) (m .work .line) (h .work .line)
+        (lined-change (piecesLeft (L .terms)) tag g′ same (m .work .tracks) (m .work .line) k (h .work .lined))
 
   pub add-obeys : (k : ℕ) → Obeys L m (byOwner (adding L k)) (addDef p k)
   add-obeys k =
@@ -142,15 +175,17 @@ module _ {L : Login} {m : Machine} {p : Port} (h : Ok L m p) where
   found tag t f = find-same h tag ∙ ap (Option·map (openIn (L .terms))) f
 
   -- the command with the tag ends
-  pub ends : (tag : ℕ) → isOpen p tag ≡ true → Ok L (endedBy m tag) (withHeld p (p .announced) (without (hasTag tag) (p .held)))
+  pub ends : (tag : ℕ) → isOpen p tag ≡ true → Ok L (endedBy m tag) (leaving p (p .announced) (hasTag tag))
   ends tag e =
-      recast (without (hasTag tag) (p .held)) (endedBy m tag .work)
+      recast (without (hasTag tag) (p .held)) (leftBy (hasTag tag) (p .held) (p .line)) (endedBy m tag .work) (length-without (hasTag tag) (p .held))
       (record {
         counts = omega (arith, h .work .counts, one-goes tag (m .work .tracks) (h .work .distinct) (sym (open-same h tag) ∙ e));
         commands = rw (h .work .commands) (without-map (openIn (L .terms)) (hasTag tag) (m .work .tracks));
         sound = all-without (Sound (L .terms)) (hasTag tag) (m .work .tracks) (h .work .sound);
         distinct = distinct-without (hasTag tag) (m .work .tracks) (h .work .distinct);
         order = ordered-without (hasTag tag) (m .work .tracks) (m .work .tags) (h .work .distinct) (h .work .order);
+        line = left-same h (hasTag tag) (hasTag tag) (λ t. refl);
+        lined = lined-endings (piecesLeft (L .terms)) (hasTag tag) (m .work .tracks) (m .work .line) (h .work .distinct) (h .work .lined);
       })
 
   -- the port's command waits as the machine's does
@@ -168,7 +203,7 @@ module _ {L : Login} {m : Machine} {p : Port} (h : Ok L m p) where
       responding (find (hasTag tag) (p .held)) refl is-open (ends tag is-open)
     where
       p′ : Port
-      p′ = withHeld p (p .announced) (without (hasTag tag) (p .held))
+      p′ = leaving p (p .announced) (hasTag tag)
 
       responding : (c : Option Open) → find (hasTag tag) (p .held) ≡ c → isSome c ≡ true → Ok L (endedBy m tag) p′ → Unrefused (finishing room tag st se) (answering p′ Performed (finalResponse c st se))
       responding none f e o = absurd (true≢false (sym e))
@@ -193,8 +228,14 @@ module _ {L : Login} {m : Machine} {p : Port} (h : Ok L m p) where
       record {
         fine =
             quiet
-            (changes tag (planned a b) (plannedFor a b) (λ t. refl) (λ t f. refl) (λ t f s. sound-plan (L .terms) a b t s (sym (ap isPlanned (found tag t f)) ∙ c .1 .1 .1 .0)))
+            (changes tag (planned a b) (plannedFor a b) (λ t. refl) (λ t f. refl)
+            (λ t f s. sound-plan (L .terms) a b t s (sym (ap isWaiting (found tag t f)) ∙ c .1 .1 .0) (sym (ap isPlanned (found tag t f)) ∙ c .1 .1 .1 .0))
+            (λ t f d. plan-keeps t d))
             Performed;
         wrote = refl;
         answer = tt;
       }
+    where
+      plan-keeps : (t : Track) (d : Direction) → piecesLeft (L .terms) (of d (plannedFor a b t .sides)) ≡ piecesLeft (L .terms) (of d (t .sides))
+      plan-keeps t Out = refl
+      plan-keeps t In = refl

@@ -6,7 +6,7 @@ use mathlib.Core.List.{List, [], _∷_, _++_, map}
 use mathlib.Core.Logic.{_↔_}
 use mathlib.Core.Option.{Option, none, some, Option·none-ne-some}
 use lib.ListN.{length, length-append}
-use Prim.Native.Nat.{ℕ, suc, _+_, _-_}
+use Prim.Native.Nat.{ℕ, suc, _+_, _-_, _≤_}
 use native.Mathlib.Omega.{arith}
 use lib.Dec.{eqb}
 use borrow.Author.Tests.{eqb-true}
@@ -14,28 +14,31 @@ use Rattle.srp.specs.Bytes.{typeOf}
 use Rattle.srp.specs.Lists.{without}
 use Rattle.srp.specs.Refusals.{Conduct, hangsUp, answered, stays, altersNothing, numberOf, conductOf, firstOf, short}
 use Rattle.srp.specs.Requests.{isRequest, readMessage}
-use Rattle.srp.specs.Credit.{Open, Port, withHeld}
+use Rattle.srp.specs.Credit.{Open, Port, withMoves, Absent}
+use Rattle.srp.specs.Line.{leftBy}
 use Rattle.srp.specs.declared.Terms.{Terms}
 use Rattle.srp.specs.Writing.{targetLogout, solicited}
 use Rattle.srp.specs.Take.{Outcome, silent, hangUp, waits, newOpen, aborted, taskCode, takeChecks, accepted, requestIn, conducted, refusedBy, takeBy, takeRead, takeDef}
 use Rattle.srp.specs.Answers.{refusalIn}
-use Rattle.machine.specs.Machine.{deltas, requests, Track, newTrack, Work, Machine, withWork, withQueue, tookRequest, tookCommand, Login, read}
+use Rattle.machine.specs.Machine.{deltas, requests, Track, newTrack, Work, Machine, withWork, withQueue, tookRequest, tookCommand, withEnded, Login, read}
+use Rattle.machine.specs.Operations.{piecesLeft}
 use Rattle.machine.specs.Actions.{atFront}
-use Rattle.machine.specs.Demand.{Absent}
 use Rattle.machine.specs.Events.{reading, afterRefusal, refusalWrites, frontEffect, frontWrites, frontCloses, taking as takingOf}
 use Rattle.srp.specs.declared.Refusal.{Refusal}
 use Rattle.srp.specs.declared.Refusal.the-variants.{NoCredit}
 use Rattle.srp.specs.declared.Message.{Message}
 use Rattle.srp.specs.declared.Message.the-variants.{Bad, Cmd, TskMgmt, CredRsp, ILogout}
+use Rattle.srp.specs.declared.Place.{Place}
 use Rattle.srp.specs.declared.Reply.{Reply}
 use Rattle.srp.specs.declared.Reply.the-variants.{Refused, Performed, NewCommand, TaskAnswered, CreditSettled}
 use Rattle.srp.proofs.Checks.{passes}
 use Rattle.srp.proofs.ListLaws.{length-without, without-map, map-snoc, all-snoc, all-without}
-use Rattle.machine.proofs.Tags.{distinct-snoc, distinct-without}
+use Rattle.srp.proofs.Lines.{lined-snoc, lined-endings}
+use Rattle.srp.proofs.Tags.{distinct-snoc, distinct-without}
 use Rattle.machine.proofs.Order.{ordered-snoc, ordered-without}
 use Rattle.srp.proofs.Refusing.{unrefused, refused-as, read-iff, Suits, drawn, passed}
 use Rattle.srp.proofs.Reading.{ByType, read-by-type}
-use Rattle.machine.proofs.Invariant.{openIn, Sound, Follows, Ok, open-same, with-work, with-wire, Fine, Obeys, obeying, nothing-lifts, lifts, quiet, codes}
+use Rattle.machine.proofs.Invariant.{openIn, Sound, Follows, Ok, open-same, left-same, with-work, with-wire, Fine, Obeys, obeying, nothing-lifts, lifts, quiet, codes}
 use Rattle.machine.proofs.Waiting.{new-track}
 
 module _ {L : Login} {m : Machine} {p : Port} (h : Ok L m p) (s : List ℕ) (ss : List (List ℕ)) (e : m .wire .toPort ≡ s ∷ ss) where
@@ -50,8 +53,9 @@ module _ {L : Login} {m : Machine} {p : Port} (h : Ok L m p) (s : List ℕ) (ss 
 
   module _ (room : ℕ) where
     -- the invariant after a request has left the queue
-    spent : isRequest s ≡ true → (cs : List Open) (w : Work) → Follows (L .terms) w cs → Ok L (withWork (withQueue m ss) w) (withHeld p (p .announced - 1) cs)
-    spent b cs w f = with-work h (p .announced - 1) cs ss w (omega (arith, some-credit b)) f
+    spent : isRequest s ≡ true → (cs : List Open) (l : List Place) (w : Work) → length cs ≤ length (p .held) + 1 → Follows (L .terms) w cs l
+        → Ok L (withWork (withQueue m ss) w) (withMoves p (p .announced - 1) cs l)
+    spent b cs l w r f = with-work h (p .announced - 1) cs l ss w (omega (arith, some-credit b)) (omega (arith, some-credit b, h .room)) f
 
     -- a target's logout ends the list
     gone : (r : Refusal) (reason : ℕ) → Fine L (afterRefusal (hangsUp reason) m ss) false (hangUp p r reason)
@@ -68,27 +72,32 @@ module _ {L : Login} {m : Machine} {p : Port} (h : Ok L m p) (s : List ℕ) (ss 
         let q = passed p room s c z in
         let n = new-track (L .terms) c s (q .fields) in
         let free : Absent (newTrack c s .request .tag) (m .work .tracks) = rw (n .request) (sym (open-same h (c .request .tag)) ∙ q .fresh) in
-        let o = spent k (p .held ++ (newOpen c s ∷ [])) (tookCommand (m .work) (newTrack c s))
+        let o = spent k (p .held ++ (newOpen c s ∷ [])) (p .line) (tookCommand (m .work) (newTrack c s)) (omega (arith, length-append (p .held) (newOpen c s ∷ [])))
         (record {
           counts = omega (arith, h .work .counts, length-append (m .work .tracks) (newTrack c s ∷ []));
           commands = rw (h .work .commands, ← n .same) (sym (map-snoc (openIn (L .terms)) (m .work .tracks) (newTrack c s)));
           sound = all-snoc (Sound (L .terms)) (m .work .tracks) (newTrack c s) (h .work .sound) (n .sound);
           distinct = distinct-snoc (m .work .tracks) (newTrack c s) (h .work .distinct) free;
           order = ordered-snoc (m .work .tracks) (newTrack c s) (m .work .tags) free (h .work .order);
+          line = h .work .line;
+          lined = lined-snoc (piecesLeft (L .terms)) (newTrack c s) (m .work .tracks) (m .work .line) (n .no-pieces) (h .work .lined);
         }) in
         quiet o (NewCommand (c .request .tag) (c .request .lun) (c .cdb) (waits c))
     accept (TskMgmt c) k z =
         let left : List Track = without (aborted c) (m .work .tracks) in
-        let o = spent k (without (aborted c) (p .held)) (tookRequest (m .work) left (1 + (length (m .work .tracks) - length left)))
+        let o = spent k (without (aborted c) (p .held)) (leftBy (aborted c) (p .held) (p .line))
+        (tookRequest (withEnded (m .work) (aborted c) (length (m .work .tracks) - length left))) (omega (arith, length-without (aborted c) (p .held)))
         (record {
           counts = omega (arith, h .work .counts, length-without (aborted c) (m .work .tracks));
           commands = rw (h .work .commands) (without-map (openIn (L .terms)) (aborted c) (m .work .tracks));
           sound = all-without (Sound (L .terms)) (aborted c) (m .work .tracks) (h .work .sound);
           distinct = distinct-without (aborted c) (m .work .tracks) (h .work .distinct);
           order = ordered-without (aborted c) (m .work .tracks) (m .work .tags) (h .work .distinct) (h .work .order);
+          line = left-same h (aborted c) (aborted c) (λ t. refl);
+          lined = lined-endings (piecesLeft (L .terms)) (aborted c) (m .work .tracks) (m .work .line) (h .work .distinct) (h .work .lined);
         }) in
         codes o (TaskAnswered (c .request .tag) (c .request .lun)) (solicited (c .request) (taskCode (c .function))) (c .request .tag) (taskCode (c .function))
-    accept (CredRsp g) k z = quiet (with-wire h (reading s (CredRsp g) .effect (withQueue m ss) .wire) (p .announced) false (same-credit k) refl) CreditSettled
+    accept (CredRsp g) k z = quiet (with-wire h (reading s (CredRsp g) .effect (withQueue m ss) .wire) (p .announced) false (same-credit k) (omega (arith, h .room)) refl) CreditSettled
     accept ILogout k z = record { lift = nothing-lifts (reading s ILogout .effect (withQueue m ss)); keep = tt }
 
     -- a refusal: the message stays in its queue, is answered, or closes the channel
@@ -99,8 +108,16 @@ module _ {L : Login} {m : Machine} {p : Port} (h : Ok L m p) (s : List ℕ) (ss 
         go : (c : Conduct) → Suits p room s (isRequest s) c → Fine L (afterRefusal c m ss) false (conducted c p d r)
         go (hangsUp reason) y = gone r reason
         go answered y = codes
-            (spent y (p .held) (tookRequest (m .work) (m .work .tracks) 1)
-            (record { counts = omega (arith, h .work .counts); commands = h .work .commands; sound = h .work .sound; distinct = h .work .distinct; order = h .work .order }))
+            (spent y (p .held) (p .line) (tookRequest (m .work)) (omega arith)
+            (record {
+              counts = omega (arith, h .work .counts);
+              commands = h .work .commands;
+              sound = h .work .sound;
+              distinct = h .work .distinct;
+              order = h .work .order;
+              line = h .work .line;
+              lined = h .work .lined;
+            }))
             (Refused r) (requestIn d .ucsolnt) (requestIn d .tag) 0x02
         go stays y = quiet h (Refused r)
         go altersNothing y = absurd (true≢false (sym (h .live) ∙ y))

@@ -1,46 +1,47 @@
 -- Demand 3, of lists of events: what holds at the start and after every event, and of each event with its call's reply and message. The customer's
 -- words stand beside each part. The theorem is proofs/Demand.antt.
 use mathlib.Core.Path.{_≡_}
-use mathlib.Core.Logic.{_↔_}
+use mathlib.Core.Logic.{_↔_, _⊎_}
 use mathlib.Core.Bool.{Bool, true, false, _||_}
 use mathlib.Core.List.{List, [], _∷_, map}
 use mathlib.Core.Option.{some}
-use Prim.Native.Nat.{ℕ, _+_}
+use Prim.Native.Nat.{ℕ, zero, suc, _+_, _-_, _≤_}
 use lib.IntN.{ℤ, pos, subℕ, _+ℤ_}
-use lib.ListN.{length, take}
-use Rattle.srp.specs.Limits.{mostBuffers}
+use lib.ListN.{length, take, getElem?}
+use Rattle.srp.specs.Limits.{mostBuffers, mostMoves}
 use Rattle.srp.specs.Bytes.{typeOf}
 use Rattle.srp.specs.Refusals.{firstOf}
-use Rattle.srp.specs.Lists.{find, All, isSome}
+use Rattle.srp.specs.Lists.{All, isSome}
 use Rattle.srp.specs.Both.{Each}
 use Rattle.srp.specs.Cutting.{cutsOf}
 use Rattle.srp.specs.Moves.{CutAsMove}
-use Rattle.srp.specs.Credit.{Port, ruleOf, owed, hasTag}
+use Rattle.srp.specs.Credit.{Distinct, Port, ruleOf, owed}
+use Rattle.srp.specs.Line.{inLine, Lined}
 use Rattle.srp.specs.declared.Terms.{Terms}
 use Rattle.srp.specs.Calls.{listing, listDef, countersDef}
 use Rattle.srp.specs.declared.Refusal.{Refusal}
 use Rattle.srp.specs.declared.Reply.{Reply}
 use Rattle.srp.specs.declared.Reply.the-variants.{Refused, Counts, Listed}
 use Rattle.srp.specs.declared.Counters.{Counters}
+use Rattle.srp.specs.declared.Place.{Place}
 use Rattle.machine.specs.Machine.{isResponse, isCreditRequest, deltaOf, deltas, Progress, Track, shownAs, Machine, requestsHeld, four, lack, unused, wantedBy, tracked, oldestFirst, join, Login}
 use Rattle.machine.specs.Actions.{Action}
-use Rattle.machine.specs.Operations.{wholeOf}
-use Rattle.machine.specs.Events.{Event, actionOf, after, closes}
+use Rattle.machine.specs.Operations.{wholeOf, piecesLeft, Serves}
+use Rattle.machine.specs.Events.{Event, isTurn, actionOf, after, closes}
 
 -- what holds until the channel closes: "Closing ends the list"
 abbrev pub Until : Bool → Type 0 → Type 0
 Until true X = Unit {0}
 Until false X = X
 
+-- what an event brings for a move that n turns for others may come before: a turn serves it or, where n is not 0, another; any other event lets it leave the line
+-- or wait on
+abbrev pub AtTurn : (isTurn : Bool) → (n : ℕ) → (served left : Type 0) → (waits : ℕ → Type 0) → Type 0
+AtTurn true zero served left waits = served
+AtTurn true (suc n) served left waits = served ⊎ waits n
+AtTurn false n served left waits = left ⊎ waits n
+
 -- ── of a track
-
--- no command of these has the tag; no two have one tag
-abbrev pub Absent : ℕ → List Track → Type 0
-Absent tag ts = isSome (find (hasTag tag) ts) ≡ false
-
-abbrev pub Distinct : List Track → Type 0
-Distinct [] = Unit {0}
-Distinct (t ∷ ts) = Absent (t .request .tag) ts × Distinct ts
 
 -- "Each command's operations in a direction are, in order, the first of those"
 abbrev pub Prefix : Terms → Progress → Type 0
@@ -86,6 +87,9 @@ module _ (L : Login) where
     pub listed : listing p ≡ map shownAs (m .work .tracks)
     pub oldest-first : map (λ r. r .tag) (listing p) ≡ oldestFirst (λ tag. isSome (tracked m tag)) (m .work .tags)
     pub distinct : Distinct (m .work .tracks)
+    -- the line is each move with pieces, once; "The line has at most 32 moves"
+    pub lined : Lined (piecesLeft (L .terms)) (m .work .tracks) (m .work .line)
+    pub line-short : length (m .work .line) ≤ mostMoves
     pub in-order : All (InOrder (L .terms)) (m .work .tracks)
     pub moves : All (CutAsNamed (L .terms)) (m .work .tracks)
 
@@ -131,3 +135,25 @@ module _ (L : Login) where
     abbrev pub Meets : Type 0
     Meets = (s : S) (m : Machine) (e : Event) (r : Reply) (ss : List (List ℕ)) (s′ : S)
         → Call s m e r ss s′ → actionOf L e .call (view s) m ≡ record { reply = r; port = view s′; wrote = ss }
+
+    -- ── "a move in it is served within 32 of these calls unless it has left the line before, for every list of other calls between"
+
+    -- the move x is served after at most n turns for others, unless it leaves the line before or the list ends
+    abbrev pub ServedWithin : (x : Place) (n : ℕ) (s : S) (m : Machine) (es : List Event) → Run s m es → Type 0
+    ServedWithin x n s m [] run = Unit {0}
+    ServedWithin x n s m (e ∷ es) run =
+        let m′ : Machine = after L m e (run .reply) (run .wrote) in
+        Until (closes L m e (run .reply) (run .wrote))
+        (AtTurn (isTurn e) n (Serves (L .terms) m x (run .reply)) (inLine x (m′ .work .line) ≡ false) (λ k. ServedWithin x k (run .left) m′ es (run .rest)))
+
+    -- of the moves in the line at one moment: each after as many turns as stand before it, so within 32
+    pub record Attends (s : S) (m : Machine) (es : List Event) (run : Run s m es) : Type 0 where
+      pub in-place : (x : Place) (k : ℕ) → getElem? (m .work .line) k ≡ some x → ServedWithin x k s m es run
+      pub within-32 : (x : Place) → inLine x (m .work .line) ≡ true → ServedWithin x (mostMoves - 1) s m es run
+
+    -- at the start and after every event
+    abbrev pub Attended : (s : S) (m : Machine) (es : List Event) → Run s m es → Type 0
+    Attended s m [] run = Attends s m [] run
+    Attended s m (e ∷ es) run =
+        Attends s m (e ∷ es) run
+        × Until (closes L m e (run .reply) (run .wrote)) (Attended (run .left) (after L m e (run .reply) (run .wrote)) es (run .rest))

@@ -1,4 +1,5 @@
--- Document 01, "Credit", and document 02, jobs 1, 4, 5 and 7: the events of demand 3, each in one definition (specs/Actions.antt has what an event is).
+-- Document 01, "Credit", and document 02, jobs 1, 4, 5, 7 and 8: the events of demand 3, each in one definition. What an event is, is
+-- specs/Actions.antt; plan, move, step and turn are specs/Transfers.antt.
 use mathlib.Core.Path.{_≡_}
 use mathlib.Core.Bool.{Bool, true, false, cond, not, _&&_, _||_}
 use mathlib.Core.List.{List, [], _∷_, _++_}
@@ -12,17 +13,17 @@ use Rattle.srp.specs.Refusals.{Conduct, hangsUp, answered, stays, altersNothing
 use Rattle.srp.specs.Lists.{change, without, isSome}
 use Rattle.srp.specs.Both.{of}
 use Rattle.srp.specs.Requests.{isRequest}
-use Rattle.srp.specs.Credit.{onSide, hasTag}
+use Rattle.srp.specs.Credit.{hasTag}
 use Rattle.srp.specs.Writing.{response, answer}
 use Rattle.srp.specs.Take.{silent, Tables, noTables, givenIn, fieldsFit, waits, aborted, takeDef}
 use Rattle.srp.specs.Tables.{awaitedBy, isWaiting, badLengths, badTables, brought, tablesDef}
-use Rattle.srp.specs.Calls.{isPlanned, badSense, planDef, moveDef, stepDef, finishDef, addDef, withdrawDef, grantDef}
-use Rattle.srp.specs.Answers.{refusalIn, operationIn}
+use Rattle.srp.specs.Calls.{badSense, finishDef, addDef, withdrawDef, grantDef}
+use Rattle.srp.specs.Answers.{refusalIn}
 use Rattle.machine.specs.Actions.{Action, always, anything, byTables, atFront, between, Owners, byOwner}
-use Rattle.machine.specs.Operations.{isBeyond, isUnfinished, Right}
-use Rattle.machine.specs.Machine.{deltaOf, Track, fresh, finalBy, newTrack, plannedFor, withMove, withOperation, Machine, lack, unused, wantedBy, tracked, withWire, withWork, withBuffers, withQueue, withTracks, tookRequest, tookCommand, endedBy, saysLogout, join, Login, read}
+use Rattle.machine.specs.Transfers.{openTests, planning, naming, stepping, turning}
+use Rattle.machine.specs.Machine.{deltaOf, Track, fresh, finalBy, newTrack, Machine, lack, unused, wantedBy, tracked, withWire, withWork, withBuffers, withQueue, withTracks, withMoving, tookRequest, tookCommand, withEnded, endedBy, saysLogout, join, Login, read}
 use Rattle.srp.specs.declared.Refusal.{Refusal}
-use Rattle.srp.specs.declared.Refusal.the-variants.{TableLength, Fields, Argument, NoCredit, TagOpen, TagNotOpen, CreditResponse, Unanswered, NotOwed, Wanted, Unplanned, Planned, Offset, Unfinished, Waiting}
+use Rattle.srp.specs.declared.Refusal.the-variants.{TableLength, Fields, Argument, NoCredit, TagOpen, TagNotOpen, CreditResponse, Unanswered, NotOwed, Wanted, Waiting}
 use Rattle.srp.specs.declared.Direction.{Direction}
 use Rattle.srp.specs.declared.Message.{Message}
 use Rattle.srp.specs.declared.Message.the-variants.{Bad, Cmd, TskMgmt, CredRsp, ILogout}
@@ -83,7 +84,7 @@ reading s (TskMgmt k) =
       checks = λ m. (eqb (unused m) 0, NoCredit) ∷ (isSome (tracked m (k .request .tag)), TagOpen) ∷ [];
       effect = λ m.
           let left : List Track = without (aborted k) (m .work .tracks) in
-          withWork m (tookRequest (m .work) left (1 + (length (m .work .tracks) - length left)));
+          withWork m (tookRequest (withEnded (m .work) (aborted k) (length (m .work .tracks) - length left)));
       writes = rsp .code ∷ [];
       closes = false;
     }
@@ -95,12 +96,12 @@ reading s (CredRsp g) =
       writes = [];
       closes = false;
     }
-reading s ILogout = record { checks = λ m. []; effect = λ m. withTracks m []; writes = []; closes = true }
+reading s ILogout = record { checks = λ m. []; effect = λ m. withMoving m [] []; writes = []; closes = true }
 
 -- a refusal: "On refusals 1 and 9 the message stays there, else it leaves", of which take draws 1 alone; "any command that draws 10" was taken, and has ended
 abbrev pub afterRefusal : Conduct → Machine → List (List ℕ) → Machine
 afterRefusal (hangsUp reason) m queue = withQueue m queue
-afterRefusal answered m queue = withWork (withQueue m queue) (tookRequest (m .work) (m .work .tracks) 1)
+afterRefusal answered m queue = withWork (withQueue m queue) (tookRequest (m .work))
 afterRefusal stays m queue = m
 afterRefusal altersNothing m queue = withQueue m queue
 
@@ -164,46 +165,6 @@ bringing room tag t =
 
 -- ── the owner's calls
 
--- "33 plan, move, step or finish on a waiting command .. directly after 24"
-abbrev pub openTests : Machine → ℕ → List Check
-openTests m tag = (not (isSome (tracked m tag)), TagNotOpen) ∷ (isWaiting (tracked m tag), Waiting) ∷ []
-
-abbrev pub planning : ℕ → ℕ → ℕ → Owners
-planning tag out inn =
-    record {
-      call = λ p. planDef p tag out inn;
-      checks = λ m. openTests m tag ++ ((isPlanned (tracked m tag), Planned) ∷ []);
-      effect = λ m r. withTracks m (change (hasTag tag) (plannedFor out inn) (m .work .tracks));
-      writes = [];
-      answer = anything;
-    }
-
--- "with the naming of a move as one more event"
-abbrev pub naming : Login → ℕ → Direction → ℕ → ℕ → Owners
-naming L tag d offset count =
-    record {
-      call = λ p. moveDef p tag d offset count;
-      checks = λ m.
-          openTests m tag
-          ++ ((not (isPlanned (tracked m tag)), Unplanned)
-          ∷ (isBeyond d offset (tracked m tag), Offset)
-          ∷ (isUnfinished (L .terms) d (tracked m tag), Unfinished)
-          ∷ []);
-      effect = λ m r. withTracks m (change (hasTag tag) (onSide d (withMove offset count)) (m .work .tracks));
-      writes = [];
-      answer = anything;
-    }
-
-abbrev pub stepping : Login → ℕ → Direction → Owners
-stepping L tag d =
-    record {
-      call = λ p. stepDef p tag d;
-      checks = λ m. openTests m tag ++ ((not (isPlanned (tracked m tag)), Unplanned) ∷ []);
-      effect = λ m r. elim (operationIn r) [ none ↦ m | some o ↦ withTracks m (change (hasTag tag) (onSide d (withOperation o)) (m .work .tracks)) ];
-      writes = [];
-      answer = λ m r ss. (t : Track) → tracked m tag ≡ some t → Right (L .terms) d (of d (t .sides)) r;
-    }
-
 -- "Unrefused, finish ends its command"; its response has the residuals by the machine's own counts, and the delta that the lift asks for
 abbrev pub finishing : ℕ → ℕ → ℕ → List ℕ → Owners
 finishing room tag status sense =
@@ -257,10 +218,26 @@ pub data Event : Type 0 where
   plans : (tag out inn : ℕ) → Event
   names : (tag : ℕ) → Direction → (offset count : ℕ) → Event
   steps : (tag : ℕ) → Direction → Event
+  turns : Event
   finishes : (room tag status : ℕ) (sense : List ℕ) → Event
   adds : ℕ → Event
   withdraws : ℕ → Event
   grants : (room : ℕ) → Event
+
+-- "these calls"
+abbrev pub isTurn : Event → Bool
+isTurn (sends s) = false
+isTurn delivers = false
+isTurn (takes room) = false
+isTurn (brings room tag t) = false
+isTurn (plans tag out inn) = false
+isTurn (names tag d offset count) = false
+isTurn (steps tag d) = false
+isTurn turns = true
+isTurn (finishes room tag status sense) = false
+isTurn (adds k) = false
+isTurn (withdraws k) = false
+isTurn (grants room) = false
 
 abbrev pub actionOf : Login → Event → Action
 actionOf L (sends s) = sending s
@@ -270,6 +247,7 @@ actionOf L (brings room tag t) = bringing room tag t
 actionOf L (plans tag out inn) = byOwner (planning tag out inn)
 actionOf L (names tag d offset count) = byOwner (naming L tag d offset count)
 actionOf L (steps tag d) = byOwner (stepping L tag d)
+actionOf L turns = byOwner (turning L)
 actionOf L (finishes room tag status sense) = byOwner (finishing room tag status sense)
 actionOf L (adds k) = byOwner (adding L k)
 actionOf L (withdraws k) = byOwner (withdrawing L k)

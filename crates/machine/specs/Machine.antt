@@ -1,4 +1,4 @@
--- Document 01, "Credit", from "The two-ended machine" on, and document 02, jobs 1, 4, 5 and 7: the initiator, two queues and the port, fed the events'
+-- Document 01, "Credit", from "The two-ended machine" on, and document 02, jobs 1, 4, 5, 7 and 8: the initiator, two queues and the port, fed the events'
 -- arguments, the calls' replies and the messages written, as bytes. Of the port's state the machine is given nothing here, and D alone where
 -- specs/Demand.antt states the sum. What each event does to it is specs/Events.antt.
 use mathlib.Core.Bool.{Bool, true, false, cond, not, _&&_, _||_}
@@ -15,12 +15,14 @@ use Rattle.srp.specs.Descriptors.{Segment, sumOf}
 use Rattle.srp.specs.Requests.{isRequest, readMessage}
 use Rattle.srp.specs.Cutting.{trimmed, highest}
 use Rattle.srp.specs.Credit.{Held, withSides, hasTag}
+use Rattle.srp.specs.Line.{leftBy}
 use Rattle.srp.specs.declared.Terms.{Terms}
 use Rattle.srp.specs.Writing.{residual, Response, solicited}
 use Rattle.srp.specs.Take.{newlyHeld}
 use Rattle.srp.specs.Login.{termsOf}
 use Rattle.srp.specs.declared.Settings.{Settings}
 use Rattle.srp.specs.declared.Piece.{Piece}
+use Rattle.srp.specs.declared.Place.{Place}
 use Rattle.srp.specs.declared.Residual.{Residual}
 use Rattle.srp.specs.declared.Command.{Command}
 use Rattle.srp.specs.declared.Message.{Message}
@@ -145,9 +147,11 @@ pub record Wire : Type 0 where
   pub toInitiator : List (List ℕ)
   pub waiting : Bool
 
--- the open commands, waiting or not; the tags of all that were ever open, in the order of taking; and how many requests were taken and ended
+-- the open commands, waiting or not; the line of their moves with pieces, the next one first; the tags of all that were ever open, in the order of taking;
+-- and how many requests were taken and ended
 pub record Work : Type 0 where
   pub tracks : List Track
+  pub line : List Place
   pub tags : List ℕ
   pub taken : ℕ
   pub ended : ℕ
@@ -163,7 +167,7 @@ abbrev pub start : ℕ → Machine
 start n =
     record {
       wire = record { limit = n; toPort = []; toInitiator = []; waiting = false };
-      work = record { tracks = []; tags = []; taken = 0; ended = 0 };
+      work = record { tracks = []; line = []; tags = []; taken = 0; ended = 0 };
       added = 0;
       withdrawn = 0;
     }
@@ -219,22 +223,30 @@ abbrev pub withQueue : Machine → List (List ℕ) → Machine
 withQueue m queue =
     withWire m (record { limit = m .wire .limit; toPort = queue; toInitiator = m .wire .toInitiator; waiting = m .wire .waiting })
 
--- other open commands, and as many requests taken and ended as before
-abbrev pub withTracks : Machine → List Track → Machine
-withTracks m ts = withWork m (record { tracks = ts; tags = m .work .tags; taken = m .work .taken; ended = m .work .ended })
+-- other open commands and another line, and as many requests taken and ended as before
+abbrev pub withMoving : Machine → List Track → List Place → Machine
+withMoving m ts l = withWork m (record { tracks = ts; line = l; tags = m .work .tags; taken = m .work .taken; ended = m .work .ended })
 
--- a request more was taken, and n ended
-abbrev pub tookRequest : Work → List Track → ℕ → Work
-tookRequest w ts n = record { tracks = ts; tags = w .tags; taken = w .taken + 1; ended = w .ended + n }
+abbrev pub withTracks : Machine → List Track → Machine
+withTracks m ts = withMoving m ts (m .work .line)
+
+-- a request more was taken and has ended at once
+abbrev pub tookRequest : Work → Work
+tookRequest w = record { tracks = w .tracks; line = w .line; tags = w .tags; taken = w .taken + 1; ended = w .ended + 1 }
 
 -- a command more was taken, and is open; "It counts as held from the moment it was taken, also in the credit sum"
 abbrev pub tookCommand : Work → Track → Work
-tookCommand w t = record { tracks = w .tracks ++ (t ∷ []); tags = w .tags ++ (t .request .tag ∷ []); taken = w .taken + 1; ended = w .ended }
+tookCommand w t =
+    record { tracks = w .tracks ++ (t ∷ []); line = w .line; tags = w .tags ++ (t .request .tag ∷ []); taken = w .taken + 1; ended = w .ended }
+
+-- the commands that `ends` tells, n of them, have ended; "Aborts, endings": their moves leave the line
+abbrev pub withEnded : Work → (ends : Track → Bool) → (n : ℕ) → Work
+withEnded w ends n =
+    record { tracks = without ends (w .tracks); line = leftBy ends (w .tracks) (w .line); tags = w .tags; taken = w .taken; ended = w .ended + n }
 
 -- the command with the tag has ended
 abbrev pub endedBy : Machine → ℕ → Machine
-endedBy m tag =
-    withWork m (record { tracks = without (hasTag tag) (m .work .tracks); tags = m .work .tags; taken = m .work .taken; ended = m .work .ended + 1 })
+endedBy m tag = withWork m (withEnded (m .work) (hasTag tag) 1)
 
 -- "Each message written joins the queue to the initiator"
 abbrev pub joined : Machine → List ℕ → Machine

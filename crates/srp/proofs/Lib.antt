@@ -37,3 +37,4 @@ pub mod Bench
 pub mod MoveRows
 pub mod BoundaryRows
 pub mod ListRows
+pub mod TurnRows

@@ -3,19 +3,47 @@
 use mathlib.Core.Path.{_≡_, refl, ap, sym, _∙_, subst}
 use mathlib.Core.Bool.{Bool, true, false, cond, not, _&&_, true≢false, or-false}
 use mathlib.Core.List.{List, [], _∷_, _++_}
-use mathlib.Core.Option.{Option, none, some, Option·map}
+use mathlib.Core.Option.{Option, none, some, Option·map, Option·none-ne-some, Option·some-injective}
 use Prim.Native.Nat.{ℕ}
 use lib.Dec.{eqb}
 use borrow.Author.Tests.{eqb-true}
-use Rattle.srp.specs.Lists.{find, change, without}
+use Rattle.srp.specs.Lists.{find, change, without, isSome}
 use Rattle.srp.specs.Both.{Both, of, alter}
 use Rattle.srp.specs.Credit.{Held, onSide, hasTag, Distinct, place}
 use Rattle.srp.specs.Line.{sameDirection, samePlace, inLine, Once, Lined, moreIn, isEnded, putBack, keepsPlace, leftBy}
 use Rattle.srp.specs.declared.Direction.{Direction}
 use Rattle.srp.specs.declared.Direction.the-variants.{Out, In}
 use Rattle.srp.specs.declared.Place.{Place}
+use Rattle.srp.proofs.ListLaws.{without-same}
 use Rattle.srp.proofs.Tags.{find-changed, find-other, unlessPasses, find-without}
 use Rattle.srp.proofs.Places.{same-place, place-self, place-other, in-snoc, in-without, once-snoc, once-without}
+
+-- ── what an ending takes out
+
+module _ {S : Type 0} where
+  found-tag : (tag : ℕ) (cs : List (Held S)) (c : Held S) → find (hasTag tag) cs ≡ some c → tag ≡ c .request .tag
+  found-tag tag [] c e = absurd (Option·none-ne-some c e)
+  found-tag tag (x ∷ cs) c e = go (eqb tag (x .request .tag)) refl e (λ f. found-tag tag cs c f)
+    where
+      go : (b : Bool) → eqb tag (x .request .tag) ≡ b → cond b (some x) (find (hasTag tag) cs) ≡ some c → (find (hasTag tag) cs ≡ some c → tag ≡ c .request .tag)
+          → tag ≡ c .request .tag
+      go true q f ih = eqb-true tag (x .request .tag) q ∙ ap (λ (y : Held S). y .request .tag) (Option·some-injective x c f)
+      go false q f ih = ih f
+
+  -- where the command with the tag ends, and it is open, all moves with that tag leave
+  pub left-by-tag : (tag : ℕ) (cs : List (Held S)) (l : List Place) → isSome (find (hasTag tag) cs) ≡ true
+      → leftBy (hasTag tag) cs l ≡ without (λ x. eqb tag (x .tag)) l
+  left-by-tag tag cs l e = without-same _ _ (λ x. go x (find (hasTag (x .tag)) cs) refl) l
+    where
+      absent : (x : Place) → find (hasTag (x .tag)) cs ≡ none → (b : Bool) → eqb tag (x .tag) ≡ b → false ≡ b
+      absent x f true q = absurd (true≢false (sym e ∙ ap (λ (n : ℕ). isSome (find (hasTag n) cs)) (eqb-true tag (x .tag) q) ∙ ap isSome f))
+      absent x f false q = refl
+
+      go : (x : Place) (o : Option (Held S)) → find (hasTag (x .tag)) cs ≡ o → isEnded (hasTag tag) o ≡ eqb tag (x .tag)
+      go x none f = absent x f (eqb tag (x .tag)) refl
+      go x (some c) f = ap (eqb tag) (sym (found-tag (x .tag) cs c f))
+
+-- ── the line of commands
 
 module _ {S : Type 0} (more : S → Bool) where
   of-alter : (d : Direction) (g : S → S) (b : Both S) → of d (alter d g b) ≡ g (of d b)

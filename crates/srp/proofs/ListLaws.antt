@@ -97,6 +97,11 @@ module _ {A : Type 0} (P : A → Type 0) where
       go true e′ r = (e′ x refl (a .0), a .1)
       go false e′ r = (a .0, r e′)
 
+-- without those that pass, by tests that agree
+pub without-same : {A : Type 0} (P Q : A → Bool) → ((x : A) → P x ≡ Q x) → (l : List A) → without P l ≡ without Q l
+without-same P Q e [] = refl
+without-same P Q e (x ∷ l) = rw (e x, without-same P Q e l)
+
 -- all have one property where all have another that gives it
 pub all-weaken : {A : Type 0} (P Q : A → Type 0) → ((x : A) → P x → Q x) → (l : List A) → All P l → All Q l
 all-weaken P Q f [] a = tt

@@ -32,3 +32,4 @@ pub mod FurtherRows
 pub mod Written
 pub mod MoveRows
 pub mod ListRows
+pub mod TurnRows

@@ -5,10 +5,11 @@ use Prim.Native.Nat.{ℕ}
 use lib.IntN.{ℤ, pos, negsuc}
 use lib.ListN.{replicate}
 use Rattle.srp.specs.Cutting.{piece}
+use Rattle.srp.specs.declared.Direction.the-variants.{Out, In}
 use Rattle.srp.specs.declared.Kind.the-variants.{Read, Write}
 use Rattle.srp.specs.declared.Refusal.the-variants.{TagOpen}
 use Rattle.srp.specs.declared.Reply.{Reply}
-use Rattle.srp.specs.declared.Reply.the-variants.{Refused, Performed, NewCommand, TaskAnswered, CreditSettled, LoggedOut, Operation, Done, Accepted, Rejected, Counts, Listed}
+use Rattle.srp.specs.declared.Reply.the-variants.{Refused, Performed, NewCommand, TaskAnswered, CreditSettled, LoggedOut, Operation, Done, Served, Idle, Accepted, Rejected, Counts, Listed}
 use Rattle.srp.specs.Bytes.{number, write}
 use Rattle.srp.specs.Messages
 use Rattle.srp.specs.Messages.{loginReq, tskMgmt, iLogout, credRsp}
@@ -48,6 +49,9 @@ answers =
     ∷ Operation Read (piece 0x1000 7 512 1024) 3
     ∷ Operation Write (piece 0x1000 7 512 1024) 3
     ∷ Done 4
+    ∷ Served 9 Out (piece 0x1000 7 512 1024) 3
+    ∷ Served 9 In (piece 0x1000 7 512 1024) 4
+    ∷ Idle
     ∷ Accepted
     ∷ Rejected 0x10003
     ∷ Counts (record { wanted = 1; announced = 2; held = 2; owed = negsuc 2 })
@@ -65,6 +69,9 @@ answerValues =
     ∷ (0, pos 1 ∷ pos 7 ∷ pos 0x1000 ∷ pos 512 ∷ pos 1024 ∷ pos 3 ∷ [])
     ∷ (0, pos 2 ∷ pos 7 ∷ pos 0x1000 ∷ pos 512 ∷ pos 1024 ∷ pos 3 ∷ [])
     ∷ (0, pos 4 ∷ [])
+    ∷ (0, pos 1 ∷ pos 7 ∷ pos 0x1000 ∷ pos 512 ∷ pos 1024 ∷ pos 3 ∷ pos 9 ∷ [])
+    ∷ (0, pos 2 ∷ pos 7 ∷ pos 0x1000 ∷ pos 512 ∷ pos 1024 ∷ pos 4 ∷ pos 9 ∷ [])
+    ∷ (0, [])
     ∷ (0, [])
     ∷ (0, pos 0x10003 ∷ [])
     ∷ (0, pos 1 ∷ pos 2 ∷ pos 2 ∷ negsuc 2 ∷ [])
