@@ -20,9 +20,10 @@ use Rattle.srp.specs.declared.Reply.the-variants.{Accepted, Rejected}
 use Rattle.srp.specs.declared.Answer.{Answer}
 use Rattle.words.specs.declared.Head.{Head}
 use Rattle.words.specs.Slots.{slots}
-use Rattle.words.specs.Head.{headOf, TermsFit, HeadFits}
+use Rattle.words.specs.Line.{line}
+use Rattle.words.specs.Head.{TermsFit, HeadFits, HeadChanged}
 use Rattle.words.specs.View.{openPort, view, closedWords}
-use Rattle.words.proofs.Ports.{closed-view}
+use Rattle.words.proofs.Ports.{closed-line, closed-view}
 use Rattle.login.specs.LoggingIn.{GoodSettings, LogsIn}
 
 -- ── the port of an accepted login
@@ -41,10 +42,11 @@ module _ (c : Settings) (s : List ℕ) {t : Terms} (e : t ≡ termsOf c s) where
   pub head-for-fits : GoodSettings c → TermsFit (termsOf c s) → HeadFits (headFor c t)
   head-for-fits G F = record { counts = G .counts; terms = rw e F }
 
-  -- words with that head are that port: no command is open
-  pub opened-view : (l st : List ℕ) → headOf l ≡ headFor c t → view l st ≡ opened c s
-  opened-view l st eh =
-      ap (λ (h : Head). cond (h .live) (openPort h (slots l) st) closedPort) eh ∙ ap (openedWith (c .buffers)) e
+  -- a closed port's words with that head are that port: no command is open, and no move in line
+  pub opened-view : (l₀ l st : List ℕ) → l₀ ≡ closedWords → HeadChanged l₀ l (λ _. headFor c t) → view l st ≡ opened c s
+  opened-view l₀ l st e₀ H =
+      let el : line l ≡ [] = H .line ∙ ap line e₀ ∙ closed-line in
+      (λ j. cond (H .head j .live) (openPort (H .head j) (slots l) (el j) st) closedPort) ∙ ap (openedWith (c .buffers)) e
 
 -- ── what a login leaves
 

@@ -159,9 +159,10 @@ fn terms_of(c: Settings, msg: &[u8]) -> Terms
     }
 }
 
-// The port of an accepted login.
+// The port of an accepted login, in a closed port's words.
 fn open_port(s: &mut [u64], c: Settings, msg: &[u8])
     requires { ⌜ length (now s) ≡ portWords ⌝ }
+    requires { ⌜ now s ≡ closedWords ⌝ }
     requires { ⌜ length (now msg) ≡ loginReq .size ⌝ }
     requires { ⌜ GoodSettings c ⌝ }
     requires { ⌜ TermsFit (termsOf c (now msg)) ⌝ }

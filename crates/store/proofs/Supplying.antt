@@ -161,6 +161,7 @@ module _ (l st : List ℕ) (i : ℕ) (inside : i < headOf l .held) (long : lengt
       let long′ = both-long st₁ out inn long₁ (Ho .short) (Hi .short) k (free .small) in
       record {
         head = S .head;
+        line = S .line;
         slot = slot;
         changed = S .slots;
         this = this;

@@ -17,6 +17,7 @@ use Rattle.srp.specs.declared.Direction.{Direction}
 use Rattle.srp.specs.declared.Direction.the-variants.{Out, In}
 use Rattle.words.specs.Sizes.{mostSlots, listSize, placeSize}
 use Rattle.words.specs.Slots.{TableFits, slots, noSlot, notWaiting, placeAt, placeFor}
+use Rattle.words.specs.Line.{line}
 use Rattle.words.specs.Head.{headOf}
 use Rattle.words.specs.View.{opens, sideOf, givenOf, openOf, shown}
 use Rattle.words.specs.declared.Part.{Part}
@@ -103,9 +104,10 @@ under d st c table = over table (drop (placeFor d c) st)
 abbrev pub supplied : List ℕ → Slot → (o n : Part) (out inn : List ℕ) → Open
 supplied st c o n out inn = openIn (under Out st c out) (under In st c inn) (newSlot (c .request) 0 o n notWaiting)
 
--- the command in slot i has its tables: the other commands stay, and the head
+-- the command in slot i has its tables: the other commands stay, the head and the line
 pub record Supplied (i : ℕ) (l st l′ st′ : List ℕ) (o n : Part) (out inn : List ℕ) : Type 0 where
   pub head : headOf l′ ≡ headOf l
+  pub line : line l′ ≡ line l
   pub slot : Slot
   pub changed : slots l′ ≡ set (slots l) i slot
   pub this : openOf st′ slot ≡ supplied st (getD (slots l) i noSlot) o n out inn

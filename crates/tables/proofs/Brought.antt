@@ -114,8 +114,7 @@ module _ (l st l′ st′ : List ℕ) (tag i : ℕ) (live : headOf l .live ≡ t
       → view l′ st′ ≡ withHeld (view l st) (view l st .announced) (change (hasTag tag) g (view l st .held))
   supplied-view g q =
       while-open l′ st′ (ap (λ (h : Head). h .live) (S .head) ∙ live)
-      ∙ ap (λ (h : Head). openPort h (slots l′) st′) (S .head)
-      ∙ ap (λ (cs : List Slot). openPort (headOf l) cs st′) (S .changed)
+      ∙ (λ j. openPort (S .head j) (S .changed j) (S .line j) st′)
       ∙ ap (λ (cs : List Open). withHeld (shown l st) (headOf l .announced) cs) (sym (held-changed g q))
       ∙ ap (λ (p : Port). withHeld p (p .announced) (change (hasTag tag) g (p .held))) (sym (while-open l st live))
 

@@ -7,12 +7,12 @@ use mathlib.Core.Option.{Option, some}
 use Prim.Native.Nat.{ℕ, _/_, _<_}
 use lib.Dec.{eqb}
 use lib.ListN.{length, getD}
-use Rattle.srp.specs.Lists.{find, without}
+use Rattle.srp.specs.Lists.{find}
 use Rattle.srp.specs.Both.{Both}
 use Rattle.srp.specs.Refusals.{firstOf}
 use Rattle.srp.specs.Descriptors.{standingSize, Given}
-use Rattle.srp.specs.Credit.{Port, withHeld, hasTag}
-use Rattle.srp.specs.Take.{Outcome, answering, Tables, tablesFit, fieldsFit}
+use Rattle.srp.specs.Credit.{Port, hasTag}
+use Rattle.srp.specs.Take.{Outcome, answering, leaving, Tables, tablesFit, fieldsFit}
 use Rattle.srp.specs.Tables.{badResponse, tablesBy, tablesDef}
 use Rattle.srp.specs.declared.Refusal.the-variants.{TableLength, Fields}
 use Rattle.srp.specs.declared.Descriptor.{Descriptor}
@@ -40,7 +40,7 @@ judgedDef p tag t g = tablesBy (firstOf ((not (tablesFit g t), TableLength) ∷ 
 
 -- refusal 10: the command is answered, and ends
 abbrev pub badDef : ℕ → Port → Outcome
-badDef tag p = answering (withHeld p (p .announced) (without (hasTag tag) (p .held))) (Refused Fields) (badResponse (find (hasTag tag) (p .held)))
+badDef tag p = answering (leaving p (p .announced) (hasTag tag)) (Refused Fields) (badResponse (find (hasTag tag) (p .held)))
 
 -- ── the store
 

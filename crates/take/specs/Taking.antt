@@ -17,7 +17,7 @@ use Rattle.srp.specs.declared.Command.{Command}
 use Rattle.srp.specs.declared.Message.{Message}
 use Rattle.srp.specs.declared.Message.the-variants.{Cmd}
 use Rattle.srp.specs.declared.Reply.{Reply}
-use Rattle.srp.specs.declared.Reply.the-variants.{Refused, Performed, NewCommand, TaskAnswered, CreditSettled, LoggedOut, Operation, Done, Accepted, Rejected, Counts, Listed}
+use Rattle.srp.specs.declared.Reply.the-variants.{Refused, Performed, NewCommand, TaskAnswered, CreditSettled, LoggedOut, Operation, Done, Served, Idle, Accepted, Rejected, Counts, Listed}
 use Rattle.srp.specs.declared.Answer.{Answer}
 use Rattle.cut.specs.declared.Total.the-variants.{Sum}
 use Rattle.command.specs.Reading.{fieldsOf, ListFits}
@@ -59,6 +59,8 @@ takesCommand CreditSettled = false
 takesCommand LoggedOut = false
 takesCommand (Operation k p n) = false
 takesCommand (Done n) = false
+takesCommand (Served tag d p n) = false
+takesCommand Idle = false
 takesCommand Accepted = false
 takesCommand (Rejected reason) = false
 takesCommand (Counts n) = false

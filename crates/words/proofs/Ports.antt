@@ -2,18 +2,20 @@
 -- Assumes nothing.
 use mathlib.Core.Path.{_≡_, refl, _∙_, ap}
 use mathlib.Core.Bool.{Bool, true, false, cond}
-use mathlib.Core.List.{List}
+use mathlib.Core.List.{List, []}
 use mathlib.Core.Logic.{_⊎_, inl, inr}
-use Prim.Native.Nat.{ℕ, zero, suc, _<_}
+use Prim.Native.Nat.{ℕ, zero, suc, min, _+_, _<_}
 use native.Mathlib.Omega.{arith}
-use lib.ListN.{length, getD, replicate, length-map}
-use lib.Seq.{length-take-le, getD-take}
+use lib.ListN.{length, getD, take, replicate, length-map}
+use lib.Seq.{length-take-le, getD-take, getD-drop}
+use Rattle.srp.specs.Limits.{mostMoves}
 use Rattle.srp.specs.Cutting.{badBoundary}
 use Rattle.srp.specs.Credit.{closedPort}
 use Rattle.words.specs.declared.Slot.{Slot}
-use Rattle.words.specs.Sizes.{portWords, mostSlots}
+use Rattle.words.specs.Sizes.{portWords, mostSlots, lineAt}
 use Rattle.words.specs.Slots.{partAt, partIn, descriptorIn, tableAt, slotOf, PartFits, TableFits, SlotFits, slotAt, region, slots, noSlot}
 use Rattle.srp.specs.declared.Direction.the-variants.{Out, In}
+use Rattle.words.specs.Line.{behind, ring, line}
 use Rattle.words.specs.Head.{boundaryIn, headOf, HeadFits}
 use Rattle.words.specs.View.{opens, openOf, shown, view, closedWords, InRanges}
 use Rattle.srp.proofs.Boundaries.{zero-good}
@@ -104,6 +106,12 @@ zeros-at (suc n) (suc k) = zeros-at n k
 -- each of them is 0
 pub closed-word : (k : ℕ) → getD closedWords k 0 ≡ 0
 closed-word k = zeros-at portWords k
+
+-- their line is empty
+pub closed-line : line closedWords ≡ []
+closed-line =
+    let e : getD (behind closedWords) 1 0 ≡ 0 = getD-drop lineAt closedWords 1 0 ∙ closed-word (lineAt + 1) in
+    ap (λ (n : ℕ). take (min n mostMoves) (ring closedWords)) e
 
 -- they are the closed port
 pub closed-view : (l st : List ℕ) → l ≡ closedWords → view l st ≡ closedPort

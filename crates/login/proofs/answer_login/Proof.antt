@@ -43,7 +43,7 @@ open-port-requires : tie.Need-open-port-requires
 open-port-requires c κs =
     let a = c .before .before .before .before .before .before .before .before .before .args in
     let o = firstOf (rejections (a .c) (a .own .now) (a .msg .now)) in
-    (c .before .before .before .before .before .before .before .before .before .pre .0, (c .before .before .before .before .before .before .before .before .before .pre .1 .1 .0, (c .before .before .before .before .before .before .before .before .before .pre .1 .1 .1 .0, accepts (a .c) (a .own .now) (a .msg .now) (c .before .before .before .before .before .before .before .before .before .pre .1 .1 .1 .0) (rejects-none o (c .before .before .before .judge .ensures) (c .before .enum-told .given .1)))))
+    (c .before .before .before .before .before .before .before .before .before .pre .0, (c .before .before .before .before .before .before .before .before .before .pre .1 .0, (c .before .before .before .before .before .before .before .before .before .pre .1 .1 .0, (c .before .before .before .before .before .before .before .before .before .pre .1 .1 .1 .0, accepts (a .c) (a .own .now) (a .msg .now) (c .before .before .before .before .before .before .before .before .before .pre .1 .1 .1 .0) (rejects-none o (c .before .before .before .judge .ensures) (c .before .enum-told .given .1))))))
 
 read32-requires : tie.Need-read32-requires
 read32-requires c κs = search needs
