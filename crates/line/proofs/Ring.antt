@@ -1,16 +1,18 @@
 -- The ring of places: read, written, and from another place on.
 -- Assumes nothing.
 use mathlib.Core.Path.{_≡_, refl, sym, _∙_, ap, subst}
-use mathlib.Core.Bool.{Bool}
+use mathlib.Core.Bool.{Bool, true, false}
 use mathlib.Core.List.{List, [], _∷_, _++_}
 use Prim.Native.Nat.{ℕ, zero, suc, min, _+_, _-_, _*_, _%_, _≤_, _<_}
 use native.Mathlib.Omega.{arith}
 use native.Mathlib.Nat.{add-zero}
 use native.Mathlib.Numerals.{add-one}
+use borrow.Author.Tests.{lt-ltb, le-ltb}
 use lib.ListN.{length, getD, take, drop, set, length-set, length-drop}
 use lib.Seq.{getD-set-same, getD-set-other, getD-drop, drop-set-add, take-suc-set, take-set-le}
 use Rattle.srp.specs.Limits.{mostMoves}
 use Rattle.srp.specs.Credit.{place}
+use Rattle.srp.specs.Line.{joins, putBack}
 use Rattle.srp.specs.declared.Direction.{Direction}
 use Rattle.srp.specs.declared.Direction.the-variants.{Out, In}
 use Rattle.srp.specs.declared.Place.{Place}
@@ -240,3 +242,29 @@ module _ (l : List ℕ) (long : length l ≡ portWords) where
           let t = other (ringAt + 2 * i) (λ q. omega arith) (λ q. omega arith) in
           let d = other (ringAt + 2 * i + 1) (λ q. omega arith) (λ q. omega arith) in
           λ j. record { tag = t j; direction = directionIn (d j) }
+
+-- ── a move that joins, and one that was served
+
+-- a line that is full stays
+pub full-stays : (l : List ℕ) (x : Place) {n : ℕ} → n ≡ count l → n ≡ mostMoves → LineChanged l l (joins true x)
+full-stays l x e f = record { slots = refl; head = refl; line = rw (le-ltb (length (line l)) mostMoves (omega (arith, line-long l, e, f))) refl }
+
+-- one that is not has the move at its end
+pub room-joins : (l l′ : List ℕ) (x : Place) {n : ℕ} → n ≡ count l → (n ≡ mostMoves → ⊥) → LineChanged l l′ (λ q. q ++ (x ∷ [])) → LineChanged l l′ (joins true x)
+room-joins l l′ x e ne C =
+    record { slots = C .slots; head = C .head; line = rw (lt-ltb (length (line l)) mostMoves (omega (arith, line-long l, e, ne))) (C .line) }
+
+-- the first left, and is served
+pub passed-on : (l l′ : List ℕ) (x : Place) {more : Bool} → LineChanged l l′ (drop 1) → more ≡ false → LineChanged l l′ (λ q. putBack more x (drop 1 q))
+passed-on l l′ x C e = record { slots = C .slots; head = C .head; line = rw e (C .line) }
+
+pub passed-back : (l l₁ l′ : List ℕ) (x : Place) {more : Bool} → LineChanged l l₁ (drop 1) → more ≡ true → LineChanged l₁ l′ (λ q. q ++ (x ∷ []))
+    → LineChanged l l′ (λ q. putBack more x (drop 1 q))
+passed-back l l₁ l′ x C e D =
+    record { slots = D .slots ∙ C .slots; head = D .head ∙ C .head; line = rw e (D .line ∙ ap (λ (q : List Place). q ++ (x ∷ [])) (C .line)) }
+
+-- then there is room
+pub room-behind : (l l₁ : List ℕ) → LineChanged l l₁ (drop 1) → 1 ≤ count l → count l₁ < mostMoves
+room-behind l l₁ C h =
+    let e : length (line l₁) ≡ length (line l) - 1 = ap length (C .line) ∙ length-drop 1 (line l) in
+    omega (arith, e, line-long l, line-long l₁)

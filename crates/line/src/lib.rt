@@ -6,10 +6,12 @@ use words::LINE;
 use words::MOVES;
 use words::RING;
 ghost use mathlib.Core.Path.{_≡_};
+ghost use mathlib.Core.Bool.{true};
 ghost use mathlib.Core.List.{_∷_, [], _++_};
 ghost use Prim.Native.Nat.{_+_, _*_, _%_, _≤_, _<_};
 ghost use lib.ListN.{length, getD, drop};
 ghost use Rattle.srp.specs.Limits.{mostMoves};
+ghost use Rattle.srp.specs.Line.{joins, putBack};
 ghost use Rattle.words.specs.Sizes.{portWords, lineAt, ringAt};
 ghost use Rattle.words.specs.Line.{firstIn, directionIn, behind, count, ring};
 ghost use Rattle.line.specs.Changes.{noPlace, directionWord, PlaceChanged, LengthChanged, LineChanged};
@@ -90,8 +92,8 @@ pub fn set_len(s: &mut [u64], n: usize)
     s[LENGTH] = n as u64;
 }
 
-// A move joins at the end of a line that is not full.
-pub fn join(s: &mut [u64], x: Place)
+// A move behind the last of a line that is not full.
+fn append(s: &mut [u64], x: Place)
     requires { ⌜ length (now s) ≡ portWords ⌝ }
     requires { ⌜ count (now s) < mostMoves ⌝ }
     ensures { λ _. ⌜ LineChanged (now (s .entry)) (now (s .exit)) (λ l. l ++ (x ∷ [])) ⌝ }
@@ -101,8 +103,19 @@ pub fn join(s: &mut [u64], x: Place)
     set_len(s, n + 1);
 }
 
+// A move joins the line at its end. In words that no login made the line may be full, and stays.
+pub fn join(s: &mut [u64], x: Place)
+    requires { ⌜ length (now s) ≡ portWords ⌝ }
+    ensures { λ _. ⌜ LineChanged (now (s .entry)) (now (s .exit)) (joins true x) ⌝ }
+{
+    if len(s) == MOVES {
+        return;
+    }
+    append(s, x);
+}
+
 // The first move of the line leaves it.
-pub fn drop_first(s: &mut [u64])
+fn drop_first(s: &mut [u64])
     requires { ⌜ length (now s) ≡ portWords ⌝ }
     requires { ⌜ 1 ≤ count (now s) ⌝ }
     ensures { λ _. ⌜ LineChanged (now (s .entry)) (now (s .exit)) (drop 1) ⌝ }
@@ -111,4 +124,17 @@ pub fn drop_first(s: &mut [u64])
     let first = s[FIRST] % PLACES;
     s[FIRST] = (first + 1) % PLACES;
     s[LENGTH] = (n - 1) as u64;
+}
+
+// The move x, which was the first of the line, was served: it goes behind the last where it has more pieces, and else leaves.
+pub fn pass(s: &mut [u64], x: Place, more: bool)
+    requires { ⌜ length (now s) ≡ portWords ⌝ }
+    requires { ⌜ 1 ≤ count (now s) ⌝ }
+    ensures { λ _. ⌜ LineChanged (now (s .entry)) (now (s .exit)) (λ l. putBack more x (drop 1 l)) ⌝ }
+{
+    drop_first(s);
+    if !more {
+        return;
+    }
+    append(s, x);
 }

@@ -1,3 +1,5 @@
 pub mod Checks
-pub mod Handing
 pub mod Pieces
+pub mod HandingOut
+pub mod Handing
+pub mod Turns

@@ -1,11 +1,16 @@
-// Plan, move and step: what a command requires each way, the moves that its owner names, and their RDMA operations one after the other.
+// Plan, move, step and turn: what a command requires each way, the moves that its owner names, and their RDMA operations one after the other, of a move
+// that the owner chooses or of all moves by turns.
 use srp::Cut;
 use srp::Direction;
 use srp::Kind;
+use srp::Piece;
+use srp::Place;
 use srp::Refusal;
 use srp::Reply;
 use srp::Terms;
 use state::Found;
+use state::Leaving;
+use state::moves;
 use wire::layout::SEGMENT;
 use words::LIST;
 use words::PLACE;
@@ -26,7 +31,15 @@ ghost use Rattle.words.specs.Slots.{slots, noSlot, placeAt};
 ghost use Rattle.words.specs.Head.{headOf};
 ghost use Rattle.words.specs.View.{sideOf};
 ghost use Rattle.state.specs.Changes.{FoundAt};
-ghost use Rattle.transfer.specs.Stepping.{Plans, Names, Steps, HandsOut};
+ghost use Rattle.transfer.specs.Stepping.{Plans, Names, HandsOut, Steps, StepsPlanned};
+ghost use Rattle.transfer.specs.Turning.{FirstIs, Serves, Turns};
+
+// What is handed out of a direction's current move: nothing, as it has no piece left; or a piece. Each with the number handed out for the move, and a
+// piece with whether more are left.
+pub enum Handed {
+    Nothing(u32),
+    One(Piece, u32, bool),
+}
 
 // States what a command requires each way. Refused 21, 24, 33, 30.
 pub fn plan(s: &mut [u64; PORT], tag: u64, out: u32, inn: u32) -> Reply
@@ -50,7 +63,7 @@ pub fn plan(s: &mut [u64; PORT], tag: u64, out: u32, inn: u32) -> Reply
     Reply::Performed
 }
 
-// The move of a planned command that does not wait, in slot i. Refused 31, 32.
+// The move of a planned command that does not wait, in slot i; one with pieces joins the line. Refused 31, 32.
 fn begin(s: &mut [u64], tag: u64, i: usize, d: Direction, offset: u32, count: u32) -> Reply
     requires { ⌜ length (now s) ≡ portWords ⌝ }
     requires { ⌜ headOf (now s) .live ≡ true ⌝ }
@@ -70,6 +83,14 @@ fn begin(s: &mut [u64], tag: u64, i: usize, d: Direction, offset: u32, count: u3
     }
     let end = wire::least((offset as u64) + (count as u64), movable) as u32;
     commands::set_move(s, i, d, t.highest, offset, end, 0);
+    if end <= offset {
+        return Reply::Performed;
+    }
+    let x = Place {
+        tag: tag,
+        direction: d,
+    };
+    line::join(s, x);
     Reply::Performed
 }
 
@@ -141,27 +162,51 @@ fn next_for(s: &[u64], store: &[u8], place: u8, p: Part, d: Direction, terms: Te
     cut::end_at_boundary(piece, words::load_boundary(s))
 }
 
-// The next piece of the planned command in slot i, or done.
-fn hand_out(s: &mut [u64], store: &[u8], tag: u64, i: usize, d: Direction, terms: Terms) -> Reply
+// The next piece of a direction's current move, of the command in slot i, is handed out.
+fn hand_out(s: &mut [u64], store: &[u8], i: usize, d: Direction, terms: Terms) -> Handed
     requires { ⌜ length (now s) ≡ portWords ⌝ }
     requires { ⌜ length (now store) ≡ storeSize ⌝ }
-    requires { ⌜ headOf (now s) .live ≡ true ⌝ }
-    requires { ⌜ FoundAt (now s) tag i ⌝ }
+    requires { ⌜ i < mostSlots ⌝ }
     requires { ⌜ terms ≡ headOf (now s) .terms ⌝ }
-    ensures { λ r. ⌜ HandsOut (now (s .entry)) (now (s .exit)) (now (store .entry)) tag d r ⌝ }
+    ensures { λ r. ⌜ HandsOut (now (s .entry)) (now (s .exit)) (now (store .entry)) i d r ⌝ }
 {
     let p = commands::load_part(s, i, d);
     let place = commands::load_place(s, i);
     match next_for(s, store, place, p, d, terms) {
         // next_piece refuses nothing: this arm is shown not to be reached
-        Cut::CutRefused(f) => Reply::Refused(f),
-        Cut::CutDone => Reply::Done(p.transfer.number),
+        Cut::CutRefused(_) => Handed::Nothing(p.transfer.number),
+        Cut::CutDone => Handed::Nothing(p.transfer.number),
         Cut::CutPiece(piece) => {
             let next = p.transfer.at + piece.len;
             let highest = larger(p.transfer.highest, next);
             let number = p.transfer.number + 1;
             commands::set_move(s, i, d, highest, next, p.transfer.end, number);
-            Reply::Operation(kind_for(d), piece, number)
+            Handed::One(piece, number, next < p.transfer.end)
+        }
+    }
+}
+
+// The next piece of the planned command in slot i, or done; the last piece takes the move out of the line.
+fn step_planned(s: &mut [u64], store: &[u8], tag: u64, i: usize, d: Direction, terms: Terms) -> Reply
+    requires { ⌜ length (now s) ≡ portWords ⌝ }
+    requires { ⌜ length (now store) ≡ storeSize ⌝ }
+    requires { ⌜ headOf (now s) .live ≡ true ⌝ }
+    requires { ⌜ FoundAt (now s) tag i ⌝ }
+    requires { ⌜ terms ≡ headOf (now s) .terms ⌝ }
+    ensures { λ r. ⌜ StepsPlanned (now (s .entry)) (now (s .exit)) (now (store .entry)) tag d r ⌝ }
+{
+    match hand_out(s, store, i, d, terms) {
+        Handed::Nothing(n) => Reply::Done(n),
+        Handed::One(piece, n, more) => {
+            if more {
+                return Reply::Operation(kind_for(d), piece, n);
+            }
+            let x = Place {
+                tag: tag,
+                direction: d,
+            };
+            moves::leave(s, Leaving::Handed(x));
+            Reply::Operation(kind_for(d), piece, n)
         }
     }
 }
@@ -184,5 +229,44 @@ pub fn step(s: &mut [u64; PORT], store: &[u8; STORE], tag: u64, d: Direction) ->
     if !commands::load_planned(s, i) {
         return Reply::Refused(Refusal::Unplanned);
     }
-    hand_out(s, store, tag, i, d, h.terms)
+    step_planned(s, store, tag, i, d, h.terms)
+}
+
+// Serves the move x, the first of the line, whose command is in slot i.
+fn serve(s: &mut [u64], store: &[u8], x: Place, i: usize, terms: Terms) -> Reply
+    requires { ⌜ length (now s) ≡ portWords ⌝ }
+    requires { ⌜ length (now store) ≡ storeSize ⌝ }
+    requires { ⌜ headOf (now s) .live ≡ true ⌝ }
+    requires { ⌜ FirstIs (now s) x ⌝ }
+    requires { ⌜ FoundAt (now s) (x .tag) i ⌝ }
+    requires { ⌜ terms ≡ headOf (now s) .terms ⌝ }
+    ensures { λ r. ⌜ Serves (now (s .entry)) (now (s .exit)) (now (store .entry)) r ⌝ }
+{
+    let d = x.direction;
+    match hand_out(s, store, i, d, terms) {
+        Handed::Nothing(_) => Reply::Idle,
+        Handed::One(piece, n, more) => {
+            line::pass(s, x, more);
+            Reply::Served(x.tag, d, piece, n)
+        }
+    }
+}
+
+// The next piece of the first move in the line, which goes to its end if pieces remain; idle with an empty line. Refused 21.
+pub fn turn(s: &mut [u64; PORT], store: &[u8; STORE]) -> Reply
+    ensures { λ r. ⌜ Turns (now (s .entry)) (now (s .exit)) (now (store .entry)) r ⌝ }
+{
+    let h = words::get_head(s);
+    let live = h.live;
+    if !live {
+        return Reply::Refused(Refusal::Closed);
+    }
+    if line::len(s) == 0 {
+        return Reply::Idle;
+    }
+    let x = line::at(s, 0);
+    let Found::At(i) = state::find(s, x.tag) else {
+        return Reply::Idle;
+    };
+    serve(s, store, x, i, h.terms)
 }

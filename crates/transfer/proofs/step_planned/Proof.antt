@@ -1,0 +1,73 @@
+use borrow.Author.Needs.{needs}
+use Rattle.transfer.proofs.step_planned.Statement.{statement}
+use Rattle.transfer.proofs.step_planned.Tie as tie
+use Rattle.transfer.proofs.step_planned.Reads as reads
+use Rattle.transfer.proofs.step_planned.Lts as lts
+use Rattle.state.proofs.moves.leave.Reads as leave-reads
+use Rattle.transfer.proofs.hand_out.Reads as hand-out-reads
+use Rattle.transfer.proofs.kind_for.Reads as kind-for-reads
+
+-- src/lib.rt:198:11
+hand-out-requires : tie.Need-hand-out-requires
+hand-out-requires c κs = search needs
+
+-- src/lib.rt:199:25
+enum-known-n : tie.Need-enum-known-n
+enum-known-n c = search needs
+
+-- src/lib.rt:200:21
+enum-known-piece : tie.Need-enum-known-piece
+enum-known-piece c = search needs
+
+-- src/lib.rt:202:41
+kind-for-requires : tie.Need-kind-for-requires
+kind-for-requires c κs = search needs
+
+-- src/lib.rt:202:17
+same-length : tie.Need-same-length
+same-length c = search needs
+
+-- src/lib.rt:202:17
+returns : tie.Need-returns
+returns c = ?
+
+-- src/lib.rt:208:13
+leave-requires : tie.Need-leave-requires
+leave-requires c κs = search needs
+
+-- src/lib.rt:209:30
+kind-for-requires-2 : tie.Need-kind-for-requires-2
+kind-for-requires-2 c κs = search needs
+
+-- src/lib.rt:190:1
+same-length-2 : tie.Need-same-length-2
+same-length-2 c = search needs
+
+-- src/lib.rt:190:1
+returns-2 : tie.Need-returns-2
+returns-2 c = ?
+
+-- src/lib.rt:190:1
+same-length-3 : tie.Need-same-length-3
+same-length-3 c = search needs
+
+-- src/lib.rt:190:1
+returns-3 : tie.Need-returns-3
+returns-3 c = ?
+
+pub step-planned-spec : {M : Type 1} → statement M
+step-planned-spec =
+    tie.close
+    (tie.spec
+    hand-out-requires
+    enum-known-n
+    enum-known-piece
+    kind-for-requires
+    same-length
+    returns
+    leave-requires
+    kind-for-requires-2
+    same-length-2
+    returns-2
+    same-length-3
+    returns-3)
