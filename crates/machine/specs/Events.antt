@@ -11,7 +11,6 @@ use Rattle.srp.specs.Limits.{mostBuffers, creditTag}
 use Rattle.srp.specs.Messages.{rsp, credReq, tLogout}
 use Rattle.srp.specs.Refusals.{Conduct, hangsUp, answered, stays, altersNothing, conductOf, Check, short}
 use Rattle.srp.specs.Lists.{change, without, isSome}
-use Rattle.srp.specs.Both.{of}
 use Rattle.srp.specs.Requests.{isRequest}
 use Rattle.srp.specs.Credit.{hasTag}
 use Rattle.srp.specs.Writing.{response, answer}

@@ -12,7 +12,7 @@ use lib.Seq.{drop-drop}
 use borrow.Author.Tests.{leb-true}
 use Rattle.srp.specs.Bytes.{Field, get, put, gets, kind, typeOf, inside, apartFrom}
 use Rattle.srp.specs.Messages.{tag, lun, ucsolnt, scsolnt, outFormat, inFormat, outCount, inCount, additional, taskFunction, taskTag, formatBits, requestedLength, loginCrsolnt, loginLosolnt, channelAction, tskMgmt, cmd, iLogout, credRsp}
-use Rattle.srp.specs.Lists.{All, without}
+use Rattle.srp.specs.Lists.{All}
 use Rattle.srp.specs.Refusals.{Conduct, hangsUp, answered, stays, altersNothing, conductOf, Check, firstOf}
 use Rattle.srp.specs.Descriptors.{descriptorSize, descriptorOf, fetchOf, given}
 use Rattle.srp.specs.Requests.{outAt, inAt, outDescriptor, inDescriptor, commandOf, commandChecks, taskOf, unlessBad, sized, lengthChecks, readMessage, lookDef}

@@ -10,10 +10,10 @@ use native.Mathlib.Omega.{arith}
 use Rattle.srp.specs.Lists.{find, isSome}
 use Rattle.srp.specs.Refusals.{firstOf}
 use Rattle.srp.specs.Both.{of}
-use Rattle.srp.specs.Credit.{Open, hasTag, Port}
+use Rattle.srp.specs.Credit.{Open, hasTag}
 use Rattle.srp.specs.Line.{moreIn}
 use Rattle.srp.specs.Calls.{unless, hasPieces, unfinished, nextOf, numberIn, serve, serveFirst, turnChecks}
-use Rattle.srp.specs.Ranges.{SideRanges, OpenRanges, Ranges, ShortLine, FirstHasPiece, IdleTurns}
+use Rattle.srp.specs.Ranges.{SideRanges, OpenRanges, ShortLine, FirstHasPiece, IdleTurns}
 use Rattle.srp.specs.declared.Direction.{Direction}
 use Rattle.srp.specs.declared.Piece.{Piece}
 use Rattle.srp.specs.declared.Place.{Place}

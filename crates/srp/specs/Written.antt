@@ -13,7 +13,7 @@ use Rattle.srp.specs.declared.Reply.the-variants.{Refused, Performed, Ne
 use Rattle.srp.specs.Bytes.{number, write}
 use Rattle.srp.specs.Messages
 use Rattle.srp.specs.Messages.{loginReq, tskMgmt, iLogout, credRsp}
-use Rattle.srp.specs.Rows.{tag-only, login-req, own, text, tsk-mgmt}
+use Rattle.srp.specs.Rows.{tag-only, login-req, own, tsk-mgmt}
 
 -- ── the initiator's layouts
 
