@@ -119,7 +119,7 @@ module _ {l : List ℕ} {tag i : ℕ} (F : FoundAt l tag i) (live : headOf l .li
       -- none of them: the move is named
       module _ {l′ : List ℕ} (to : ℕ) (idle : p .transfer .end ≤ p .transfer .at) (C : SlotChanged l l′ i (movedSlot d (p .transfer .highest) offset to 0))
           (a : (st : List ℕ) → openOf st (movedSlot d (p .transfer .highest) offset to 0 (getD (slots l) i noSlot)) ≡ onSide d (moving offset count) (here st)) where
-        slot : Slot
+        abbrev slot : Slot
         slot = movedSlot d (p .transfer .highest) offset to 0 (getD (slots l) i noSlot)
 
         to-slot : SlotChanged l l′ i (λ _. slot)
@@ -127,8 +127,12 @@ module _ {l : List ℕ} {tag i : ℕ} (F : FoundAt l tag i) (live : headOf l .li
 
         -- whether it has pieces
         has-pieces : (st : List ℕ) {b : Bool} → ltb offset to ≡ b → b ≡ hasPieces (moving offset count (sideAt l st i d))
-        has-pieces st e = sym e ∙ ap hasPieces (ap (λ (c : Open). of d (c .sides)) (a st)) ∙ by d
+        has-pieces st e = sym e ∙ sym (said d) ∙ ap hasPieces (ap (λ (c : Open). of d (c .sides)) (a st)) ∙ by d
           where
+            said : (d : Direction) → hasPieces (of d (openOf st (movedSlot d (p .transfer .highest) offset to 0 (getD (slots l) i noSlot)) .sides)) ≡ ltb offset to
+            said Out = refl
+            said In = refl
+
             by : (d : Direction) → hasPieces (of d (onSide d (moving offset count) (here st) .sides)) ≡ hasPieces (moving offset count (of d (here st .sides)))
             by Out = refl
             by In = refl
@@ -141,7 +145,7 @@ module _ {l : List ℕ} {tag i : ℕ} (F : FoundAt l tag i) (live : headOf l .li
 
         -- without pieces it does not join the line
         pub begun-empty : to ≤ offset → Names l l′ tag d offset count Performed
-        begun-empty e = named l′ false (le-ltb to offset e) refl refl (C .line)
+        begun-empty e = named l′ false (le-ltb offset to e) refl refl (C .line)
 
         -- with pieces it does
         pub begun : {l″ : List ℕ} → offset < to → LineChanged l′ l″ (joins true (place tag d)) → Names l l″ tag d offset count Performed
@@ -187,5 +191,5 @@ module _ {l : List ℕ} {tag i : ℕ} (F : FoundAt l tag i) (live : headOf l .li
       more-left e q = handed l′ q refl refl (rw e (H .changed .line))
 
       -- it was the last
-      pub last-handed : (l″ : List ℕ) {k : Kind} → more ≡ false → Leaves (Handed (place tag d)) l′ l″ → k ≡ kindOf d → StepsPlanned l l″ st tag d (Operation k o n)
+      pub last-handed : {l″ : List ℕ} {k : Kind} → more ≡ false → Leaves (Handed (place tag d)) l′ l″ → k ≡ kindOf d → StepsPlanned l l″ st tag d (Operation k o n)
       last-handed {l″} e L q = handed l″ q (L .slots) (L .head) (rw e (L .line st ∙ ap (without (samePlace (place tag d))) (H .changed .line)))

@@ -21,8 +21,9 @@ use Rattle.srp.specs.declared.Reply.{Reply}
 use Rattle.srp.specs.declared.Reply.the-variants.{Refused, Served, Idle}
 use Rattle.words.specs.Slots.{slots, noSlot}
 use Rattle.words.specs.Line.{count, ring, line}
-use Rattle.words.specs.Head.{headOf}
+use Rattle.words.specs.Head.{headOf, SlotChanged}
 use Rattle.words.specs.View.{view}
+use Rattle.words.specs.declared.Slot.{Slot}
 use Rattle.words.proofs.Ports.{view-live}
 use Rattle.line.specs.Changes.{noPlace, LineChanged}
 use Rattle.line.proofs.Ring.{line-long}
@@ -41,6 +42,10 @@ first-is l {n} x c ne e =
       some = some;
       first = drop-cons (line l) 0 noPlace (omega (arith, line-long l, some)) ∙ ap (λ (y : Place). y ∷ drop 1 (line l)) (getD-take (count l) (ring l) 0 noPlace some ∙ sym e);
     }
+
+-- a slot that changes leaves it
+pub first-stays : {l l′ : List ℕ} {i : ℕ} {f : Slot → Slot} {x : Place} → SlotChanged l l′ i f → FirstIs l x → 1 ≤ count l′
+first-stays {l} {l′} C I = omega (arith, ap length (C .line), line-long l, line-long l′, I .some)
 
 -- an open port's turn
 turn-open : (p : Port) → p .live ≡ true → turnDef p ≡ serveFirst p (p .line)

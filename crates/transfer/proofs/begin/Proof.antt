@@ -1,3 +1,10 @@
+-- `transfer::begin` meets its contract. Assumes nothing.
+use mathlib.Core.Path.{_∙_, ap}
+use Prim.Native.Nat.{ℕ, _+_, min}
+use lib.ListN.{getD}
+use Rattle.words.specs.Slots.{slots, noSlot}
+use Rattle.transfer.proofs.Pieces.{named-open}
+use Rattle.transfer.proofs.Handing.{too-far, under-way, begun-empty, begun}
 use borrow.Author.Needs.{needs}
 use Rattle.transfer.proofs.begin.Statement.{statement}
 use Rattle.transfer.proofs.begin.Tie as tie
@@ -30,7 +37,10 @@ same-length c = search needs
 
 -- src/lib.rt:79:9
 returns : tie.Need-returns
-returns c = ?
+returns c =
+    let a = c .before .before .before .before .before .before .before .before .args in
+    let p = c .before .before .before .before .before .before .before .before .pre in
+    too-far (p .1 .1 .0) (p .1 .0) (a .d) (a .offset) (a .count) (c .before .before .before .before .before .load-part .ensures) (p .1 .1 .1 .0) (p .1 .1 .1 .1) (rw (c .before .least .ensures) at (c .if1 .taken))
 
 -- src/lib.rt:82:9
 same-length-2 : tie.Need-same-length-2
@@ -38,7 +48,10 @@ same-length-2 c = search needs
 
 -- src/lib.rt:82:9
 returns-2 : tie.Need-returns-2
-returns-2 c = ?
+returns-2 c =
+    let a = c .before .before .before .before .before .before .before .before .before .before .args in
+    let p = c .before .before .before .before .before .before .before .before .before .before .pre in
+    under-way (p .1 .1 .0) (p .1 .0) (a .d) (a .offset) (a .count) (c .before .before .before .before .before .before .before .load-part .ensures) (p .1 .1 .1 .0) (p .1 .1 .1 .1) (rw (c .before .before .before .least .ensures) at (c .before .before .if1 .left)) (c .if2 .taken)
 
 -- src/lib.rt:84:27
 add-least : tie.Need-add-least
@@ -62,7 +75,13 @@ same-length-3 c = search needs
 
 -- src/lib.rt:87:9
 returns-3 : tie.Need-returns-3
-returns-3 c = ?
+returns-3 c =
+    let a = c .before .before .before .before .before .before .before .before .before .before .before .before .before .before .before .before .args in
+    let p = c .before .before .before .before .before .before .before .before .before .before .before .before .before .before .before .before .pre in
+    let P = c .before .before .before .before .before .before .before .before .before .before .before .before .before .load-part .ensures in
+    let to = c .before .before .before .before .before .least2 .result in
+    begun-empty (p .1 .1 .0) (p .1 .0) (a .d) (a .offset) (a .count) P (p .1 .1 .1 .0) (p .1 .1 .1 .1) (rw (c .before .before .before .before .before .before .before .before .before .least .ensures) at (c .before .before .before .before .before .before .before .before .if1 .left)) to (c .before .before .before .before .before .before .if2 .left) (c .before .before .before .set-move .ensures)
+    (λ st. named-open st (getD (slots (a .s .now)) (a .i) noSlot) (a .d) (P .whole) (a .offset) (a .count) (c .before .before .before .before .before .least2 .ensures ∙ ap (λ (k : ℕ). min (a .offset + a .count) k) (c .before .before .before .before .before .before .before .before .before .least .ensures))) (c .if3 .taken)
 
 -- src/lib.rt:93:5
 join-requires : tie.Need-join-requires
@@ -74,7 +93,13 @@ same-length-4 c = search needs
 
 -- src/lib.rt:67:1
 returns-4 : tie.Need-returns-4
-returns-4 c = ?
+returns-4 c =
+    let a = c .before .before .before .before .before .before .before .before .before .before .before .before .before .before .before .before .before .before .before .before .args in
+    let p = c .before .before .before .before .before .before .before .before .before .before .before .before .before .before .before .before .before .before .before .before .pre in
+    let P = c .before .before .before .before .before .before .before .before .before .before .before .before .before .before .before .before .before .load-part .ensures in
+    let to = c .before .before .before .before .before .before .before .before .before .least2 .result in
+    begun (p .1 .1 .0) (p .1 .0) (a .d) (a .offset) (a .count) P (p .1 .1 .1 .0) (p .1 .1 .1 .1) (rw (c .before .before .before .before .before .before .before .before .before .before .before .before .before .least .ensures) at (c .before .before .before .before .before .before .before .before .before .before .before .before .if1 .left)) to (c .before .before .before .before .before .before .before .before .before .before .if2 .left) (c .before .before .before .before .before .before .before .set-move .ensures)
+    (λ st. named-open st (getD (slots (a .s .now)) (a .i) noSlot) (a .d) (P .whole) (a .offset) (a .count) (c .before .before .before .before .before .before .before .before .before .least2 .ensures ∙ ap (λ (k : ℕ). min (a .offset + a .count) k) (c .before .before .before .before .before .before .before .before .before .before .before .before .before .least .ensures))) (c .before .before .before .before .if3 .left) (c .before .before .join .ensures)
 
 pub begin-spec : {M : Type 1} → statement M
 begin-spec =

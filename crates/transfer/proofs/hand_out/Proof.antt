@@ -1,3 +1,13 @@
+-- `transfer::hand_out` meets its contract. Assumes nothing.
+use mathlib.Core.Path.{refl}
+use Prim.Native.Nat.{_+_}
+use native.Mathlib.Omega.{arith}
+use lib.ListN.{getD}
+use Rattle.srp.specs.Calls.{nextIn}
+use Rattle.words.specs.Slots.{slots, noSlot, placeAt}
+use Rattle.words.specs.View.{sideOf}
+use Rattle.transfer.proofs.Pieces.{no-refusal, next-fits, handed-open}
+use Rattle.transfer.proofs.HandingOut.{hands-none, hands-one}
 use borrow.Author.Needs.{needs}
 use Rattle.transfer.proofs.hand_out.Statement.{statement}
 use Rattle.transfer.proofs.hand_out.Tie as tie
@@ -19,7 +29,9 @@ load-place-requires c κs = search needs
 
 -- src/lib.rt:175:11
 next-for-requires : tie.Need-next-for-requires
-next-for-requires c κs = ?
+next-for-requires c κs =
+    let p = c .before .before .before .before .before .before .before .pre in
+    (p .0, (p .1 .0, (search needs, (search needs, p .1 .1 .1))))
 
 -- src/lib.rt:177:31
 enum-told : tie.Need-enum-told
@@ -35,7 +47,11 @@ enum-known-piece c = search needs
 
 -- src/lib.rt:180:24
 add-next : tie.Need-add-next
-add-next c = ?
+add-next c =
+    let a = c .before .before .before .before .before .before .before .before .before .before .before .before .before .args in
+    let q = c .before .before .before .before .before .before .before .before .before .load-part .result in
+    let f = next-fits (a .s .now) (a .store .now) (a .terms) (placeAt (a .d) (c .before .before .before .before .before .before .before .load-place .result)) q (c .before .before .before .piece .given .0 .0) (c .before .before .before .before .before .before .before .before .before .before .before .before .before .pre .1 .1 .1) (c .before .before .before .before .before .before .before .before .before .load-part .ensures .fits) (search needs) (c .before .before .before .before .before .next-for .ensures) (c .before .before .before .piece .given .1) in
+    record { fits = f .0 }
 
 -- src/lib.rt:181:17
 larger-requires : tie.Need-larger-requires
@@ -43,11 +59,19 @@ larger-requires c κs = search needs
 
 -- src/lib.rt:182:26
 add-number : tie.Need-add-number
-add-number c = ?
+add-number c =
+    let a = c .before .before .before .before .before .before .before .before .before .before .before .before .before .before .before .args in
+    let q = c .before .before .before .before .before .before .before .before .before .before .before .load-part .result in
+    let f = next-fits (a .s .now) (a .store .now) (a .terms) (placeAt (a .d) (c .before .before .before .before .before .before .before .before .before .load-place .result)) q (c .before .before .before .before .before .piece .given .0 .0) (c .before .before .before .before .before .before .before .before .before .before .before .before .before .before .before .pre .1 .1 .1) (c .before .before .before .before .before .before .before .before .before .before .before .load-part .ensures .fits) (search needs) (c .before .before .before .before .before .before .before .next-for .ensures) (c .before .before .before .before .before .piece .given .1) in
+    record { fits = omega (arith, f) }
 
 -- src/lib.rt:183:13
 set-move-requires : tie.Need-set-move-requires
-set-move-requires c κs = ?
+set-move-requires c κs =
+    let a = c .before .before .before .before .before .before .before .before .before .before .before .before .before .before .before .before .args in
+    let q = c .before .before .before .before .before .before .before .before .before .before .before .before .load-part .result in
+    let f = next-fits (a .s .now) (a .store .now) (a .terms) (placeAt (a .d) (c .before .before .before .before .before .before .before .before .before .before .load-place .result)) q (c .before .before .before .before .before .before .piece .given .0 .0) (c .before .before .before .before .before .before .before .before .before .before .before .before .before .before .before .before .pre .1 .1 .1) (c .before .before .before .before .before .before .before .before .before .before .before .before .load-part .ensures .fits) (search needs) (c .before .before .before .before .before .before .before .before .next-for .ensures) (c .before .before .before .before .before .before .piece .given .1) in
+    (c .before .before .before .before .before .before .before .before .before .before .before .before .before .before .before .before .pre .0, (c .before .before .before .before .before .before .before .before .before .before .before .before .before .before .before .before .pre .1 .1 .0, f .1))
 
 -- src/lib.rt:166:1
 same-length : tie.Need-same-length
@@ -55,7 +79,9 @@ same-length c = search needs
 
 -- src/lib.rt:166:1
 returns : tie.Need-returns
-returns c = ?
+returns c =
+    let a = c .before .before .before .before .before .before .before .before .before .before .args in
+    absurd (no-refusal (nextIn (a .terms) (sideOf (a .store .now) (placeAt (a .d) (c .before .before .before .before .load-place .result)) (c .before .before .before .before .before .before .load-part .result))) (c .before .before .next-for .ensures) (c .enum-told .given .1))
 
 -- src/lib.rt:166:1
 same-length-2 : tie.Need-same-length-2
@@ -63,7 +89,9 @@ same-length-2 c = search needs
 
 -- src/lib.rt:166:1
 returns-2 : tie.Need-returns-2
-returns-2 c = ?
+returns-2 c =
+    let a = c .before .before .before .before .before .before .before .before .before .before .args in
+    hands-none (a .s .now) (a .store .now) (a .i) (a .terms) (a .d) (c .before .before .before .before .before .before .before .before .before .before .pre .1 .1 .1) (c .before .before .before .before .before .before .load-part .ensures) (c .before .before .before .before .load-place .ensures .0) (c .before .before .next-for .ensures) (c .enum-told2 .given .1)
 
 -- src/lib.rt:166:1
 same-length-3 : tie.Need-same-length-3
@@ -71,7 +99,12 @@ same-length-3 c = search needs
 
 -- src/lib.rt:166:1
 returns-3 : tie.Need-returns-3
-returns-3 c = ?
+returns-3 c =
+    let a = c .before .before .before .before .before .before .before .before .before .before .before .before .before .before .before .before .before .before .before .before .args in
+    let q = c .before .before .before .before .before .before .before .before .before .before .before .before .before .before .before .before .load-part .result in
+    let m = c .before .before .before .before .before .before .before .before .before .before .piece .given .0 .0 in
+    hands-one (a .s .now) (a .store .now) (a .i) (a .terms) (a .d) (c .before .before .before .before .before .before .before .before .before .before .before .before .before .before .before .before .before .before .before .before .pre .1 .1 .1) (c .before .before .before .before .before .before .before .before .before .before .before .before .before .before .before .before .load-part .ensures) (c .before .before .before .before .before .before .before .before .before .before .before .before .before .before .load-place .ensures .0) (c .before .before .before .before .before .before .before .before .before .before .before .before .next-for .ensures) (c .before .before .before .before .before .before .larger .result) (q .transfer .at + m .len) m (c .before .before .before .before .before .before .before .before .before .before .piece .given .1) refl (c .before .before .before .set-move .ensures)
+    (handed-open (a .store .now) (getD (slots (a .s .now)) (a .i) noSlot) (a .d) (c .before .before .before .before .before .before .before .before .before .before .before .before .before .before .before .before .load-part .ensures .whole) (m .len) refl (c .before .before .before .before .before .before .larger .ensures)) refl
 
 pub hand-out-spec : {M : Type 1} → statement M
 hand-out-spec =

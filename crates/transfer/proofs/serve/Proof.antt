@@ -1,3 +1,11 @@
+-- `transfer::serve` meets its contract. Assumes nothing.
+use mathlib.Core.Path.{_≡_, ap, sym, _∙_}
+use mathlib.Core.List.{List}
+use native.Mathlib.Omega.{arith}
+use lib.ListN.{length}
+use Rattle.srp.specs.declared.Place.{Place}
+use Rattle.transfer.specs.Stepping.{HandsNone, HandsOne}
+use Rattle.transfer.proofs.Turns.{first-stays, serves-none, serves-one}
 use borrow.Author.Needs.{needs}
 use Rattle.transfer.proofs.serve.Statement.{statement}
 use Rattle.transfer.proofs.serve.Tie as tie
@@ -20,7 +28,12 @@ enum-known-piece c = search needs
 
 -- src/lib.rt:249:13
 pass-requires : tie.Need-pass-requires
-pass-requires c κs = ?
+pass-requires c κs =
+    let a = c .before .before .before .before .before .before .before .before .before .before .args in
+    let p = c .before .before .before .before .before .before .before .before .before .before .pre in
+    let m = c .before .before .piece in
+    let H : HandsOne (a .s .now) (c .before .before .before .before .before .before .hand-out .last .0) (a .store .now) (a .i) (a .x .direction) (m .given .0 .0) (m .given .0 .1 .0) (m .given .0 .1 .1 .0) = rw (m .given .1) at (c .before .before .before .before .before .before .hand-out .ensures) in
+    (search needs, first-stays (H .changed) (p .1 .1 .1 .0))
 
 -- src/lib.rt:236:1
 same-length : tie.Need-same-length
@@ -28,7 +41,12 @@ same-length c = search needs
 
 -- src/lib.rt:236:1
 returns : tie.Need-returns
-returns c = ?
+returns c =
+    let a = c .before .before .before .before .before .before .before .before .args in
+    let p = c .before .before .before .before .before .before .before .before .pre in
+    let m = c .enum-told in
+    let H : HandsNone (a .s .now) (c .before .before .before .before .hand-out .last .0) (a .store .now) (a .i) (a .x .direction) (m .given .0 .0) = rw (m .given .1) at (c .before .before .before .before .hand-out .ensures) in
+    serves-none (p .1 .1 .1 .1 .0) (p .1 .1 .0) (p .1 .1 .1 .0) (a .store .now) H
 
 -- src/lib.rt:236:1
 same-length-2 : tie.Need-same-length-2
@@ -36,7 +54,12 @@ same-length-2 c = search needs
 
 -- src/lib.rt:236:1
 returns-2 : tie.Need-returns-2
-returns-2 c = ?
+returns-2 c =
+    let a = c .before .before .before .before .before .before .before .before .before .before .before .before .before .args in
+    let p = c .before .before .before .before .before .before .before .before .before .before .before .before .before .pre in
+    let m = c .before .before .before .before .before .piece in
+    let H : HandsOne (a .s .now) (c .before .before .before .before .before .before .before .before .before .hand-out .last .0) (a .store .now) (a .i) (a .x .direction) (m .given .0 .0) (m .given .0 .1 .0) (m .given .0 .1 .1 .0) = rw (m .given .1) at (c .before .before .before .before .before .before .before .before .before .hand-out .ensures) in
+    serves-one (p .1 .1 .1 .1 .0) (p .1 .1 .0) (p .1 .1 .1 .0) (a .store .now) H (c .before .before .pass .ensures)
 
 pub serve-spec : {M : Type 1} → statement M
 serve-spec =

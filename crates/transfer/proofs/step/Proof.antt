@@ -76,8 +76,8 @@ returns-4 c =
     let x = getD (slots l) (c .before .before .before .before .before .before .before .before .before .i .given .0 .0) noSlot in
     record { replies = replies-by (step-unplanned (view l st) (a .tag) (a .d) (view-live l st ∙ live) (openOf st x) (found-first F live st) (waits-as st x ∙ sym (c .before .before .before .before .before .load-waiting .ensures) ∙ c .before .before .before .before .if2 .left) (ap not (sym (c .before .load-planned .ensures)) ∙ c .if3 .taken)) (refused l st Unplanned); done = λ n e. refl }
 
-hand-out-requires : tie.Need-hand-out-requires
-hand-out-requires c κs =
+step-planned-requires : tie.Need-step-planned-requires
+step-planned-requires c κs =
     let a = c .before .before .before .before .before .before .before .before .before .before .before .before .before .before .before .before .before .before .before .before .args in
     let l = a .s .now in
     let live : headOf l .live ≡ true = head-open (c .before .before .before .before .before .before .before .before .before .before .before .before .before .before .before .before .before .get-head .ensures) (c .before .before .before .before .before .before .before .before .before .before .before .before .before .before .before .before .if1 .left) in
@@ -92,7 +92,7 @@ returns-5 c =
     let live : headOf l .live ≡ true = head-open (c .before .before .before .before .before .before .before .before .before .before .before .before .before .before .before .before .before .before .get-head .ensures) (c .before .before .before .before .before .before .before .before .before .before .before .before .before .before .before .before .before .if1 .left) in
     let F : FoundAt l (a .tag) (c .before .before .before .before .before .before .before .before .before .before .before .before .i .given .0 .0) = rw (c .before .before .before .before .before .before .before .before .before .before .before .before .i .given .1) at (c .before .before .before .before .before .before .before .before .before .before .before .before .before .before .find .ensures) in
     let x = getD (slots l) (c .before .before .before .before .before .before .before .before .before .before .before .before .i .given .0 .0) noSlot in
-    let H = c .hand-out .ensures in
+    let H = c .step-planned .ensures in
     record { replies = replies-by (step-passed (view l st) (a .tag) (a .d) (view-live l st ∙ live) (openOf st x) (found-first F live st) (waits-as st x ∙ sym (c .before .before .before .before .before .before .before .before .load-waiting .ensures) ∙ c .before .before .before .before .before .before .before .if2 .left) (ap not (sym (c .before .before .before .before .load-planned .ensures)) ∙ c .before .before .before .if3 .left)) (H .replies); done = H .done }
 
 pub step-spec : {M : Type 1} → statement M
@@ -109,5 +109,5 @@ step-spec =
     returns-3
     load-planned-requires
     returns-4
-    hand-out-requires
+    step-planned-requires
     returns-5)

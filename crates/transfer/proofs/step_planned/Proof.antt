@@ -1,3 +1,7 @@
+-- `transfer::step_planned` meets its contract. Assumes nothing.
+use mathlib.Core.Path.{_≡_}
+use Rattle.transfer.specs.Stepping.{HandsNone, HandsOne}
+use Rattle.transfer.proofs.Handing.{none-left, more-left, last-handed}
 use borrow.Author.Needs.{needs}
 use Rattle.transfer.proofs.step_planned.Statement.{statement}
 use Rattle.transfer.proofs.step_planned.Tie as tie
@@ -29,7 +33,12 @@ same-length c = search needs
 
 -- src/lib.rt:202:17
 returns : tie.Need-returns
-returns c = ?
+returns c =
+    let a = c .before .before .before .before .before .before .before .before .before .before .before .args in
+    let p = c .before .before .before .before .before .before .before .before .before .before .before .pre in
+    let m = c .before .before .before .piece in
+    let H : HandsOne (a .s .now) (c .before .before .before .before .before .before .before .hand-out .last .0) (a .store .now) (a .i) (a .d) (m .given .0 .0) (m .given .0 .1 .0) (m .given .0 .1 .1 .0) = rw (m .given .1) at (c .before .before .before .before .before .before .before .hand-out .ensures) in
+    more-left (p .1 .1 .1 .0) (p .1 .1 .0) (a .store .now) (a .d) H (c .before .if1 .taken) (c .kind-for .ensures)
 
 -- src/lib.rt:208:13
 leave-requires : tie.Need-leave-requires
@@ -45,7 +54,12 @@ same-length-2 c = search needs
 
 -- src/lib.rt:190:1
 returns-2 : tie.Need-returns-2
-returns-2 c = ?
+returns-2 c =
+    let a = c .before .before .before .before .before .before .before .before .before .args in
+    let p = c .before .before .before .before .before .before .before .before .before .pre in
+    let m = c .before .n in
+    let H : HandsNone (a .s .now) (c .before .before .before .before .before .hand-out .last .0) (a .store .now) (a .i) (a .d) (m .given .0 .0) = rw (m .given .1) at (c .before .before .before .before .before .hand-out .ensures) in
+    none-left (p .1 .1 .1 .0) (p .1 .1 .0) (a .store .now) (a .d) H
 
 -- src/lib.rt:190:1
 same-length-3 : tie.Need-same-length-3
@@ -53,7 +67,12 @@ same-length-3 c = search needs
 
 -- src/lib.rt:190:1
 returns-3 : tie.Need-returns-3
-returns-3 c = ?
+returns-3 c =
+    let a = c .before .before .before .before .before .before .before .before .before .before .before .before .before .before .before .args in
+    let p = c .before .before .before .before .before .before .before .before .before .before .before .before .before .before .before .pre in
+    let m = c .before .before .before .before .before .before .before .piece in
+    let H : HandsOne (a .s .now) (c .before .before .before .before .before .before .before .before .before .before .before .hand-out .last .0) (a .store .now) (a .i) (a .d) (m .given .0 .0) (m .given .0 .1 .0) (m .given .0 .1 .1 .0) = rw (m .given .1) at (c .before .before .before .before .before .before .before .before .before .before .before .hand-out .ensures) in
+    last-handed (p .1 .1 .1 .0) (p .1 .1 .0) (a .store .now) (a .d) H (c .before .before .before .before .before .if1 .left) (c .before .before .before .leave .ensures) (c .kind-for2 .ensures)
 
 pub step-planned-spec : {M : Type 1} → statement M
 step-planned-spec =

@@ -1,3 +1,12 @@
+-- `transfer::turn` meets its contract. Assumes nothing.
+use mathlib.Core.Path.{_≡_, ap}
+use mathlib.Core.Bool.{true}
+use Rattle.words.specs.Head.{headOf}
+use Rattle.words.specs.declared.Head.{Head}
+use Rattle.state.specs.Changes.{FoundAt}
+use Rattle.state.proofs.Opened.{head-open, port-closed}
+use Rattle.transfer.specs.Turning.{FirstIs}
+use Rattle.transfer.proofs.Turns.{first-is, turns-closed, turns-idle, turns-unknown, turns-served}
 use borrow.Author.Needs.{needs}
 use Rattle.transfer.proofs.turn.Statement.{statement}
 use Rattle.transfer.proofs.turn.Tie as tie
@@ -15,7 +24,9 @@ get-head-requires c κs = search needs
 
 -- src/lib.rt:262:9
 returns : tie.Need-returns
-returns c = ?
+returns c =
+    let a = c .before .before .before .before .args in
+    turns-closed (a .s .now) (a .store .now) (port-closed (c .before .get-head .ensures) (a .store .now) (c .if1 .taken))
 
 -- src/lib.rt:264:8
 len-requires : tie.Need-len-requires
@@ -23,7 +34,10 @@ len-requires c κs = search needs
 
 -- src/lib.rt:265:9
 returns-2 : tie.Need-returns-2
-returns-2 c = ?
+returns-2 c =
+    let a = c .before .before .before .before .before .before .before .before .args in
+    let live : headOf (a .s .now) .live ≡ true = head-open (c .before .before .before .before .before .get-head .ensures) (c .before .before .before .before .if1 .left) in
+    turns-idle (a .s .now) (a .store .now) live (c .before .len .ensures .0) (c .if2 .taken)
 
 -- src/lib.rt:267:9
 at-requires : tie.Need-at-requires
@@ -43,15 +57,27 @@ enum-told c = search needs
 
 -- src/lib.rt:269:9
 returns-3 : tie.Need-returns-3
-returns-3 c = ?
+returns-3 c =
+    let a = c .before .before .before .before .before .before .before .before .before .before .before .before .before .before .before .before .args in
+    let live : headOf (a .s .now) .live ≡ true = head-open (c .before .before .before .before .before .before .before .before .before .before .before .before .before .get-head .ensures) (c .before .before .before .before .before .before .before .before .before .before .before .before .if1 .left) in
+    let I : FirstIs (a .s .now) (c .before .before .before .before .before .at .result) = first-is (a .s .now) (c .before .before .before .before .before .at .result) (c .before .before .before .before .before .before .before .before .before .len .ensures .0) (c .before .before .before .before .before .before .before .before .if2 .left) (c .before .before .before .before .before .at .ensures) in
+    turns-unknown (a .s .now) (a .store .now) live I (rw (c .enum-told .given .1) at (c .before .before .find .ensures))
 
 -- src/lib.rt:271:5
 serve-requires : tie.Need-serve-requires
-serve-requires c κs = ?
+serve-requires c κs =
+    let a = c .before .before .before .before .before .before .before .before .before .before .before .before .before .before .before .before .before .before .before .args in
+    let live : headOf (a .s .now) .live ≡ true = head-open (c .before .before .before .before .before .before .before .before .before .before .before .before .before .before .before .before .get-head .ensures) (c .before .before .before .before .before .before .before .before .before .before .before .before .before .before .before .if1 .left) in
+    let I : FirstIs (a .s .now) (c .before .before .before .before .before .before .before .before .at .result) = first-is (a .s .now) (c .before .before .before .before .before .before .before .before .at .result) (c .before .before .before .before .before .before .before .before .before .before .before .before .len .ensures .0) (c .before .before .before .before .before .before .before .before .before .before .before .if2 .left) (c .before .before .before .before .before .before .before .before .at .ensures) in
+    let F : FoundAt (a .s .now) (c .before .before .before .before .before .before .before .before .at .result .tag) (c .before .before .before .i .given .0 .0) = rw (c .before .before .before .i .given .1) at (c .before .before .before .before .before .find .ensures) in
+    (search needs, (search needs, (live, (I, (F, ap (λ (h : Head). h .terms) (c .before .before .before .before .before .before .before .before .before .before .before .before .before .before .before .before .get-head .ensures .whole))))))
 
 -- src/lib.rt:256:1
 returns-4 : tie.Need-returns-4
-returns-4 c = ?
+returns-4 c =
+    let a = c .before .before .before .before .before .before .before .before .before .before .before .before .before .before .before .before .before .before .before .before .args in
+    let live : headOf (a .s .now) .live ≡ true = head-open (c .before .before .before .before .before .before .before .before .before .before .before .before .before .before .before .before .before .get-head .ensures) (c .before .before .before .before .before .before .before .before .before .before .before .before .before .before .before .before .if1 .left) in
+    turns-served (a .s .now) (a .store .now) live (c .serve .ensures)
 
 pub turn-spec : {M : Type 1} → statement M
 turn-spec =
