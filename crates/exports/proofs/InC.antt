@@ -17,12 +17,13 @@ use Rattle.take.specs.Taking.{Takes, Stores}
 use Rattle.tables.specs.Bringing.{Brings}
 use Rattle.tables.specs.Bringing as bringing
 use Rattle.transfer.specs.Stepping.{Names, Steps}
+use Rattle.transfer.specs.Turning.{Turns}
 use Rattle.srp.specs.Writing.{placed}
 use Rattle.page.specs.Page.{traceWrites, Traced, traceInC}
 use Rattle.page.specs.declared.Way.{Way}
 use Rattle.exports.specs.Answered.{Answered}
 use Rattle.exports.specs.Arguments.{directionIn}
-use Rattle.exports.specs.Calls.{Gives, InC, AnswersInC, StepsInC, RepliesInC, LogsInC, TakeInC, TablesInC, MoveInC, StepInC}
+use Rattle.exports.specs.Calls.{Gives, InC, AnswersInC, StepsInC, RepliesInC, LogsInC, TakeInC, TablesInC, MoveInC, StepInC, TurnInC}
 
 pub in-numbers : {n : ℕ} {w : List ℕ} {r : Answer} {o : Outcome} → r ≡ answerOf o → Gives n w r → InC n w o
 in-numbers e g = record { number = g .0 ∙ ap (λ (a : Answer). returned (a .reply)) e; words = g .1 ∙ ap (λ (a : Answer). answerWords a) e }
@@ -77,6 +78,10 @@ pub step-in-c : {l l′ st : List ℕ} {tag n : ℕ} {w : List ℕ} {d : Directi
 step-in-c {l} {l′} {st} {tag} {r = r} direction e S g =
     let D : Steps l l′ st tag (directionIn direction) r = subst (λ (x : Direction). Steps l l′ st tag x r) e S in
     record { steps = steps-in-c (D .replies) g; done = λ k q. D .done k (D .replies .reply ∙ q) }
+
+-- a turn
+pub turn-in-c : {l l′ st : List ℕ} {n : ℕ} {w : List ℕ} {r : Reply} → Turns l l′ st r → Gives n w (record { reply = r; wrote = 0 }) → TurnInC l l′ st n w
+turn-in-c T g = record { turns = steps-in-c (T .replies) g; idle = λ q. T .idle (T .replies .reply ∙ q) }
 
 -- a trace of the way w, which is that of the number
 pub trace-in-c : {w w′ : Way} (s : List ℕ) {before after : List ℕ} {r : Reply} {n : ℕ} → w ≡ w′ → Traced w s before after r → n ≡ returned r

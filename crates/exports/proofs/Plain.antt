@@ -14,11 +14,12 @@ use Rattle.srp.specs.Credit.{Port, hasTag}
 use Rattle.srp.specs.Take.{Outcome, Tables}
 use Rattle.srp.specs.Tables.{tablesChecks, tablesBy, tablesDef}
 use Rattle.srp.proofs.Refusing.{tables-as}
-use Rattle.srp.specs.Calls.{unless, nextOf, numberIn, handOut, stepChecks, stepDef, finishChecks, finishDef, grantChecks, grantDef, closeDef, countersDef, finishOutcome, grantOutcome, closeChecks, closeOutcome, countersChecks, countersOutcome}
+use Rattle.srp.specs.Calls.{unless, nextOf, numberIn, handOut, stepChecks, stepDef, serve, serveFirst, turnChecks, turnDef, finishChecks, finishDef, grantChecks, grantDef, closeDef, countersDef, finishOutcome, grantOutcome, closeChecks, closeOutcome, countersChecks, countersOutcome}
 use Rattle.srp.specs.Answers.{valuesOf, answerOf}
 use Rattle.srp.specs.declared.Refusal.{Refusal}
 use Rattle.srp.specs.declared.Direction.{Direction}
 use Rattle.srp.specs.declared.Piece.{Piece}
+use Rattle.srp.specs.declared.Place.{Place}
 use Rattle.srp.specs.declared.Answer.{Answer}
 use Rattle.srp.specs.declared.Reply.{Reply}
 use Rattle.srp.specs.declared.Reply.the-variants.{Refused, Performed, Done}
@@ -53,7 +54,7 @@ close-plain p room reason =
 
 -- the replies but one, by their place in the enum
 abbrev pub but : ℕ → List ℕ
-but k = without (eqb k) (0 ∷ 1 ∷ 2 ∷ 3 ∷ 4 ∷ 5 ∷ 6 ∷ 7 ∷ 8 ∷ 9 ∷ 10 ∷ 11 ∷ [])
+but k = without (eqb k) (0 ∷ 1 ∷ 2 ∷ 3 ∷ 4 ∷ 5 ∷ 6 ∷ 7 ∷ 8 ∷ 9 ∷ 10 ∷ 11 ∷ 12 ∷ 13 ∷ [])
 
 -- a step that gives no operation says done, or refuses
 pub step-ends : (p : Port) (tag : ℕ) (d : Direction) (r : Reply) → r ≡ stepDef p tag d .reply → OneOf (but 6) (tagOf the-type r) → Ends r
@@ -78,12 +79,28 @@ end-wordless r e k =
     (λ (f : (f : Refusal) × (r ≡ Refused f)). subst Wordless (sym (f .1)) refl)
     e
 
--- counters that are refused
-pub counters-wordless : (p : Port) (r : Reply) → r ≡ countersDef p .reply → OneOf (but 10) (tagOf the-type r) → Wordless r
-counters-wordless p r e k =
-    subst Wordless (sym e) (go (firstOf (countersChecks p)) (subst (λ (x : Reply). OneOf (but 10) (tagOf the-type x)) e k))
+-- a turn that serves no move
+pub turn-wordless : (p : Port) (r : Reply) → r ≡ turnDef p .reply → OneOf (but 8) (tagOf the-type r) → Wordless r
+turn-wordless p r e k =
+    subst Wordless (sym e) (go (firstOf (turnChecks p)) (p .line) (subst (λ (x : Reply). OneOf (but 8) (tagOf the-type x)) e k))
   where
-    go : (x : Option Refusal) → OneOf (but 10) (tagOf the-type (unless x p (countersOutcome p) .reply))
+    piece : (x : Place) (others : List Place) (n : ℕ) (y : Option Piece) → OneOf (but 8) (tagOf the-type (serve p x others n y .reply)) → Wordless (serve p x others n y .reply)
+    piece x others n none k = refl
+    piece x others n (some o) k = absurd (miss (but 8) 8 tt k)
+
+    go : (x : Option Refusal) (line : List Place) → OneOf (but 8) (tagOf the-type (unless x p (serveFirst p line) .reply)) → Wordless (unless x p (serveFirst p line) .reply)
+    go (some f) line k = refl
+    go none [] k = refl
+    go none (x ∷ others) k =
+        let c = find (hasTag (x .tag)) (p .held) in
+        piece x others (numberIn (x .direction) c) (nextOf (p .terms) (x .direction) c) k
+
+-- counters that are refused
+pub counters-wordless : (p : Port) (r : Reply) → r ≡ countersDef p .reply → OneOf (but 12) (tagOf the-type r) → Wordless r
+counters-wordless p r e k =
+    subst Wordless (sym e) (go (firstOf (countersChecks p)) (subst (λ (x : Reply). OneOf (but 12) (tagOf the-type x)) e k))
+  where
+    go : (x : Option Refusal) → OneOf (but 12) (tagOf the-type (unless x p (countersOutcome p) .reply))
         → Wordless (unless x p (countersOutcome p) .reply)
     go (some f) k = refl
-    go none k = absurd (miss (but 10) 10 tt k)
+    go none k = absurd (miss (but 12) 12 tt k)

@@ -10,12 +10,12 @@ use Rattle.srp.specs.Lists.{over}
 use Rattle.srp.specs.Credit.{Port}
 use Rattle.srp.specs.Take.{Outcome, Tables, takeDef}
 use Rattle.srp.specs.Tables.{tablesDef}
-use Rattle.srp.specs.Calls.{planDef, moveDef, stepDef, finishDef, addDef, withdrawDef, grantDef, closeDef, countersDef, listDef, recordsFor}
+use Rattle.srp.specs.Calls.{planDef, moveDef, stepDef, turnDef, finishDef, addDef, withdrawDef, grantDef, closeDef, countersDef, listDef, recordsFor}
 use Rattle.srp.specs.Login.{loginDef}
 use Rattle.srp.specs.Answers.{returned, valuesOf, answerOf}
 use Rattle.srp.specs.declared.Refusal.{Refusal}
 use Rattle.srp.specs.declared.Reply.{Reply}
-use Rattle.srp.specs.declared.Reply.the-variants.{Refused, Done}
+use Rattle.srp.specs.declared.Reply.the-variants.{Refused, Done, Idle}
 use Rattle.srp.specs.declared.Answer.{Answer}
 use Rattle.answer.specs.Words.{leading, answerWords}
 use Rattle.words.specs.View.{view}
@@ -51,7 +51,7 @@ Wordless r = replicate 8 0 ≡ answerWords (record { reply = r; wrote = 0 })
 abbrev pub Ends : Reply → Type 0
 Ends r = ((n : ℕ) × (r ≡ Done n)) ⊎ ((f : Refusal) × (r ≡ Refused f))
 
--- step
+-- step, turn
 pub record StepsInC (l st l′ : List ℕ) (n : ℕ) (w : List ℕ) (o : Outcome) : Type 0 where
   pub numbers : InC n w o
   pub call : RepliesAs l st l′ st (o .reply) o
@@ -94,6 +94,10 @@ MoveInC l l′ tag direction offset count n =
 pub record StepInC (l l′ st : List ℕ) (tag direction n : ℕ) (w : List ℕ) : Type 0 where
   pub steps : StepsInC l st l′ n w (stepDef (view l st) tag (directionIn direction))
   pub done : (k : ℕ) → stepDef (view l st) tag (directionIn direction) .reply ≡ Done k → l′ ≡ l
+
+pub record TurnInC (l l′ st : List ℕ) (n : ℕ) (w : List ℕ) : Type 0 where
+  pub turns : StepsInC l st l′ n w (turnDef (view l st))
+  pub idle : turnDef (view l st) .reply ≡ Idle → l′ ≡ l
 
 abbrev pub FinishInC : (l b l′ b′ : List ℕ) (tag status : ℕ) (sense : List ℕ) (n : ℕ) (w : List ℕ) → Type 0
 FinishInC l b l′ b′ tag status sense n w = (st : List ℕ) → AnswersInC l st b l′ st b′ n w (finishDef (view l st) (length b) tag status sense)

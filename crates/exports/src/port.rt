@@ -15,7 +15,7 @@ ghost use Rattle.srp.specs.Limits.{mostBuffers};
 ghost use Rattle.srp.specs.Lists.{over};
 ghost use Rattle.words.specs.Sizes.{portWords};
 ghost use Rattle.report.specs.Reports.{slotRecords};
-ghost use Rattle.exports.specs.Calls.{Gives, Plain, Wordless, Ends, LoginInC, PlanInC, MoveInC, StepInC, FinishInC, AddInC, WithdrawInC, GrantInC, CloseInC, CountersInC, ListInC};
+ghost use Rattle.exports.specs.Calls.{Gives, Plain, Wordless, Ends, LoginInC, PlanInC, MoveInC, StepInC, TurnInC, FinishInC, AddInC, WithdrawInC, GrantInC, CloseInC, CountersInC, ListInC};
 ghost use Rattle.exports.specs.Arguments.{recordSize, recordWords, allWords, settingsIn, directionIn};
 
 // Words of a record.
@@ -149,6 +149,22 @@ pub extern "C" fn srp_target_step(
         return give_end(answer, r);
     };
     *answer = answer::operation_words(k, p, n);
+    0
+}
+
+#[no_mangle]
+pub extern "C" fn srp_target_turn(
+    port: &mut [u64; PORT],
+    store: &[u8; STORE],
+    answer: &mut [u64; 8],
+) -> u32
+    ensures { λ n. ⌜ TurnInC (now (port .entry)) (now (port .exit)) (now (store .entry)) n (now (answer .exit)) ⌝ }
+{
+    let r = transfer::turn(port, store);
+    let Reply::Served(tag, d, p, n) = r else {
+        return give_nothing(answer, r);
+    };
+    *answer = answer::served_words(tag, d, p, n);
     0
 }
 
