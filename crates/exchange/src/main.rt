@@ -1,10 +1,11 @@
 // exchange: an initiator and the port, through two queues. A login; commands with data both ways, direct and indirect; a disk's middle sent before its
 // start, a last byte before the others; the listing; an abort; the listing oldest first, with a tag used again; commands that wait for their tables, of
-// which one's are bad and one is aborted; buffers added, granted and withdrawn; a logout; a second login with address boundaries, which the owner ends.
-// Each message, each call and each RDMA operation is a line.
+// which one's are bad and one is aborted; three moves by turns; buffers added, granted and withdrawn; a logout; a second login with address boundaries,
+// which the owner ends. Each message, each call and each RDMA operation is a line.
 mod boundary;
 mod moves;
 mod order;
+mod turns;
 mod waiting;
 
 use host::MESSAGE;
@@ -51,10 +52,11 @@ fn main() {
     let i = order::oldest_first(&mut port, &mut store, &mut to_port, &mut to_initiator, h);
     let j = waiting::side_by_side(&mut port, &mut store, &mut to_port, &mut to_initiator, i);
     let k = waiting::ended_early(&mut port, &mut store, &mut to_port, &mut to_initiator, j);
-    let l = change_buffers(&mut port, &mut store, &mut to_port, &mut to_initiator, k);
-    log_out(&mut port, &mut store, &mut to_port, &mut to_initiator, l);
-    let m = boundary::data_in(&mut port, &mut store, &mut to_port, &mut to_initiator);
-    close(&mut port, &mut to_initiator, m);
+    let l = turns::three_moves(&mut port, &mut store, &mut to_port, &mut to_initiator, k);
+    let m = change_buffers(&mut port, &mut store, &mut to_port, &mut to_initiator, l);
+    log_out(&mut port, &mut store, &mut to_port, &mut to_initiator, m);
+    let n = boundary::data_in(&mut port, &mut store, &mut to_port, &mut to_initiator);
+    close(&mut port, &mut to_initiator, n);
 }
 
 // The login makes the port, and gives the initiator its limit.

@@ -13,6 +13,7 @@ use libc::STDOUT_FILENO;
 use page::LINE;
 use page::Way;
 use srp::Counters;
+use srp::Direction;
 use srp::Fetch;
 use srp::Kind;
 use srp::Piece;
@@ -192,6 +193,22 @@ pub fn stepped(r: Reply) -> bool {
             refusal(b"   ", r);
             false
         }
+    }
+}
+
+// What a turn hands out, with its command's tag, or that no move has pieces.
+pub fn turned(r: Reply) {
+    match r {
+        Reply::Served(tag, d, p, n) => {
+            hexadecimal(b"   turn: tag ", tag, 4);
+            end();
+            match d {
+                Direction::Out => operation(Kind::Read, p, n),
+                Direction::In => operation(Kind::Write, p, n),
+            }
+        }
+        Reply::Idle => text(b"   turn: idle\n"),
+        _ => refusal(b"   ", r),
     }
 }
 

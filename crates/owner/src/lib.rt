@@ -24,6 +24,7 @@ pub use requests::plan;
 pub use requests::step;
 pub use requests::take;
 pub use requests::take_fetching;
+pub use requests::turn;
 pub use session::close;
 pub use session::log_in;
 pub use session::submit_login;

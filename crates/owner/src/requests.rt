@@ -133,6 +133,11 @@ pub fn step(port: &mut [u64; PORT], store: &[u8; STORE], tag: u64, d: Direction)
     show::stepped(transfer::step(port, store, tag, d));
 }
 
+// One piece of the first move in line, or that none has pieces.
+pub fn turn(port: &mut [u64; PORT], store: &[u8; STORE]) {
+    show::turned(transfer::turn(port, store));
+}
+
 // Every piece of the current move.
 fn step_all(port: &mut [u64; PORT], store: &[u8; STORE], tag: u64, d: Direction) {
     let mut k: usize = 0;
