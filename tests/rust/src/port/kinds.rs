@@ -9,7 +9,7 @@ use super::call::{Call, Outcome};
 use crate::model::{number, Channel, Port};
 
 /// The outcomes that calls have, one a call: a refusal, or what the call gave.
-pub const OUTCOMES: [&str; 82] = [
+pub const OUTCOMES: [&str; 86] = [
     "login: accepted",
     "login: rejected 10000",
     "login: rejected 10002",
@@ -65,6 +65,10 @@ pub const OUTCOMES: [&str; 82] = [
     "step: refused 24",
     "step: refused 29",
     "step: refused 33",
+    "turn: RDMA Read",
+    "turn: RDMA Write",
+    "turn: idle",
+    "turn: refused 21",
     "finish: done",
     "finish: refused 1",
     "finish: refused 11",
@@ -107,8 +111,9 @@ pub fn outcome(call: &Call, outcome: &Outcome) -> String {
         (Call::Take { .. }, [_, 2, ..]) => format!("take: task, code {:x}", outcome.buf[39]),
         (Call::Take { .. }, [_, 3, ..]) => "take: credit response".into(),
         (Call::Take { .. }, [_, 4, ..]) => "take: logout".into(),
-        (Call::Step { .. }, [1, 1, ..]) => "step: RDMA Read".into(),
-        (Call::Step { .. }, [1, 2, ..]) => "step: RDMA Write".into(),
+        (Call::Step { .. } | Call::Turn, [1, 1, ..]) => format!("{name}: RDMA Read"),
+        (Call::Step { .. } | Call::Turn, [1, 2, ..]) => format!("{name}: RDMA Write"),
+        (Call::Turn, _) => "turn: idle".into(),
         _ => format!("{name}: done"),
     }
 }

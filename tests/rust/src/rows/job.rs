@@ -3,7 +3,7 @@
 
 use super::long;
 
-/// The same row without what jobs up to 7 do not know: the channel, which is 0, a second lent buffer and the messages
+/// The same row without what jobs up to 8 do not know: the channel, which is 0, a second lent buffer and the messages
 /// in it. The number of a step stays behind its other words. The count of a listing is decimal there, and hexadecimal
 /// in base.rows.
 pub fn in_base_words(words: &[&str]) -> String {
