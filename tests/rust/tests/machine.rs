@@ -165,7 +165,8 @@ fn thirty_two_moves_in_line() {
     }
     machine.events.print_as("machine, 32 moves in line", "events");
     machine.states.print_as("machine, 32 moves in line", "states");
-    machine.events.assert_at_least(1_000, &["turn: RDMA Read", "turn: RDMA Write", "step: RDMA Read", "step: RDMA Write"]);
+    let pieces = ["turn: RDMA Read", "turn: RDMA Write", "step: RDMA Read", "step: RDMA Write"];
+    machine.events.assert_at_least(1_000, &pieces);
     machine.states.assert_at_least(100, &["served before its place", "last by a step, between others"]);
     assert_eq!(machine.longest_wait, 32, "turns");
 }

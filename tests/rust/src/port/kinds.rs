@@ -4,6 +4,7 @@ pub mod logins;
 mod messages;
 pub mod moves;
 pub mod tables;
+pub mod turns;
 
 use super::call::{Call, Outcome};
 use crate::model::{number, Channel, Port};
@@ -119,7 +120,8 @@ pub fn outcome(call: &Call, outcome: &Outcome) -> String {
 }
 
 /// Further kinds, several a call: what a command was like, why it was refused, what a message says. `moves` has those
-/// of move and step, `logins` those of a login's boundary, `tables` those of tables and of bad fields.
+/// of move and step, `logins` those of a login's boundary, `tables` those of tables and of bad fields, `turns` those of
+/// the line.
 pub const FEATURES: [&str; 62] = [
     "SRP_CRED_REQ, delta above 1",
     "SRP_CRED_REQ, delta 1",
@@ -197,6 +199,7 @@ pub fn features(call: &Call, outcome: &Outcome, before: &Port) -> Vec<String> {
         }
     }
     found.extend(before.channel.iter().flat_map(|channel| tables::features(call, outcome, channel)));
+    found.extend(before.channel.iter().flat_map(|channel| turns::features(call, outcome, channel)));
     if let (Call::Move { tag, .. } | Call::Step { tag, .. }, Some(channel)) = (call, &before.channel) {
         let command = channel.place_of(*tag).map(|place| &channel.commands[place]);
         let limits = channel.agreement.limits;

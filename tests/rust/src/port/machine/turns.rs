@@ -133,8 +133,10 @@ impl<T: Target> Machine<T> {
 
     /// A command with a segment each way is sent, taken and planned, and all of it named.
     fn open_with(&mut self, tag: u64, lengths: [u32; 2]) {
-        let segment = |way: usize| MemoryDescriptor { address: (tag + 1) << 40, handle: way as u32, length: lengths[way] };
-        let direct = |way: usize| Data { descriptor: Descriptor::Direct(segment(way)), table: Vec::new() };
+        let direct = |way: usize| {
+            let segment = MemoryDescriptor { address: (tag + 1) << 40, handle: way as u32, length: lengths[way] };
+            Data { descriptor: Descriptor::Direct(segment), table: Vec::new() }
+        };
         let msg = generate::command(&mut self.random, tag, tag % 3, 0, &[direct(0), direct(1)]);
         self.ends.to_port.push_back(Sent { msg, tables: Default::default() });
         self.ends.limit -= 1;
