@@ -38,6 +38,20 @@ static void example(void)
     done("9 in", 9, IN_WAY, 2);
 }
 
+/* The last piece by a step takes its own direction out, and not the command's other one. */
+static void last_by_a_step(void)
+{
+    three_moves();
+    piece("5 in, its last by a step", 5, IN_WAY, 9, 0x5000, 512, 0, 1);
+    done("5 in", 5, IN_WAY, 1);
+    served("5 out", 5, OUT_WAY, 7, 0x1000, 512, 0, 1);
+    served("9 in", 9, IN_WAY, 9, 0x5000, 512, 0, 1);
+    served("5 out", 5, OUT_WAY, 7, 0x1200, 512, 512, 2);
+    piece("9 in, its last by a step", 9, IN_WAY, 9, 0x5200, 188, 512, 2);
+    served("5 out, alone", 5, OUT_WAY, 7, 0x1400, 276, 1024, 3);
+    idle("nothing left");
+}
+
 /* A move joins at the end, also one that was just done; one without bytes joins none, nor one that is refused. */
 static void joining(void)
 {
@@ -155,6 +169,7 @@ static void whole_line(void)
 void turn_cases(void)
 {
     example();
+    last_by_a_step();
     joining();
     finished_in_line();
     aborted_in_line();
