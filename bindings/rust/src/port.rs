@@ -270,8 +270,8 @@ impl Port {
     }
 
     /// Lists the open commands, each once, as they were taken, oldest first, with h of each direction; those too that
-    /// wait for their tables. A tag used again counts as taken anew. Returned is the part of `records` that was written;
-    /// the others are kept.
+    /// wait for their tables. A tag used again counts as taken anew. Returned is the part of `records` that was
+    /// written; the others are kept.
     ///
     /// # Errors
     /// Refused: 21 closed; 11 `records` under [`MOST_BUFFERS`](crate::MOST_BUFFERS).
