@@ -102,8 +102,8 @@ impl Generator {
             9 => {
                 Call::Move { tag: random.of(&TAGS), direction: random.any_size(), offset: 0, count: random.any_size() }
             }
-            11 => Call::Turn,
             10 => Call::Tables { tag: random.of(&TAGS), tables: Default::default(), buf: buffer(random) },
+            11 => Call::Turn,
             _ => Call::List { records: record_list(random) },
         }
     }

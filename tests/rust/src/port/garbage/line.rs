@@ -98,9 +98,9 @@ fn moved(mut stood: Vec<Place>, after: &Memory, place: Place) -> Changed {
         return (stood, Vec::new());
     }
     if stood.len() == MOST_IN_LINE {
-        return (stood, vec![KINDS[5]]);
+        return (stood, vec!["line full: none joins"]);
     }
-    let kind = KINDS[usize::from(stood.contains(&place))];
+    let kind = if stood.contains(&place) { "joined, where it stands already" } else { "joined" };
     stood.push(place);
     (stood, vec![kind])
 }
@@ -113,25 +113,28 @@ fn stepped(mut stood: Vec<Place>, after: &Memory, place: Place) -> Changed {
     stood.retain(|other| *other != place);
     let kind = match count - stood.len() {
         0 => None,
-        1 => Some(KINDS[2]),
-        _ => Some(KINDS[3]),
+        1 => Some("left by a step"),
+        _ => Some("left by a step, twice in line"),
     };
     (stood, kind.into_iter().collect())
 }
 
 fn turned(mut stood: Vec<Place>, served: bool, [before, after]: [&Memory; 2]) -> Changed {
     if !served {
-        let kind = stood.first().map(|first| KINDS[if slot_of(before, first.tag).is_none() { 6 } else { 7 }]);
+        let kind = stood.first().map(|first| match slot_of(before, first.tag) {
+            None => "no command has the tag: idle",
+            Some(_) => "no pieces: idle",
+        });
         return (stood, kind.into_iter().collect());
     }
     let first = stood.remove(0);
     let mut kinds = Vec::new();
     let slot = slot_of(before, first.tag).expect("a command that was served");
     let [planned, waits] = [PLANNED, WAITS].map(|at| before.words[word_of(slot, at)] % 2 == 1);
-    kinds.extend((!planned || waits).then_some(KINDS[8]));
-    kinds.extend((before.words[FIRST] > 31).then_some(KINDS[9]));
-    kinds.extend((before.words[COUNT] > 32).then_some(KINDS[10]));
-    kinds.extend(stood.contains(&first).then_some(KINDS[11]));
+    kinds.extend((!planned || waits).then_some("served unplanned or waiting"));
+    kinds.extend((before.words[FIRST] > 31).then_some("served, first above 31"));
+    kinds.extend((before.words[COUNT] > 32).then_some("served, more than 32 counted"));
+    kinds.extend(stood.contains(&first).then_some("served, twice in line"));
     if pieces_left(after, first) {
         stood.push(first);
     }
@@ -142,6 +145,6 @@ fn turned(mut stood: Vec<Place>, served: bool, [before, after]: [&Memory; 2]) ->
 fn ended(mut stood: Vec<Place>, before: &Memory, ends: impl Fn(usize) -> bool) -> Changed {
     let count = stood.len();
     stood.retain(|place| !slot_of(before, place.tag).is_some_and(&ends));
-    let kind = (stood.len() < count).then_some(KINDS[4]);
+    let kind = (stood.len() < count).then_some("left by an ending");
     (stood, kind.into_iter().collect())
 }

@@ -43,10 +43,12 @@ pub fn features(call: &Call, outcome: &Outcome, channel: &Channel) -> Vec<String
         }
         Call::Finish { tag, .. } if outcome.returned == 0 => {
             let [between, both_ways] = leave(channel, |command| command.request.tag == tag);
-            vec![(between, FEATURES[5]), (both_ways, FEATURES[6])]
+            vec![(between, "line, finished from between others"), (both_ways, "line, finished moves both ways")]
         }
         Call::Take { ref msg, .. } if outcome.returned == 0 && outcome.answer[1] == 2 => of_task(msg, channel),
-        Call::Tables { .. } => vec![(outcome.returned == 10 && !channel.line.is_empty(), FEATURES[13])],
+        Call::Tables { .. } => {
+            vec![(outcome.returned == 10 && !channel.line.is_empty(), "line, tables draw 10 beside it")]
+        }
         _ => Vec::new(),
     };
     kinds.into_iter().filter(|(fits, _)| *fits).map(|(_, kind)| kind.into()).collect()
@@ -67,16 +69,16 @@ fn of_turn(answer: &[u64; 8], channel: &Channel) -> Kinds {
     let (out, alone) = (operation == 1, channel.line.len() == 1);
     let last = is_last(answer, channel, Place::new(tag, u32::from(!out)));
     let other = channel.line.contains(&Place::new(tag, out.into()));
-    let mut kinds = vec![(piece == 0 && !channel.commands.is_empty(), FEATURES[15])];
+    let mut kinds = vec![(piece == 0 && !channel.commands.is_empty(), "turn, idle, some command open")];
     if piece == 1 {
         kinds.extend([
-            (channel.line.len() >= 8, FEATURES[14]),
-            (!out && alone && last, FEATURES[16]),
-            (!out && !alone, FEATURES[17]),
-            (out && alone && !last, FEATURES[18]),
-            (out && !alone, FEATURES[19]),
-            (other, FEATURES[20]),
-            (last && !alone, FEATURES[21]),
+            (channel.line.len() >= 8, "turn, eight moves in line"),
+            (!out && alone && last, "turn, in alone, its last"),
+            (!out && !alone, "turn, in before others"),
+            (out && alone && !last, "turn, out alone, put back"),
+            (out && !alone, "turn, out before others"),
+            (other, "turn, the command's other way in line too"),
+            (last && !alone, "turn, the last piece, others behind"),
         ]);
     }
     kinds
@@ -89,10 +91,10 @@ fn of_move(call: &Call, returned: u32, channel: &Channel, place: Place) -> Kinds
     let some = count > 0 && transfer(channel, place).is_some_and(|transfer| u64::from(offset) < transfer.due());
     let empty = channel.line.is_empty();
     vec![
-        (returned == 0 && some && empty, FEATURES[0]),
-        (returned == 0 && some && !empty, FEATURES[1]),
-        (returned == 0 && !some, FEATURES[2]),
-        (returned != 0 && !empty, FEATURES[7]),
+        (returned == 0 && some && empty, "line, a move joins an empty one"),
+        (returned == 0 && some && !empty, "line, a move joins behind others"),
+        (returned == 0 && !some, "line, a move without bytes joins none"),
+        (returned != 0 && !empty, "line, refused move changes none"),
     ]
 }
 
@@ -101,11 +103,11 @@ fn of_step(answer: &[u64; 8], channel: &Channel, place: Place) -> Kinds {
     let before = channel.line.iter().position(|other| *other == place);
     let last = answer[0] == 1 && is_last(answer, channel, place);
     vec![
-        (answer[0] == 0 && !channel.line.is_empty(), FEATURES[8]),
-        (answer[0] == 1 && !last && behind > Some(0), FEATURES[9]),
-        (last && before == Some(0) && behind > Some(0), FEATURES[10]),
-        (last && before > Some(0) && behind == Some(0), FEATURES[11]),
-        (last && before > Some(0) && behind > Some(0), FEATURES[12]),
+        (answer[0] == 0 && !channel.line.is_empty(), "line, step is done and changes none"),
+        (answer[0] == 1 && !last && behind > Some(0), "line, step keeps a place before others"),
+        (last && before == Some(0) && behind > Some(0), "line, step takes the first out"),
+        (last && before > Some(0) && behind == Some(0), "line, step takes the last out"),
+        (last && before > Some(0) && behind > Some(0), "line, step takes one out between others"),
     ]
 }
 
@@ -129,5 +131,5 @@ fn of_task(msg: &[u8], channel: &Channel) -> Kinds {
         2 | 4 | 8 => command.request.lun == lun,
         _ => false,
     });
-    vec![(between, FEATURES[3]), (both_ways, FEATURES[4])]
+    vec![(between, "line, aborted from between others"), (both_ways, "line, aborted moves both ways")]
 }
