@@ -46,10 +46,14 @@
  *     order in which the device has them, srp_target_move, and srp_target_step in that direction until done, each piece
  *     posted as the RDMA operation that the answer names; then srp_target_finish. One move of offset 0 and count R is
  *     all of a direction.
+ *   - An owner with moves of several commands may call srp_target_turn instead of srp_target_step, or now and then: it
+ *     picks the next piece among all of them, each in its turn, and says whose it is. A move is done with the piece
+ *     that ends at the move's end.
  *   - Each piece needs a slot of the adapter until its operation is complete; the slots are common to the moves of all
  *     commands and to the fetches of tables. A move of k bytes has at most 32 + k / M pieces, rounded down, with a
  *     boundary Q another 32 + k / Q at most, and as few as can be: srp_target_step says more. An owner with fewer slots
- *     steps on when slots are free again. Bytes that are named in two moves instead of one can cost one piece more.
+ *     asks for the next piece when slots are free again. Bytes that are named in two moves instead of one can cost one
+ *     piece more.
  *   - The port does not know EMDP (mode page 02h, byte 12 bit 7). While it is 0, each move in a direction starts at or
  *     behind the end of the one before it.
  *   - Data-out: RDMA Reads complete in any order. Wait for each Read's completion before its data are used. The port
@@ -85,9 +89,10 @@ extern "C" {
  * listed oldest first, where version 4 promises no order; their libraries are the same. Version 6 has address
  * boundaries: srp_target_login and srp_cut take one argument more, and where it is 0 all else is as in version 5.
  * Version 7 has commands that wait for their tables: srp_target_take is lent none and has a word more in its answer,
- * srp_target_tables is new, and draws the refusals 9 and 10 of such commands; all else is as in version 6. But for
+ * srp_target_tables is new, and draws the refusals 9 and 10 of such commands; all else is as in version 6. Version 8
+ * has turns: srp_target_turn is new, and a port has 594 words instead of 528; all else is as in version 7. But for
  * versions 4 and 5, the words that a library of one version made are not promised to be a port of another. */
-#define SRP_TARGET_VERSION 7
+#define SRP_TARGET_VERSION 8
 
 /* Refusals: from the message or the caller. */
 #define SRP_REFUSED_SHORT_BUFFER 1  /* lent buffer too short */
@@ -118,7 +123,7 @@ extern "C" {
 #define SRP_REFUSED_WAITING         33 /* the command waits for its tables; or tables, and it does not */
 
 /* Sizes: of a port, of the answers, of lent buffers and lists. */
-#define SRP_PORT_WORDS    528   /* words of a port */
+#define SRP_PORT_WORDS    594   /* words of a port */
 #define SRP_STORE_BYTES   16384 /* bytes of a port's store */
 #define SRP_ANSWER_WORDS  8     /* words of an answer of the calls on a port */
 #define SRP_ANSWER_BYTES  32    /* bytes of an answer of srp_look and srp_cut, and their least buf_len */
@@ -197,9 +202,9 @@ uint64_t srp_target_words(void);
  *                  indirect   0 where format 2 is not supported, else it is
  *                  solicited  0 where the adapter has no solicited events; else SRP_LOGIN_RSP has SOLNTSUP (byte 26
  *                             bit 4). Nothing else depends on it: SOLNT bits are written either way
- *   boundary       Q, for the whole channel: by its addresses no RDMA operation that srp_target_step names crosses a
- *                  multiple of it. A power of two from 512 to 2^32, where the adapter fails an operation that crosses
- *                  one; 0 for none
+ *   boundary       Q, for the whole channel: by its addresses no RDMA operation that srp_target_step or
+ *                  srp_target_turn names crosses a multiple of it. A power of two from 512 to 2^32, where the adapter
+ *                  fails an operation that crosses one; 0 for none
  *   own            the target port identifier
  *   msg, msg_len   the message, an SRP_LOGIN_REQ of 64 bytes. Over RDMA/CM Linux sends 56 of them, in another order:
  *                  the adapter restores the 64
@@ -273,8 +278,9 @@ uint32_t srp_target_login(uint64_t *port, const uint32_t settings[5], uint64_t b
  *
  * Task request, by its function (byte 30): 01h aborts the open command with the task tag (bytes 32-39) and the LUN;
  * 02h, 04h and 08h abort all open commands of the LUN. They answer RSP_CODE 00h, also where nothing was open; 40h
- * answers 04h, any other value 02h. An aborted command gets no response, and its tag is not open any more; which ones
- * are left, srp_target_list shows. A - 1; D + 1 for the task request and for each command aborted; then the delta.
+ * answers 04h, any other value 02h. An aborted command gets no response, its tag is not open any more, and its moves
+ * leave the line of srp_target_turn; which commands are left, srp_target_list shows. A - 1; D + 1 for the task request
+ * and for each command aborted; then the delta.
  *
  * Refusal 10: the answer has RSP_CODE 02h. A - 1, D + 1, then the delta. The command was never open.
  *
@@ -365,8 +371,8 @@ uint32_t srp_target_tables(uint64_t *port, uint8_t *store, uint64_t tag, const u
 uint32_t srp_target_plan(uint64_t *port, uint64_t tag, uint32_t r_out, uint32_t r_in);
 
 /*
- * Move: names the bytes of an open command in a direction that srp_target_step hands out next, from offset up to the
- * smaller of offset + count and min(R, B). The sum does not wrap at 2^32.
+ * Move: names the bytes of an open command in a direction that srp_target_step and srp_target_turn hand out next, from
+ * offset up to the smaller of offset + count and min(R, B). The sum does not wrap at 2^32.
  *
  *   port        the port
  *   tag         the command's tag
@@ -382,15 +388,16 @@ uint32_t srp_target_plan(uint64_t *port, uint64_t tag, uint32_t r_out, uint32_t 
  *   31  offset above min(R, B)
  *   32  the earlier move of this direction still has pieces
  *
- * After 0 it is the direction's current move, and the number in step's answers starts at 0. Moves may come in any
- * order, overlap, and be repeated; h does not change until a piece is handed out. A count of 0, or an offset of
- * min(R, B), names no bytes and is lawful: step says done.
+ * After 0 it is the direction's current move, and the number in the answers of step and turn starts at 0. It joins the
+ * line of srp_target_turn at its end. Moves may come in any order, overlap, and be repeated; h does not change until a
+ * piece is handed out. A count of 0, or an offset of min(R, B), names no bytes and is lawful: step says done, and the
+ * move joins no line.
  */
 uint32_t srp_target_move(uint64_t *port, uint64_t tag, uint32_t direction, uint32_t offset, uint32_t count);
 
 /*
  * Step: the next RDMA operation of an open command's current move in a direction, or done. Moves and steps of other
- * commands, and of the other direction, may stand between.
+ * commands, and of the other direction, may stand between, and turns.
  *
  *   port, store   the port; the store is only read
  *   tag           the command's tag
@@ -409,11 +416,11 @@ uint32_t srp_target_move(uint64_t *port, uint64_t tag, uint32_t direction, uint3
  * is not 0, the next multiple of Q above its first address; its data stand at the offset in the command's data. So by
  * its addresses no piece crosses a multiple of Q, and one that starts at a multiple may be Q long; 2^64 counts as one.
  * Done comes when the current move has no bytes left, or none was named, and then each time again until another is; it
- * alters no word of the port.
+ * alters no word of the port. In the line of srp_target_turn the move keeps its place; its last piece takes it out.
  *
- * The number is how many pieces of the current move have been handed out, this one included: 1, 2, 3 and so on. Done
- * has that of the last piece, each time again, and 0 where the move has no bytes or none was named. Each direction has
- * its own. For a finished move it is the length of the list of its pieces. Then:
+ * The number is how many pieces of the current move have been handed out, by steps and by turns, this one included: 1,
+ * 2, 3 and so on. Done has that of the last piece, each time again, and 0 where the move has no bytes or none was
+ * named. Each direction has its own. For a finished move it is the length of the list of its pieces. Then:
  *   - Every other list of operations that covers the same bytes in order, each inside one segment, at most M long and
  *     across no multiple of Q, has at least as many. Two segments that adjoin in memory are two: an operation over both
  *     is inside neither.
@@ -423,6 +430,45 @@ uint32_t srp_target_move(uint64_t *port, uint64_t tag, uint32_t direction, uint3
  *     part other than its first: by at most 32 + (bytes of the move / Q, rounded down).
  */
 uint32_t srp_target_step(uint64_t *port, const uint8_t *store, uint64_t tag, uint32_t direction, uint64_t answer[8]);
+
+/*
+ * Turn: the next RDMA operation of whichever open command's turn it is, or idle. The moves that have pieces left stand
+ * in a line, and a turn serves the first.
+ *
+ *   port, store   the port; the store is only read
+ *
+ * Refusals:
+ *   21  channel closed
+ *
+ * answer after 0, with a piece:   1, operation (1 RDMA Read, 2 RDMA Write), handle, address, length, offset, number,
+ *                                 tag
+ * answer after 0, idle:           all eight 0
+ * The operation tells the direction: an RDMA Read is data-out, an RDMA Write data-in. The piece is the one that
+ * srp_target_step would hand out for that tag and direction, and the call hands it out as a step does; the number
+ * counts the move's steps and turns together. Idle comes exactly where no move has a piece left. It alters no word of
+ * the port.
+ *
+ * The line:
+ *   - A move that has a byte joins it at its end when srp_target_move names it. The two directions of a command are two
+ *     moves, and each direction has one at a time: no move stands in it twice, and it has at most 32.
+ *   - A turn takes the first move off, and puts it back at the end if pieces remain.
+ *   - A step leaves the move where it stands. Where its piece is the move's last, the move leaves.
+ *   - Both moves of a command leave when it ends: by srp_target_finish, by a task request, by refusal 10 of
+ *     srp_target_tables. The others keep their order. A tag used again has no move in it until one is named.
+ *   - A closed channel has none, and after a login it is empty.
+ * A move in line is served within 32 turns unless it leaves before, whatever other calls stand between: within as many
+ * turns as its place says. In any mix of turns and steps each command's operations are the same as by steps alone.
+ *
+ * Three moves, named in this order: tag 5 out with three pieces, tag 5 in with one, tag 9 in with two:
+ *   srp_target_turn             5 out, number 1; put back behind 9 in
+ *   srp_target_turn             5 in, number 1, its last
+ *   srp_target_step of 5, out   number 2; its place, behind 9 in, stays
+ *   srp_target_turn             9 in, number 1; put back behind 5 out
+ *   srp_target_step of 5, out   number 3, its last: it leaves
+ *   srp_target_turn             9 in, number 2, its last
+ *   srp_target_turn             idle
+ */
+uint32_t srp_target_turn(uint64_t *port, const uint8_t *store, uint64_t answer[8]);
 
 /*
  * Finish: ends an open command, planned or not, that does not wait for its tables, and writes its SRP_RSP.
@@ -441,10 +487,11 @@ uint32_t srp_target_step(uint64_t *port, const uint8_t *store, uint64_t tag, uin
  *   24  tag not open
  *   33  the command waits for its tables
  *
- * answer after 0: 36 + sense_len, the bytes of the message. The tag is not open any more: H - 1, D + 1, then the
- * delta. Its residual in a direction: R above B gives over, R - B; else h below B gives under, B - h, also where bytes
- * below h were left out; else there is none, and 0. Without a plan R is 0. SOLNT is the command's UCSOLNT (byte 1 bit
- * 2 of the SRP_CMD) if status is not 0, else its SCSOLNT (bit 1).
+ * answer after 0: 36 + sense_len, the bytes of the message. The tag is not open any more, and moves of the command that
+ * had pieces left leave the line of srp_target_turn: H - 1, D + 1, then the delta. Its residual in a direction: R above
+ * B gives over, R - B; else h below B gives under, B - h, also where bytes below h were left out; else there is none,
+ * and 0. Without a plan R is 0. SOLNT is the command's UCSOLNT (byte 1 bit 2 of the SRP_CMD) if status is not 0, else
+ * its SCSOLNT (bit 1).
  */
 uint32_t srp_target_finish(uint64_t *port, uint64_t tag, uint8_t status, const uint8_t *sense, size_t sense_len,
                            uint8_t *buf, size_t buf_len, uint64_t answer[8]);

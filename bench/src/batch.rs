@@ -22,13 +22,30 @@ pub struct Tables {
 
 /// Calls of one kind, one for each message or tag, or so many.
 pub enum Batch {
-    Login { messages: Vec<[u8; 64]>, boundary: u64 },
+    Login {
+        messages: Vec<[u8; 64]>,
+        boundary: u64,
+    },
     Take(Vec<Message>),
     Tables(Vec<Tables>),
-    Plan { tags: Vec<u64>, required: u32 },
-    Move { tags: Vec<u64>, direction: u32, offset: u32, count: u32 },
-    Step { tags: Vec<u64>, direction: u32 },
-    Finish { tags: Vec<u64>, status: u8, sense: Vec<u8> },
+    Plan {
+        tags: Vec<u64>,
+        required: u32,
+    },
+    Move {
+        tags: Vec<u64>,
+        direction: u32,
+        offset: u32,
+        count: u32,
+    },
+    /// Of each tag and direction.
+    Step(Vec<(u64, u32)>),
+    Turn(usize),
+    Finish {
+        tags: Vec<u64>,
+        status: u8,
+        sense: Vec<u8>,
+    },
     Add(u32),
     Withdraw(u32),
     Grant,
@@ -36,8 +53,16 @@ pub enum Batch {
     Counters(usize),
     List(usize),
     Look(Vec<Vec<u8>>),
-    Cut { lists: Vec<Vec<u8>>, boundary: u64, required: u32, handed: u32 },
-    Trace { messages: Vec<Vec<u8>>, direction: u32 },
+    Cut {
+        lists: Vec<Vec<u8>>,
+        boundary: u64,
+        required: u32,
+        handed: u32,
+    },
+    Trace {
+        messages: Vec<Vec<u8>>,
+        direction: u32,
+    },
 }
 
 /// What an owner lends, and the answer's words.
@@ -74,11 +99,12 @@ impl Batch {
             Batch::Take(messages) => messages.len(),
             Batch::Tables(tables) => tables.len(),
             Batch::Plan { tags, .. } | Batch::Move { tags, .. } => tags.len(),
-            Batch::Step { tags, .. } | Batch::Finish { tags, .. } => tags.len(),
+            Batch::Step(moves) => moves.len(),
+            Batch::Finish { tags, .. } => tags.len(),
             Batch::Look(messages) => messages.len(),
             Batch::Cut { lists, .. } => lists.len(),
             Batch::Trace { messages, .. } => messages.len(),
-            Batch::Counters(calls) | Batch::List(calls) => *calls,
+            Batch::Turn(calls) | Batch::Counters(calls) | Batch::List(calls) => *calls,
             Batch::Add(_) | Batch::Withdraw(_) | Batch::Grant | Batch::Close => 1,
         }
     }
@@ -103,8 +129,11 @@ impl Batch {
             Batch::Move { tags, direction, offset, count } => each(ports, tags, after, |lent, tag| unsafe {
                 (side.name_move)(lent.port, *tag, *direction, *offset, *count)
             }),
-            Batch::Step { tags, direction } => each(ports, tags, after, |lent, tag| unsafe {
+            Batch::Step(moves) => each(ports, moves, after, |lent, (tag, direction)| unsafe {
                 (side.step)(lent.port, &*lent.store, *tag, *direction, &mut *lent.answer)
+            }),
+            Batch::Turn(calls) => each(ports, &vec![(); *calls], after, |lent, ()| unsafe {
+                (side.turn)(lent.port, &*lent.store, &mut *lent.answer)
             }),
             Batch::Finish { tags, status, sense } => {
                 each(ports, tags, after, |lent, tag| unsafe { finish(side, lent, *tag, *status, sense) })

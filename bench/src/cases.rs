@@ -17,12 +17,17 @@ pub struct Case {
     pub after: Vec<Batch>,
 }
 
+const OUT: u32 = 0;
 const IN: u32 = 1;
 
 /// Q, in the cases that have one.
 pub const BOUNDARY: u64 = 4096;
 
-const TURNS: usize = 8;
+const PORTS: usize = 8;
+
+/// How many moves are in line, in the names of its cases.
+pub const ONE_IN_LINE: &str = "1 move in line";
+pub const ALL_IN_LINE: &str = "32 moves in line";
 
 /// How often a call that alters nothing is made in a row.
 const REPEATED: usize = 64;
@@ -44,7 +49,7 @@ fn finish_all(tags: Vec<u64>) -> Batch {
 }
 
 fn case(name: &str, before: Vec<Batch>, timed: Batch, after: Vec<Batch>) -> Case {
-    let ports = if timed.calls() == 1 { TURNS } else { 1 };
+    let ports = if timed.calls() == 1 { PORTS } else { 1 };
     Case { name: name.into(), series: None, ports, before, timed, after }
 }
 
@@ -121,7 +126,7 @@ fn step_case(part: Part, segments: u32) -> Case {
         Batch::Plan { tags: tags(), required },
         Batch::Move { tags: tags(), direction: IN, offset, count: required - offset },
     ];
-    let timed = Batch::Step { tags: tags(), direction: IN };
+    let timed = Batch::Step(tags().into_iter().map(|tag| (tag, IN)).collect());
     let series = Series { call: "step", part, segments };
     let name = format!("{series}, 16 commands open");
     Case { series: Some(series), ..case(&name, before, timed, vec![finish_all(tags())]) }
@@ -135,8 +140,28 @@ fn bounded_step_case() -> Case {
         Batch::Plan { tags: tags(), required: 1300 },
         Batch::Move { tags: tags(), direction: IN, offset: 0, count: 1300 },
     ];
-    let timed = Batch::Step { tags: tags(), direction: IN };
+    let timed = Batch::Step(tags().into_iter().map(|tag| (tag, IN)).collect());
     case("step, up to a multiple of Q, 16 commands open", before, timed, vec![finish_all(tags()), login(0)])
+}
+
+/// 16 commands with these moves in line, in this order, and calls that hand out their pieces.
+fn line_case(name: &str, moves: &[(u64, u32)], timed: Batch) -> Case {
+    let mut before = vec![take_all(both_ways), Batch::Plan { tags: tags(), required: LONG }];
+    let named = |&(tag, direction)| Batch::Move { tags: vec![tag], direction, offset: 0, count: LONG };
+    before.extend(moves.iter().map(named));
+    case(name, before, timed, vec![finish_all(tags())])
+}
+
+/// Turns, and steps of the same moves in the same order.
+fn line_cases() -> Vec<Case> {
+    let newest = vec![(0x10f, IN)];
+    let each_way: Vec<(u64, u32)> = tags().into_iter().flat_map(|tag| [(tag, OUT), (tag, IN)]).collect();
+    let of_line = |in_line: &str, moves: &[(u64, u32)]| {
+        let steps = moves.iter().copied().cycle().take(REPEATED).collect();
+        let name = |call: &str| format!("{call}, {in_line}, 16 commands open");
+        [line_case(&name("turn"), moves, Batch::Turn(REPEATED)), line_case(&name("step"), moves, Batch::Step(steps))]
+    };
+    [of_line(ONE_IN_LINE, &newest), of_line(ALL_IN_LINE, &each_way)].into_iter().flatten().collect()
 }
 
 fn finish_case(name: &str, tag: u64, status: u8, sense: Vec<u8>) -> Case {
@@ -217,8 +242,9 @@ pub fn cases() -> Vec<Case> {
     ];
     cases.splice(4..4, with_tables());
     cases.extend(by_segments(step_case));
+    cases.push(bounded_step_case());
+    cases.extend(line_cases());
     cases.extend([
-        bounded_step_case(),
         finish_case("oldest", 0x100, 0, vec![]),
         finish_case("newest", 0x10f, 0, vec![]),
         finish_case("newest, 96 bytes of sense,", 0x10f, 2, vec![0xa5; 96]),

@@ -20,6 +20,7 @@ pub static LIBRARY: Side = Side {
     plan: srp_target_plan,
     name_move: srp_target_move,
     step: srp_target_step,
+    turn: srp_target_turn,
     finish: srp_target_finish,
     add: srp_target_add,
     withdraw: srp_target_withdraw,

@@ -47,6 +47,14 @@ pub fn direct_before_multiple(tag: u64) -> Message {
     Message([command(0x01, 0, 0, tag), before_multiple()].concat())
 }
 
+/// Bytes of a direction of `both_ways`: more pieces than a case hands out.
+pub const LONG: u32 = 1 << 16;
+
+/// So many bytes each way.
+pub fn both_ways(tag: u64) -> Message {
+    Message([command(0x11, 0, 0, tag), memory(0x10_0000, LONG).to_vec(), memory(0x20_0000, LONG).to_vec()].concat())
+}
+
 /// A table descriptor, the total length, and the first entries.
 fn indirect(entries: u32, copies: u32) -> Vec<u8> {
     let (table, total) = (memory(0x9000, 16 * entries), (SEGMENT * entries).to_be_bytes());

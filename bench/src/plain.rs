@@ -8,7 +8,7 @@ use std::slice;
 
 use srp_target_sys::{self as sys, Answer, Own, Store, Words, ANSWER_WORDS};
 
-use crate::port::{Direction, Login, Port, Refusal, Refused, Settings, Taken};
+use crate::port::{Direction, Login, Port, Refusal, Refused, Settings, Taken, Turn};
 use crate::search::Search;
 use crate::{stateless, trace};
 
@@ -139,6 +139,21 @@ pub unsafe extern "C" fn plain_step<S: Search>(
         Ok((Some(p), n)) => [1, operation, p.handle.into(), p.address, p.length.into(), p.offset.into(), (*n).into()],
         Ok((None, n)) => [0, 0, 0, 0, 0, 0, (*n).into()],
         Err(_) => [0; 7],
+    };
+    unsafe { put(answer, words) };
+    number(outcome)
+}
+
+#[inline(never)]
+pub unsafe extern "C" fn plain_turn<S: Search>(port: *mut Words, _store: *const Store, answer: *mut Answer) -> u32 {
+    let port = unsafe { &mut *port.cast::<Port>() };
+    let outcome = port.turn::<S>();
+    let words = match &outcome {
+        Ok(Some(Turn { tag, direction, piece: p, number })) => {
+            let operation = *direction as u64 + 1;
+            [1, operation, p.handle.into(), p.address, p.length.into(), p.offset.into(), (*number).into(), *tag]
+        }
+        _ => [0; 8],
     };
     unsafe { put(answer, words) };
     number(outcome)

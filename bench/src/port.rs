@@ -2,6 +2,7 @@
 //! with fixed arrays, no heap and no unsafe code. What the library's speed is measured by; shares nothing with it.
 
 mod credit;
+mod line;
 mod login;
 mod message;
 mod refusal;
@@ -10,12 +11,14 @@ mod take;
 mod transfer;
 mod waiting;
 
+pub use line::Turn;
 pub use login::{Login, Settings};
 pub use refusal::{Refusal, Refused};
 pub use take::Taken;
 pub use transfer::{Direction, Piece};
 
 use crate::search::Search;
+use line::Line;
 use transfer::{SegmentList, Transfer};
 use waiting::Awaited;
 
@@ -47,6 +50,7 @@ struct Channel {
     owed: i32,
     grant_unanswered: bool,
     commands: [Option<Command>; MAX_BUFFERS],
+    line: Line,
     /// How many commands were taken.
     taken: u64,
 }
@@ -100,7 +104,12 @@ impl Port {
             return Err(Refusal::Unplanned);
         }
         let list = &self.lists[slot][direction as usize];
-        command.transfers[direction as usize].name_move(list, offset, count)
+        let transfer = &mut command.transfers[direction as usize];
+        transfer.name_move(list, offset, count)?;
+        if transfer.has_pieces() {
+            channel.line.join(slot, direction);
+        }
+        Ok(())
     }
 
     /// The next piece of a direction's current move, or None: done; and the operations handed out for it.
@@ -115,6 +124,9 @@ impl Port {
         let list = &self.lists[slot][direction as usize];
         let transfer = &mut command.transfers[direction as usize];
         let piece = transfer.next_piece::<S>(list, channel.max_piece, channel.boundary);
+        if piece.is_some() && !transfer.has_pieces() {
+            channel.line.leave(slot, direction);
+        }
         Ok((piece, transfer.number()))
     }
 
@@ -128,8 +140,7 @@ impl Port {
         let slot = channel.slot(tag)?;
         let command = channel.commands[slot].ok_or(Refusal::TagNotOpen)?;
         command.check_ready()?;
-        channel.commands[slot] = None;
-        channel.owed += 1;
+        channel.end(slot);
         let residuals = command.transfers.map(|transfer| transfer.residual());
         let solnt = if status != 0 { command.ucsolnt } else { command.scsolnt };
         Ok(message::response(buf, solnt, channel.delta(), tag, status, residuals, sense))
@@ -158,6 +169,13 @@ impl Port {
 }
 
 impl Channel {
+    /// Ends the command at a place; its moves leave the line.
+    fn end(&mut self, slot: usize) {
+        self.commands[slot] = None;
+        self.line.leave_with(slot);
+        self.owed += 1;
+    }
+
     /// Where the open command with this tag stands.
     fn slot(&self, tag: u64) -> Result<usize, Refusal> {
         let with_tag = |slot: &Option<Command>| slot.as_ref().is_some_and(|command| command.tag == tag);

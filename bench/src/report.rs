@@ -1,7 +1,8 @@
-//! What is printed of the times: all of them, and how they grow where the segments double.
+//! What is printed of the times: all of them, how they grow where the segments double, and what a turn takes more than a
+//! step.
 
 use crate::batch::MAX_PIECE;
-use crate::cases::{Case, BOUNDARY};
+use crate::cases::{Case, ALL_IN_LINE, BOUNDARY, ONE_IN_LINE};
 use crate::series::{Part, Series};
 use crate::timing::Times;
 
@@ -43,6 +44,21 @@ impl Report<'_> {
             print!("\nWhere the segments double, the library's time for the last byte grows by a factor of at most ");
             println!("{growth:.2}; document 02 asks for less than {LIMIT}.");
         }
+        print_lines("", [ONE_IN_LINE, ALL_IN_LINE].into_iter().filter_map(|line| self.turn_line(line)));
+    }
+
+    /// What a turn takes more than a step of the same move, where both were timed.
+    fn turn_line(&self, line: &str) -> Option<String> {
+        let more = |side| Some(self.named("turn", line, side)? - self.named("step", line, side)?);
+        let (library, plain) = (more(LIBRARY)?, more(PLAIN)?);
+        Some(format!("a turn takes more than a step, {line:<16}  library {library:.1} ns  plain Rust {plain:.1} ns"))
+    }
+
+    /// A side's time in the case of a call with such a line.
+    fn named(&self, call: &str, line: &str, side: usize) -> Option<f64> {
+        let name = format!("{call}, {line}");
+        let at = self.cases.iter().position(|case| case.name.starts_with(&name))?;
+        Some(self.times[at][side])
     }
 
     /// A line for each case, for the file that bench/callgrind reads: its name and its times.
@@ -150,6 +166,22 @@ mod tests {
             let judged = report(words, steep, |report| (report.largest_growth(), report.is_below_limit()));
             assert_eq!(judged, expected, "cases '{words}', {} is {} times as long", steep.0, steep.1);
         }
+    }
+
+    #[test]
+    fn a_turn_is_shown_beside_a_step() {
+        let cases = cases::cases();
+        let of_case = |case: &Case| match &case.name {
+            name if name.starts_with("turn, 1 move") => vec![12.5, 8.0],
+            name if name.starts_with("step, 1 move") => vec![10.0, 9.0],
+            _ => vec![1.0; case.sides().len()],
+        };
+        let times: Vec<Times> = cases.iter().map(of_case).collect();
+        let report = Report { cases: &cases, times: &times };
+        let expected = "a turn takes more than a step, 1 move in line    library 2.5 ns  plain Rust -1.0 ns";
+        assert_eq!(report.turn_line(ONE_IN_LINE).as_deref(), Some(expected));
+        assert_eq!(report.named("turn", ALL_IN_LINE, LIBRARY), Some(1.0));
+        assert_eq!(report.turn_line("33 moves in line"), None);
     }
 
     #[test]

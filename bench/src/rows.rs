@@ -41,6 +41,7 @@ impl Current {
             Call::Plan { tag, r_out, r_in } => (side.plan)(port, *tag, *r_out, *r_in),
             Call::Move { tag, direction, offset, count } => (side.name_move)(port, *tag, *direction, *offset, *count),
             Call::Step { tag, direction } => (side.step)(port, store, *tag, *direction, answer),
+            Call::Turn => (side.turn)(port, store, answer),
             Call::Finish { tag, status, .. } => (side.finish)(port, *tag, *status, msg, msg_len, buf, buf_len, answer),
             Call::Add { k } => (side.add)(port, *k),
             Call::Withdraw { k } => (side.withdraw)(port, *k),
@@ -95,6 +96,10 @@ fn run_waiting(side: &'static Side) {
     ports::rows::run_job_7(&mut closed_port(side), side.name);
 }
 
+fn run_turns(side: &'static Side) {
+    ports::rows::run_job_8(&mut closed_port(side), side.name);
+}
+
 fn run_cut(side: &'static Side) {
     rows::run_cut(side.name, |call, buf| {
         let (list, Limits { m, q }) = (&call.list, call.limits);
@@ -131,6 +136,11 @@ fn boundary_rows() {
 #[test]
 fn waiting_rows() {
     run_waiting(&PLAIN);
+}
+
+#[test]
+fn turn_rows() {
+    run_turns(&PLAIN);
 }
 
 #[test]
@@ -182,6 +192,11 @@ fn boundary_rows_by_the_yardstick() {
 #[test]
 fn waiting_rows_by_the_yardstick() {
     run_waiting(&YARDSTICK);
+}
+
+#[test]
+fn turn_rows_by_the_yardstick() {
+    run_turns(&YARDSTICK);
 }
 
 #[test]

@@ -35,6 +35,7 @@ pub type Tables = unsafe extern "C" fn(
 pub type Plan = unsafe extern "C" fn(*mut Words, u64, u32, u32) -> u32;
 pub type Move = unsafe extern "C" fn(*mut Words, u64, u32, u32, u32) -> u32;
 pub type Step = unsafe extern "C" fn(*mut Words, *const Store, u64, u32, *mut Answer) -> u32;
+pub type Turn = unsafe extern "C" fn(*mut Words, *const Store, *mut Answer) -> u32;
 pub type Finish = unsafe extern "C" fn(*mut Words, u64, u8, *const u8, usize, *mut u8, usize, *mut Answer) -> u32;
 pub type Buffers = unsafe extern "C" fn(*mut Words, u32) -> u32;
 pub type Grant = unsafe extern "C" fn(*mut Words, *mut u8, usize, *mut Answer) -> u32;
@@ -55,6 +56,7 @@ pub struct Side {
     pub plan: Plan,
     pub name_move: Move,
     pub step: Step,
+    pub turn: Turn,
     pub finish: Finish,
     pub add: Buffers,
     pub withdraw: Buffers,
@@ -86,6 +88,7 @@ const fn plain_side<S: Search>(name: &'static str) -> Side {
         plan: plain::plain_plan,
         name_move: plain::plain_move,
         step: plain::plain_step::<S>,
+        turn: plain::plain_turn::<S>,
         finish: plain::plain_finish,
         add: plain::plain_add,
         withdraw: plain::plain_withdraw,

@@ -2,6 +2,8 @@
  * Any words are a port, and any bytes its store: every call returns 0 or a refusal of its own, and writes nothing but
  * what it is lent to write.
  */
+#include <string.h>
+
 #include "arbitrary.h"
 #include "calls.h"
 #include "cases.h"
@@ -9,7 +11,7 @@
 enum { M = 512 };
 
 enum call {
-    PLAN, MOVE, STEP_OUT, STEP_IN, FINISH, ADD, GRANT, WITHDRAW, LIST, COUNTERS, TABLES, TAKE, CLOSE, LOGIN, CALLS
+    PLAN, MOVE, STEP_OUT, STEP_IN, TURN, FINISH, ADD, GRANT, WITHDRAW, LIST, COUNTERS, TABLES, TAKE, CLOSE, LOGIN, CALLS
 };
 
 #define BIT(n)        ((uint64_t)1 << (n))
@@ -27,6 +29,7 @@ static const struct {
     [MOVE] = {"any words, move", BIT(PORT), BIT(21) | BIT(24) | BIT(29) | BIT(31) | BIT(32) | BIT(33)},
     [STEP_OUT] = {"any words, step out", BIT(PORT) | BIT(ANSWER), BIT(21) | BIT(24) | BIT(29) | BIT(33)},
     [STEP_IN] = {"any words, step in", BIT(PORT) | BIT(ANSWER), BIT(21) | BIT(24) | BIT(29) | BIT(33)},
+    [TURN] = {"any words, turn", BIT(PORT) | BIT(ANSWER), BIT(21)},
     [FINISH] = {"any words, finish", BIT(PORT) | BIT(BUF) | BIT(ANSWER), BIT(21) | BIT(24) | BIT(33)},
     [ADD] = {"any words, add", BIT(PORT), BIT(21) | BIT(28)},
     [GRANT] = {"any words, grant", BIT(PORT) | BIT(BUF) | BIT(ANSWER), BIT(21) | BIT(26) | BIT(27)},
@@ -90,6 +93,22 @@ static void judge_boundary(const char *name)
     bounded_pieces += last % q == q - 1;
 }
 
+/* Turns that had a piece, and that were idle though the line is not empty. */
+static unsigned served_turns, idle_turns;
+
+/* A piece has the tag and the direction that stood first in line, and leaves other words; idle alters nothing. */
+static void judge_turn(const char *name, struct in_line first)
+{
+    static const uint64_t zeros[SRP_ANSWER_WORDS];
+    const uint64_t *answer = lent_words(ANSWER);
+    int is_first = first.moves && answer[7] == first.tag && answer[1] == 1 + (uint64_t)first.in;
+    int is_idle = !memcmp(answer, zeros, sizeof zeros);
+    if (changed(PORT, 8 * SRP_PORT_WORDS) ? !answer[0] || !is_first : !is_idle)
+        fail(name, "neither the first in line nor idle");
+    served_turns += answer[0] != 0;
+    idle_turns += first.moves && !answer[0];
+}
+
 /* A refusal without a message leaves all as it was, but that a login closes the port, and the answer is 0. */
 static void judge(enum call call, uint32_t returned)
 {
@@ -103,7 +122,7 @@ static void judge(enum call call, uint32_t returned)
         expect(PORT, 0, zeros, sizeof zeros);
     accepted_tables += call == TABLES && returned == 0;
     answered_tables += call == TABLES && returned == SRP_REFUSED_FIELDS;
-    if (returned == 0 && (call == STEP_OUT || call == STEP_IN)) {
+    if (returned == 0 && (call == STEP_OUT || call == STEP_IN || (call == TURN && lent_words(ANSWER)[0]))) {
         judge_number(rules[call].name);
         judge_boundary(rules[call].name);
     }
@@ -163,6 +182,8 @@ static uint32_t made(enum call call, uint64_t tag, size_t msg_len)
     case STEP_OUT:
     case STEP_IN:
         return srp_target_step(port, lent(STORE), tag, call == STEP_IN, answer);
+    case TURN:
+        return srp_target_turn(port, lent(STORE), answer);
     case FINISH:
         return srp_target_finish(port, tag, 0x02, lent(SENSE), 96, buf, 132, answer);
     case ADD:
@@ -185,12 +206,17 @@ static uint32_t made(enum call call, uint64_t tag, size_t msg_len)
 
 static void one_call(enum call call, uint64_t tag, struct bytes msg)
 {
+    struct in_line first = first_in_line();
+    uint32_t returned;
     lay(MSG, msg.at, msg.len);
     lay(BUF, NULL, 0);
     lay(ANSWER, NULL, 0);
     lay(RECORDS, NULL, 0);
     begin();
-    judge(call, made(call, tag, msg.len));
+    returned = made(call, tag, msg.len);
+    if (call == TURN && returned == 0)
+        judge_turn(rules[TURN].name, first);
+    judge(call, returned);
 }
 
 /* W in 1 to 16, A + H at most 16, D = W - A - H; and H commands are listed. */
@@ -217,8 +243,8 @@ static void step_again(enum call call, uint64_t tag)
 static void some_calls(void)
 {
     unsigned i;
-    for (i = 0; i < 37; i++) {
-        enum call call = i < 36 ? (enum call)(i % CLOSE) : CLOSE;
+    for (i = 0; i < 40; i++) {
+        enum call call = i < 39 ? (enum call)(i % CLOSE) : CLOSE;
         uint64_t tag;
         lay(RECORDS, NULL, 0);
         if (!in_ranges())
@@ -256,4 +282,6 @@ void any_words_cases(void)
         fail("any words", "no piece up to a boundary");
     if (!accepted_tables || !answered_tables)
         fail("any words", "no tables to judge");
+    if (!served_turns || !idle_turns)
+        fail("any words", "no turn to judge");
 }

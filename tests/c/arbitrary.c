@@ -37,6 +37,22 @@ static void some_descriptors(uint64_t *slot)
         }
 }
 
+/* Mostly moves of the commands in the slots, from any place on. */
+static void some_line(uint64_t *words)
+{
+    unsigned i;
+    for (i = 0; i < LINE_MOVES; i++)
+        if (next() >> 62)
+            words[LINE_PLACES + 2 * i] = words[SLOTS + SLOT * (next() >> 61)];
+}
+
+struct in_line first_in_line(void)
+{
+    const uint64_t *port = lent_words(PORT), *place = port + LINE_PLACES + 2 * (port[LINE_FIRST] % LINE_MOVES);
+    uint64_t count = port[LINE_COUNT];
+    return (struct in_line){count < LINE_MOVES ? (unsigned)count : LINE_MOVES, place[0], (int)(place[1] % 2)};
+}
+
 /* Large numbers and small ones; an odd first word is an open port's, and most are. */
 void arbitrary_port(void)
 {
@@ -49,6 +65,7 @@ void arbitrary_port(void)
     words[BOUNDARY] = some_boundary();
     for (i = 0; i < 16; i++)
         some_descriptors(words + SLOTS + SLOT * i);
+    some_line(words);
     lay(PORT, words, sizeof words);
     lay(STORE, NULL, 0);
 }

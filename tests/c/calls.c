@@ -13,6 +13,7 @@ static uint32_t (*const tables_of_header)(uint64_t *, uint8_t *, uint64_t, const
 static uint32_t (*const plan_of_header)(uint64_t *, uint64_t, uint32_t, uint32_t) = srp_target_plan;
 static uint32_t (*const move_of_header)(uint64_t *, uint64_t, uint32_t, uint32_t, uint32_t) = srp_target_move;
 static uint32_t (*const step_of_header)(uint64_t *, const uint8_t *, uint64_t, uint32_t, uint64_t *) = srp_target_step;
+static uint32_t (*const turn_of_header)(uint64_t *, const uint8_t *, uint64_t *) = srp_target_turn;
 static uint32_t (*const finish_of_header)(uint64_t *, uint64_t, uint8_t, const uint8_t *, size_t, uint8_t *, size_t,
                                           uint64_t *) = srp_target_finish;
 static uint32_t (*const add_of_header)(uint64_t *, uint32_t) = srp_target_add;
@@ -186,6 +187,12 @@ void step(const char *name, uint32_t number, struct after after, uint64_t tag, u
 {
     lend_answers();
     judge(name, step_of_header(lent_words(PORT), lent(STORE), tag, direction, lent_words(ANSWER)), number, &after);
+}
+
+void turn(const char *name, uint32_t number, struct after after)
+{
+    lend_answers();
+    judge(name, turn_of_header(lent_words(PORT), lent(STORE), lent_words(ANSWER)), number, &after);
 }
 
 void finish(const char *name, uint32_t number, struct after after, uint64_t tag, uint8_t status, struct bytes sense,

@@ -43,6 +43,7 @@ void tables(const char *name, uint32_t number, struct after after, uint64_t tag,
 void plan(const char *name, uint32_t number, uint64_t tag, uint32_t r_out, uint32_t r_in);
 void move(const char *name, uint32_t number, uint64_t tag, uint32_t direction, uint32_t offset, uint32_t count);
 void step(const char *name, uint32_t number, struct after after, uint64_t tag, uint32_t direction);
+void turn(const char *name, uint32_t number, struct after after);
 void finish(const char *name, uint32_t number, struct after after, uint64_t tag, uint8_t status, struct bytes sense,
             size_t buf_len);
 void add(const char *name, uint32_t number, uint32_t k);
@@ -56,7 +57,7 @@ void list(const char *name, uint32_t number, size_t words, size_t count, const u
 
 /* Calls that leave little to say: a port opened with N and M, perhaps with Q, a command taken that does not wait, one
  * that does, its tables brought, a move that may have no bytes, a plan with a move each way of offset 0 and count R, a
- * piece, done, an end with status 0. */
+ * piece, done, the piece of a turn, idle, an end with status 0. */
 void opened(uint32_t n, uint32_t m);
 void opened_with(uint32_t n, uint32_t m, uint64_t boundary);
 void taken(const char *name, struct bytes msg);
@@ -67,6 +68,9 @@ void planned(const char *name, uint64_t tag, uint32_t r_out, uint32_t r_in);
 void piece(const char *name, uint64_t tag, uint32_t direction, uint64_t handle, uint64_t address, uint64_t length,
            uint64_t offset, uint64_t number);
 void done(const char *name, uint64_t tag, uint32_t direction, uint64_t number);
+void served(const char *name, uint64_t tag, uint32_t direction, uint64_t handle, uint64_t address, uint64_t length,
+            uint64_t offset, uint64_t number);
+void idle(const char *name);
 void finished(const char *name, uint64_t tag, uint32_t delta, struct residuals residuals);
 
 #endif

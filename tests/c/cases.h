@@ -16,6 +16,7 @@ void waiting_cases(void);
 void task_cases(void);
 void transfer_cases(void);
 void move_cases(void);
+void turn_cases(void);
 void search_cases(void);
 void highest_cases(void);
 void fewest_cases(void);

@@ -60,6 +60,10 @@ static void command() {
     check("srp_target_step", srp_target_step(port, store, 9, SRP_DIRECTION_IN, answer) == 0 &&
                                  answer[1] == SRP_RDMA_WRITE && answer[3] == 0x1010 && answer[4] == 33 &&
                                  answer[6] == 1);
+    check("srp_target_turn", srp_target_turn(port, store, answer) == 0 && answer[0] == 0 &&
+                                 srp_target_move(port, 9, SRP_DIRECTION_IN, 5, 2) == 0 &&
+                                 srp_target_turn(port, store, answer) == 0 && answer[1] == SRP_RDMA_WRITE &&
+                                 answer[3] == 0x1005 && answer[4] == 2 && answer[6] == 1 && answer[7] == 9);
     check("srp_target_list",
           srp_target_list(port, records, SRP_LIST_WORDS, answer) == 0 && answer[0] == 1 && records[3] == 49);
     check("srp_target_finish",

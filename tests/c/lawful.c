@@ -64,6 +64,18 @@ void done(const char *name, uint64_t tag, uint32_t direction, uint64_t number)
     step(name, 0, (struct after){SAME, {0, 0, 0, 0, 0, 0, number}, NULL}, tag, direction);
 }
 
+void served(const char *name, uint64_t tag, uint32_t direction, uint64_t handle, uint64_t address, uint64_t length,
+            uint64_t offset, uint64_t number)
+{
+    uint64_t operation = direction ? SRP_RDMA_WRITE : SRP_RDMA_READ;
+    turn(name, 0, (struct after){OTHER, {1, operation, handle, address, length, offset, number, tag}, NULL});
+}
+
+void idle(const char *name)
+{
+    turn(name, 0, (struct after){SAME, {0}, NULL});
+}
+
 void finished(const char *name, uint64_t tag, uint32_t delta, struct residuals residuals)
 {
     struct after after = {OTHER, {36}, response(0, delta, tag, 0, residuals, NO_BYTES)};

@@ -15,6 +15,7 @@ int main(void)
     task_cases();
     transfer_cases();
     move_cases();
+    turn_cases();
     search_cases();
     highest_cases();
     fewest_cases();

@@ -16,6 +16,7 @@ static void all_zero(void)
     plan("words of 0", SRP_REFUSED_CLOSED, 0, 0, 0);
     move("words of 0", SRP_REFUSED_CLOSED, 0, 0, 0, 0);
     step("words of 0", SRP_REFUSED_CLOSED, NOTHING, 0, 0);
+    turn("words of 0", SRP_REFUSED_CLOSED, NOTHING);
     finish("words of 0", SRP_REFUSED_CLOSED, NOTHING, 0, 0, NO_BYTES, 132);
     add("words of 0", SRP_REFUSED_CLOSED, 1);
     withdraw("words of 0", SRP_REFUSED_CLOSED, 1);
@@ -33,6 +34,8 @@ static void copied(void)
     static const uint8_t direct[16] = {0, 0, 0, 0, 0, 0, 0x10, 0, 0, 0, 0, 7, 0, 0, 0x05, 0x14};
     opened(2, M);
     taken("before the copy", command_with(5, 0, 0x01, 0, 0, BYTES(direct)));
+    taken("before the copy", command_with(6, 0, 0x01, 0, 0, BYTES(direct)));
+    planned("before the copy", 6, 0, 1300);
     memcpy(port, lent(PORT), sizeof port);
     memcpy(store, lent(STORE), sizeof store);
     opened(1, 1);
@@ -40,6 +43,8 @@ static void copied(void)
     lay(STORE, store, sizeof store);
     planned("after the copy", 5, 0, 1300);
     piece("after the copy", 5, 1, 7, 0x1000, 512, 0, 1);
+    served("after the copy", 6, 1, 7, 0x1000, 512, 0, 1);
+    served("after the copy", 5, 1, 7, 0x1200, 512, 512, 2);
 }
 
 void words_cases(void)

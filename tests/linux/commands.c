@@ -181,6 +181,8 @@ void finish_one(struct channel *c)
     put_residuals(&a, r);
     if (is_between(c, r))
         count(FINISHED_BETWEEN);
+    if (has_moves(c, r->tag))
+        count(FINISHED_IN_LINE);
     drop(c, r);
     a.delta = delta_after(c);
     lend();

@@ -23,6 +23,8 @@ static void end_managed(struct channel *c, uint64_t lun, uint8_t function, uint6
             count(ABORTED_BETWEEN);
         if (r->waiting)
             count(ABORTED_WAITING);
+        if (has_moves(c, r->tag))
+            count(ABORTED_IN_LINE);
         drop(c, r);
     }
 }

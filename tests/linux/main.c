@@ -10,7 +10,7 @@
 #include "random.h"
 #include "tally.h"
 
-enum { EXCHANGES = 1400, EVENTS = 140, ROUNDS = 2000, LEAST = 100 };
+enum { EXCHANGES = 3000, EVENTS = 140, ROUNDS = 2000, LEAST = 100 };
 
 /* One of these, some of them more often. */
 static void one_event(struct channel *c)
@@ -18,8 +18,8 @@ static void one_event(struct channel *c)
     static void (*const events[])(struct channel *) = {
         new_command, new_command, new_command, new_command, bring_one, bring_one, bring_one, bring_one, plan_one,
         plan_one, plan_one, plan_one, plan_one, plan_one, move_some, move_some, move_some, move_some, move_some,
-        move_some, step_some, step_some, step_some, finish_one, finish_one, bad_command, manage, change_buffers,
-        grant_credit, answer_grant, answer_grant,
+        move_some, step_some, step_some, step_some, turn_some, turn_some, move_all, finish_one, finish_one,
+        bad_command, manage, change_buffers, grant_credit, answer_grant, answer_grant,
     };
     events[from_to(0, sizeof events / sizeof *events - 1)](c);
 }

@@ -133,6 +133,8 @@ struct request *find(struct channel *c, uint64_t tag)
 void drop(struct channel *c, struct request *r)
 {
     c->ended[c->endings++ % MOST_COMMANDS] = r->tag;
+    leave_line(c, r->tag, 0);
+    leave_line(c, r->tag, 1);
     c->held--;
     memmove(r, r + 1, (size_t)(c->commands + c->held - r) * sizeof *r);
 }

@@ -1,6 +1,6 @@
 /*
  * What the papers say of one channel: its credit, its open commands and which of them wait for their tables, the moves,
- * pieces and residuals of a direction, a login's rejection. Written from them alone.
+ * pieces and residuals of a direction, the line of the moves, a login's rejection. Written from them alone.
  */
 #ifndef MODEL_H
 #define MODEL_H
@@ -37,6 +37,12 @@ struct request {
     int bad;                          /* a field, in the message or in a table */
 };
 
+/* A move in line, by its command's tag and its direction. */
+struct place {
+    uint64_t tag;
+    int in;
+};
+
 struct channel {
     uint32_t longest_piece, agreed;
     uint64_t boundary;
@@ -45,7 +51,9 @@ struct channel {
     int64_t wanted, announced;
     unsigned held;
     struct request commands[MOST_COMMANDS]; /* in the order of taking */
-    uint64_t ended[MOST_COMMANDS];          /* tags of the last that ended */
+    struct place line[2 * MOST_COMMANDS];
+    unsigned moves;
+    uint64_t ended[MOST_COMMANDS]; /* tags of the last that ended */
     unsigned endings;
 };
 
@@ -75,7 +83,15 @@ int64_t owed(const struct channel *c);
 void begin_request(struct channel *c);
 uint32_t delta_after(struct channel *c);
 
-/* The open command with a tag, or NULL; one that ends, which leaves the others in their order. */
+/* A move joins the line at its end; where it stands, -1 for nowhere; whether a command has one there; it leaves; the
+ * first, if there is one, leaves. */
+void join_line(struct channel *c, uint64_t tag, uint32_t in);
+int in_line(const struct channel *c, uint64_t tag, uint32_t in);
+int has_moves(const struct channel *c, uint64_t tag);
+void leave_line(struct channel *c, uint64_t tag, uint32_t in);
+int first_in_line(struct channel *c, struct place *first);
+
+/* The open command with a tag, or NULL; one that ends, which leaves the others, and those in line, in their order. */
 struct request *find(struct channel *c, uint64_t tag);
 void drop(struct channel *c, struct request *r);
 

@@ -43,7 +43,7 @@ static void count_move(const struct side *s, uint32_t offset, uint32_t bytes)
         count(past > UINT32_MAX ? PAST_2_32 : TRIMMED);
 }
 
-static void name_one(struct request *r, struct side *s, uint32_t in)
+static void name_one(struct channel *c, struct request *r, struct side *s, uint32_t in)
 {
     uint32_t offset, bytes, refusal;
     any_move(s, &offset, &bytes);
@@ -54,11 +54,12 @@ static void name_one(struct request *r, struct side *s, uint32_t in)
         return;
     name_move(s, offset, bytes);
     count_move(s, offset, bytes);
+    if (s->at < s->end)
+        join_line(c, r->tag, in);
 }
 
-/* The piece that was answered lies between two multiples of the boundary. It may have all bytes between, or end at the
- * second and at nothing else. */
-static void judge_piece(const struct channel *c, const struct side *s, const struct piece *p)
+/* It may have all bytes between, or end at the second and at nothing else. */
+void judge_piece(const struct channel *c, const struct side *s, const struct piece *p)
 {
     uint64_t q = c->boundary, first = port.answer[3], last = first + port.answer[4] - 1;
     count(PIECES);
@@ -71,7 +72,18 @@ static void judge_piece(const struct channel *c, const struct side *s, const str
         count(BETWEEN_BOUNDARIES);
 }
 
-static void step_once(const struct channel *c, uint64_t tag, struct side *s, uint32_t in)
+/* The last piece of a move takes it out of the line, from wherever it stands. */
+static void count_last(struct channel *c, uint64_t tag, uint32_t in)
+{
+    int at = in_line(c, tag, in);
+    if (at == 0)
+        count(LAST_OF_FIRST);
+    else
+        count(at + 1 < (int)c->moves ? LAST_BETWEEN : LAST_OF_LAST);
+    leave_line(c, tag, in);
+}
+
+static void step_once(struct channel *c, uint64_t tag, struct side *s, uint32_t in)
 {
     struct piece p;
     lend();
@@ -86,9 +98,11 @@ static void step_once(const struct channel *c, uint64_t tag, struct side *s, uin
     answered("piece", (const uint64_t[SRP_ANSWER_WORDS]){1, in ? SRP_RDMA_WRITE : SRP_RDMA_READ, p.handle, p.address,
                                                          p.length, p.offset, s->operations});
     judge_piece(c, s, &p);
+    if (s->at == s->end)
+        count_last(c, tag, in);
 }
 
-static void step_side(const struct channel *c, struct request *r, uint32_t in, uint32_t steps)
+static void step_side(struct channel *c, struct request *r, uint32_t in, uint32_t steps)
 {
     while (steps--)
         step_once(c, r->tag, in ? &r->in : &r->out, in);
@@ -102,16 +116,33 @@ void move_some(struct channel *c)
     if (!r)
         return;
     while (moves--) {
-        name_one(r, in ? &r->in : &r->out, in);
+        name_one(c, r, in ? &r->in : &r->out, in);
         if (r->planned && one_in(2))
             step_side(c, r, in, from_to(1, 30));
     }
 }
 
+/* A move each way of every command that can have one: many are in line. */
+void move_all(struct channel *c)
+{
+    unsigned i;
+    for (i = 0; i < c->held; i++) {
+        struct request *r = &c->commands[i];
+        name_one(c, r, &r->out, 0);
+        name_one(c, r, &r->in, 1);
+    }
+}
+
+/* Of a move in line, or of any direction. */
 void step_some(struct channel *c)
 {
     struct request *r = any_open(c);
     uint32_t in = from_to(0, 1), steps = from_to(1, 8);
+    if (c->moves && one_in(2)) {
+        struct place place = c->line[from_to(0, c->moves - 1)];
+        r = find(c, place.tag);
+        in = (uint32_t)place.in;
+    }
     if (r && r->planned)
         step_side(c, r, in, steps);
     if (r && r->waiting)

@@ -64,8 +64,12 @@ void agree(struct channel *c)
 {
     uint32_t returned = srp_target_counters(port.words, port.answer);
     same("counters", "returned", returned, c->open ? 0 : SRP_REFUSED_CLOSED);
-    if (!c->open)
+    if (!c->open) {
+        lend();
+        same("turn", "returned", srp_target_turn(port.words, port.store, port.answer), SRP_REFUSED_CLOSED);
+        answered("turn, closed", (const uint64_t[SRP_ANSWER_WORDS]){0});
         return;
+    }
     answered("counters", (const uint64_t[SRP_ANSWER_WORDS]){(uint64_t)c->wanted, (uint64_t)c->announced, c->held,
                                                             (uint64_t)owed(c)});
     agree_listing(c);

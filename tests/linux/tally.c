@@ -23,6 +23,10 @@ static const char *const names[TALLIES] = {
     "command that waits", "tables", "tables before an older command's", "tables of another length", "bad tables",
     "tables of a command that does not wait", "tables of a tag not open", "call refused while a command waits",
     "aborted while it waits",
+    "turn, idle", "turn, idle, no command open", "turn, put back behind others", "turn, put back alone",
+    "turn, the last piece", "last piece by a step, first in line", "last piece by a step, between others",
+    "last piece by a step, last in line",
+    "finished with a move in line", "aborted with a move in line",
 };
 static unsigned tallies[TALLIES], comparisons, failures;
 

@@ -26,6 +26,10 @@ enum tally {
     /* commands that wait; tables brought, some before those of an older command, and refused; what else befalls */
     WAITING, TABLES, TABLES_EARLY, TABLES_LENGTH, TABLES_BAD, TABLES_READY, TABLES_NOT_OPEN, CALLS_WAITING,
     ABORTED_WAITING,
+    /* turns: idle, put back, the last piece; a step's last piece, by where its move stood in line */
+    IDLE_TURNS, IDLE_CHANNELS, PUT_BACK_BEHIND, PUT_BACK_ALONE, LAST_BY_TURN, LAST_OF_FIRST, LAST_BETWEEN, LAST_OF_LAST,
+    /* commands that end with a move in line */
+    FINISHED_IN_LINE, ABORTED_IN_LINE,
     TALLIES
 };
 

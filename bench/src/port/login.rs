@@ -1,5 +1,6 @@
 //! The login: what it refuses, what it rejects, and the port that it makes.
 
+use super::line::Line;
 use super::message;
 use super::request::{u32_at, u64_at};
 use super::{Channel, Port, Refusal};
@@ -105,6 +106,7 @@ impl Channel {
             owed: 0,
             grant_unanswered: false,
             commands: [None; 16],
+            line: Line::EMPTY,
             taken: 0,
         }
     }

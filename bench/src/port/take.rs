@@ -139,10 +139,9 @@ impl Channel {
 
     /// Ends the open commands that the test names.
     fn abort(&mut self, aborted: impl Fn(&Command) -> bool) {
-        for slot in &mut self.commands {
-            if slot.as_ref().is_some_and(&aborted) {
-                *slot = None;
-                self.owed += 1;
+        for slot in 0..MAX_BUFFERS {
+            if self.commands[slot].as_ref().is_some_and(&aborted) {
+                self.end(slot);
             }
         }
     }

@@ -6,7 +6,7 @@ use super::Refusal;
 use crate::search::Search;
 use crate::stateless::room_before;
 
-#[derive(Clone, Copy)]
+#[derive(Clone, Copy, Debug, PartialEq)]
 pub enum Direction {
     Out = 0,
     In = 1,
@@ -172,6 +172,11 @@ impl Transfer {
         self.number += 1;
         self.reached = self.reached.max(self.at);
         Some(piece)
+    }
+
+    /// Whether some of the current move is left.
+    pub fn has_pieces(&self) -> bool {
+        self.at < self.end
     }
 
     /// The operations handed out so far for the current move.

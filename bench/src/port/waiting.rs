@@ -87,8 +87,7 @@ impl Port {
             return Ok(());
         }
         let ucsolnt = command.ucsolnt;
-        channel.commands[slot] = None;
-        channel.owed += 1;
+        channel.end(slot);
         let wrote = message::response_code(buf, ucsolnt, channel.delta(), tag, FIELDS_INVALID);
         Err(Refused { refusal: Refusal::Fields, wrote })
     }

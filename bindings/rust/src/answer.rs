@@ -1,5 +1,6 @@
 //! What the calls on a port answer.
 
+use crate::argument::Direction;
 use crate::message::Message;
 
 /// What [`Port::take`](crate::Port::take) took.
@@ -63,8 +64,22 @@ pub struct Operation {
 pub struct Step {
     /// The next operation of the current move; none where step says done.
     pub operation: Option<Operation>,
-    /// The operations handed out so far for the current move, this one included; 0 before any move. With done it is the
-    /// length of the move's cut list.
+    /// The operations handed out so far for the current move, by steps and by turns, this one included; 0 before any
+    /// move. With done it is the length of the move's cut list.
+    pub number: u32,
+}
+
+/// The next operation of the move whose turn it is, from [`Port::turn`](crate::Port::turn).
+#[derive(Clone, Copy, Debug, PartialEq, Eq, Hash)]
+#[must_use = "an operation that is handed out is to be posted"]
+pub struct Turn {
+    /// Of its command.
+    pub tag: u64,
+    /// Of its move; that of the operation's kind.
+    pub direction: Direction,
+    /// To be posted.
+    pub operation: Operation,
+    /// The operations handed out so far for the move, by steps and by turns, this one included.
     pub number: u32,
 }
 

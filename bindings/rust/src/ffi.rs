@@ -81,6 +81,11 @@ pub fn step(port: &mut Words, store: &Store, tag: u64, direction: u32) -> Outcom
     answered(|answer| unsafe { srp_target_step(port, store, tag, direction, answer) })
 }
 
+pub fn turn(port: &mut Words, store: &Store) -> Outcome {
+    // SAFETY: as said at the top.
+    answered(|answer| unsafe { srp_target_turn(port, store, answer) })
+}
+
 pub fn finish(port: &mut Words, tag: u64, status: u8, sense: &[u8], buf: &mut [u8]) -> Outcome {
     let (to, len) = (buf.as_mut_ptr(), buf.len());
     // SAFETY: as said at the top.

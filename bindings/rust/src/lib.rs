@@ -7,11 +7,13 @@
 //!
 //! An SRP_CMD comes in by [`Port::take`]. Where it then waits for its tables, [`look`] names them; they are fetched while
 //! further messages are taken, and [`Port::tables`] brings them, of one command before or after another. Then come
-//! [`Port::plan`], [`Port::pieces`] for each move of its data, and [`Port::finish`]. A refusal of [`Port::take`] or
-//! [`Port::tables`] that comes with a message carries it: see [`TakeRefusal`] and [`TablesRefusal`]. A [`Step`], and
-//! [`Pieces::number`], tell the operations handed out for a move, each of which needs an adapter slot while it is under
-//! way; [`Settings::boundary`] is for adapters that fail an operation across a multiple of a power of two. [`cut`] is
-//! the cut alone, without a port; [`trace`] writes any message, of either end, as a line for a terminal.
+//! [`Port::plan`], [`Port::pieces`] for each move of its data, and [`Port::finish`]. With many commands open, an owner
+//! may name their moves by [`Port::name_move`] instead, and [`Port::turns`] hands out the operations of all of them,
+//! each move in its turn. A refusal of [`Port::take`] or [`Port::tables`] that comes with a message carries it: see
+//! [`TakeRefusal`] and [`TablesRefusal`]. A [`Step`], a [`Turn`] and [`Pieces::number`] tell the operations handed out
+//! for a move, each of which needs an adapter slot while it is under way; [`Settings::boundary`] is for adapters that
+//! fail an operation across a multiple of a power of two. [`cut`] is the cut alone, without a port; [`trace`] writes
+//! any message, of either end, as a line for a terminal.
 //!
 //! A login; then a command that reads 1,300 bytes to address 1000h, handle 7, in RDMA operations of up to 512 bytes:
 //!
@@ -112,14 +114,16 @@ mod pieces;
 mod port;
 mod refusal;
 mod stateless;
+mod turns;
 
-pub use answer::{Counters, Kind, Operation, Record, Step, Taken};
+pub use answer::{Counters, Kind, Operation, Record, Step, Taken, Turn};
 pub use argument::{Direction, Settings, Tables};
 pub use message::Message;
 pub use pieces::Pieces;
 pub use port::Port;
 pub use refusal::{LoginRefusal, NoRefusal, Refusal, TablesRefusal, TakeRefusal};
 pub use stateless::{cut, look, trace, Fetch, Fetches, Piece, Way};
+pub use turns::Turns;
 
 /// The longest message that a port writes, and the shortest buffer that may be lent for one.
 pub const MESSAGE_BYTES: usize = srp_target_sys::MESSAGE_BYTES;

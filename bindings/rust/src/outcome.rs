@@ -3,7 +3,8 @@
 
 use srp_target_sys::{KIND_COMMAND, KIND_CREDIT_RESPONSE, KIND_LOGOUT, KIND_TASK, RDMA_READ, RDMA_WRITE};
 
-use crate::answer::{Kind, Operation, Step, Taken};
+use crate::answer::{Kind, Operation, Step, Taken, Turn};
+use crate::argument::Direction;
 use crate::ffi::Outcome;
 use crate::message::Message;
 use crate::refusal::Refusal;
@@ -46,7 +47,19 @@ pub fn stepped(outcome: &Outcome) -> Step {
     Step { operation: operation(outcome), number: outcome.words[6] as u32 }
 }
 
-/// The operation of an unrefused step, or none where it says done.
+/// What an unrefused turn handed out, or none where it says idle.
+pub fn turned(outcome: &Outcome) -> Option<Turn> {
+    let [.., number, tag] = outcome.words;
+    operation(outcome).map(|operation| {
+        let direction = match operation.kind {
+            Kind::Read => Direction::Out,
+            Kind::Write => Direction::In,
+        };
+        Turn { tag, direction, operation, number: number as u32 }
+    })
+}
+
+/// The operation of an unrefused step or turn, or none where it says done or idle.
 fn operation(outcome: &Outcome) -> Option<Operation> {
     let [1, kind, handle, address, length, offset, ..] = outcome.words else {
         return None;

@@ -4,11 +4,11 @@ use core::fmt;
 
 use srp_target_sys::{Store, Words, PORT_WORDS, STORE_BYTES};
 
-use crate::answer::{Counters, Record, Step, Taken};
+use crate::answer::{Counters, Record, Step, Taken, Turn};
 use crate::argument::{Direction, Settings, Tables};
 use crate::ffi::{self, Outcome};
 use crate::message::Message;
-use crate::outcome::{checked, stepped, taken, written};
+use crate::outcome::{checked, stepped, taken, turned, written};
 use crate::pieces::Pieces;
 use crate::refusal::{LoginRefusal, Refusal, TablesRefusal, TakeRefusal};
 
@@ -133,10 +133,11 @@ impl Port {
         checked(ffi::plan(&mut self.words, tag, required_out, required_in))
     }
 
-    /// Names a move of an open command: the bytes of a direction that [`Port::step`] hands out next, from `offset` up
-    /// to the smaller of `offset + count`, which does not wrap, and min(R, B). Moves may come in any order, overlap and
-    /// be repeated. With a count of 0, or an offset of min(R, B), a move has no bytes and is lawful. The number of
-    /// operations handed out starts at 0 with each move; one that is refused leaves it.
+    /// Names a move of an open command: the bytes of a direction that [`Port::step`] and [`Port::turn`] hand out next,
+    /// from `offset` up to the smaller of `offset + count`, which does not wrap, and min(R, B). Moves may come in any
+    /// order, overlap and be repeated. With a count of 0, or an offset of min(R, B), a move has no bytes and is lawful;
+    /// any other joins the line of turns. The number of operations handed out starts at 0 with each move; one that is
+    /// refused leaves it.
     ///
     /// # Errors
     /// Refused: 21 closed; 24 tag not open; 33 the command waits for its tables; 29 not planned; 31 `offset` above
@@ -162,8 +163,21 @@ impl Port {
         Ok(stepped(&outcome))
     }
 
+    /// Hands out the next operation of the first move in line, or none where no move has pieces left: idle. A move
+    /// joins the line at its end when it is named. A turn puts it back at the end if pieces remain; a step leaves it
+    /// where it stands, and takes it out with its last piece; both moves of a command leave with its end. At most 32
+    /// are in line: each is served within 32 turns. [`Port::turns`] is an iterator of them.
+    ///
+    /// # Errors
+    /// Refused: 21 closed.
+    pub fn turn(&mut self) -> Result<Option<Turn>, Refusal> {
+        let outcome = ffi::turn(&mut self.words, &self.store);
+        checked(outcome.number)?;
+        Ok(turned(&outcome))
+    }
+
     /// Names a move, and hands out its operations as the iterator is asked for them. One move of offset 0 and count R
-    /// is all of a direction. Dropped early, the iterator leaves the rest to [`Port::step`].
+    /// is all of a direction. Dropped early, the iterator leaves the rest to [`Port::step`] and [`Port::turn`].
     ///
     /// # Errors
     /// As [`Port::name_move`]. After that no step is refused: the iterator has the port to itself.
@@ -256,7 +270,8 @@ impl Port {
     }
 
     /// Lists the open commands, each once, as they were taken, oldest first, with h of each direction; those too that
-    /// wait for their tables. A tag used again counts as taken anew. Returned is the part of `records` that was written; the others are kept.
+    /// wait for their tables. A tag used again counts as taken anew. Returned is the part of `records` that was
+    /// written; the others are kept.
     ///
     /// # Errors
     /// Refused: 21 closed; 11 `records` under [`MOST_BUFFERS`](crate::MOST_BUFFERS).

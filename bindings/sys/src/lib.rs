@@ -58,6 +58,7 @@ extern "C" {
     pub fn srp_target_move(port: *mut Words, tag: u64, direction: u32, offset: u32, count: u32) -> u32;
     pub fn srp_target_step(port: *mut Words, store: *const Store, tag: u64, direction: u32, answer: *mut Answer)
         -> u32;
+    pub fn srp_target_turn(port: *mut Words, store: *const Store, answer: *mut Answer) -> u32;
     pub fn srp_target_finish(
         port: *mut Words,
         tag: u64,

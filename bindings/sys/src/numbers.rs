@@ -1,7 +1,7 @@
 //! The numbers of include/srp_target.h, in its order; tests/rust/tests/header.rs compares them.
 
 // The version of the interface.
-pub const TARGET_VERSION: u32 = 7;
+pub const TARGET_VERSION: u32 = 8;
 
 // Refusals: from the message or the caller.
 pub const REFUSED_SHORT_BUFFER: u32 = 1;
@@ -32,7 +32,7 @@ pub const REFUSED_UNFINISHED: u32 = 32;
 pub const REFUSED_WAITING: u32 = 33;
 
 // Sizes: of a port, of the answers, of lent buffers and lists.
-pub const PORT_WORDS: usize = 528;
+pub const PORT_WORDS: usize = 594;
 pub const STORE_BYTES: usize = 16_384;
 pub const ANSWER_WORDS: usize = 8;
 pub const ANSWER_BYTES: usize = 32;

@@ -44,8 +44,8 @@ pub fn port_words() -> u64 {
     unsafe { srp_target_words() }
 }
 
-/// What a call on a port is lent beside its own arguments: the port's words, its store (take, tables and step), and the
-/// answer words.
+/// What a call on a port is lent beside its own arguments: the port's words, its store (take, tables, step and turn), and
+/// the answer words.
 pub struct Port<'a> {
     words: &'a mut Words,
     store: &'a mut [u8],
@@ -90,6 +90,11 @@ impl<'a> Port<'a> {
     pub fn step(self, tag: u64, direction: u32) -> u32 {
         let store: &Store = (&*self.store).try_into().expect("a store's bytes");
         unsafe { srp_target_step(self.words, store, tag, direction, self.answer) }
+    }
+
+    pub fn turn(self) -> u32 {
+        let store: &Store = (&*self.store).try_into().expect("a store's bytes");
+        unsafe { srp_target_turn(self.words, store, self.answer) }
     }
 
     pub fn finish(self, tag: u64, status: u8, sense: &[u8], buf: &mut [u8]) -> u32 {

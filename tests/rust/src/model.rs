@@ -1,7 +1,7 @@
 //! The port, look and the cut as document 01 states them, and moves, their numbers of operations, boundaries, commands
-//! that wait for their tables and the trace page as document 02 does, in plain Rust. This is written from the documents,
-//! and from nothing of the proved code or its definitions: where the two differ, one of them misreads them. No input
-//! makes it panic.
+//! that wait for their tables, turns and the trace page as document 02 does, in plain Rust. This is written from the
+//! documents, and from nothing of the proved code or its definitions: where the two differ, one of them misreads them.
+//! No input makes it panic.
 
 pub mod channel;
 pub mod command;
@@ -15,6 +15,7 @@ pub mod tables;
 pub mod take;
 pub mod trace;
 pub mod transfer;
+pub mod turns;
 pub mod writing;
 
 pub use channel::{Channel, Port};

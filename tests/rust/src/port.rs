@@ -2,6 +2,7 @@
 
 pub mod both;
 pub mod call;
+pub mod crowd;
 pub mod frame;
 pub mod garbage;
 pub mod generate;

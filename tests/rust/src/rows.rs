@@ -49,6 +49,7 @@ pub const JOB_4: &str = "job4.rows";
 pub const JOB_5: &str = "job5.rows";
 pub const JOB_6: &str = "job6.rows";
 pub const JOB_7: &str = "job7.rows";
+pub const JOB_8: &str = "job8.rows";
 
 /// Runs the rows of look.
 pub fn run_look(through: &str, look: impl Fn(&Look, &mut [u8]) -> u32) {
@@ -65,7 +66,7 @@ pub fn run_look(through: &str, look: impl Fn(&Look, &mut [u8]) -> u32) {
 /// Runs the rows of the cut, of all files that have some.
 pub fn run_cut(through: &str, cut: impl Fn(&Cut, &mut [u8]) -> u32) {
     run(BASE, &[("cut", 267)], through, |words| cut_row(&job::with_no_boundary(words), &cut));
-    for (file, count) in [(JOB_1, 480), (JOB_4, 237), (JOB_5, 230), (JOB_6, 235), (JOB_7, 236)] {
+    for (file, count) in [(JOB_1, 480), (JOB_4, 237), (JOB_5, 230), (JOB_6, 235), (JOB_7, 236), (JOB_8, 250)] {
         run(file, &[("cut", count)], through, |words| {
             let row = job::in_base_words(words);
             cut_row(&row.split(' ').collect::<Vec<&str>>(), &cut)
@@ -84,7 +85,7 @@ fn cut_row(words: &[&str], cut: impl Fn(&Cut, &mut [u8]) -> u32) -> Result<(), S
 
 /// Runs the rows of the trace, which are all of job2.rows and some of job4.rows and those behind it.
 pub fn run_trace(through: &str, trace: impl Fn(&Trace, &mut [u8]) -> u32) {
-    for (file, count) in [(JOB_2, 3000), (JOB_4, 243), (JOB_5, 250), (JOB_6, 245), (JOB_7, 244)] {
+    for (file, count) in [(JOB_2, 3000), (JOB_4, 243), (JOB_5, 250), (JOB_6, 245), (JOB_7, 244), (JOB_8, 230)] {
         run(file, &[("trace", count)], through, |words| trace_row(words, &trace));
     }
 }

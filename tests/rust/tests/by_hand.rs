@@ -1,4 +1,4 @@
-//! P1 to P7 of document 01, and moves of P2's segments and their numbers, with the bytes written out.
+//! P1 to P7 of document 01, and moves of P2's segments, their numbers and turns over them, with the bytes written out.
 
 use srp_tests::interface::Port;
 use srp_tests::port::plain::Plain;
@@ -185,6 +185,11 @@ impl Taken {
         self.0.answer
     }
 
+    fn turn(&mut self) -> [u64; 8] {
+        assert_eq!(self.port().turn(), 0);
+        self.0.answer
+    }
+
     /// h of data-out and of data-in, as they are listed.
     fn listed(&mut self) -> [u64; 2] {
         let mut records = [0; 64];
@@ -270,4 +275,25 @@ fn the_number_handed_out() {
         taken.finish();
         taken.take(); // the tag once more
     }
+}
+
+/// A piece of a turn has the tag behind its number.
+fn of_turn(piece: [u64; 8]) -> [u64; 8] {
+    std::array::from_fn(|at| if at == 7 { TAG } else { piece[at] })
+}
+
+/// Both directions in line, in the order named; a step between counts in the same number and keeps the place.
+#[test]
+fn both_directions_in_line() {
+    let mut taken = Taken::new();
+    assert_eq!((taken.turn(), taken.port().plan(TAG, 700, 700), taken.turn()), ([0; 8], 0, [0; 8]), "no move");
+    assert_eq!((taken.name(OUT, 0, 0), taken.turn()), (0, [0; 8]), "an empty one");
+    assert_eq!([taken.name(IN, 50, 650), taken.name(OUT, 0, 600)], [0, 0]);
+    assert_eq!(taken.turn(), of_turn(write(0x3032, 512, 50, 1)));
+    assert_eq!((taken.step(OUT), taken.listed()), (read(0x3000, 512, 0, 1), [512, 562]));
+    assert_eq!(taken.turn(), of_turn(read(0x3200, 88, 512, 2)), "where it stood, and its last");
+    assert_eq!((taken.turn(), taken.name(OUT, 0, 1)), (of_turn(write(0x3232, 38, 562, 2)), 0));
+    assert_eq!((taken.name(IN, 0, 1), taken.turn()), (32, of_turn(write(0x5000, 100, 600, 3))));
+    assert_eq!([taken.turn(), taken.turn()], [of_turn(read(0x3000, 1, 0, 1)), [0; 8]]);
+    assert_eq!((taken.step(OUT), taken.step(IN), taken.listed()), (done(1), done(3), [600, 700]));
 }

@@ -4,7 +4,7 @@ use std::collections::BTreeSet;
 
 use srp_tests::interface::PORT_WORDS;
 use srp_tests::model::MemoryDescriptor;
-use srp_tests::port::garbage::{Garbage, InMemory};
+use srp_tests::port::garbage::{line, Garbage, InMemory};
 use srp_tests::port::generate::{command, Data, Generator};
 use srp_tests::port::plain::{fetched, login, open};
 use srp_tests::port::{kinds, library::Library, Call, Target};
@@ -28,6 +28,8 @@ fn any_words_are_a_port() {
     garbage.pieces.assert_each(100, &PIECES);
     garbage.tables.print("garbage, tables by their command's words");
     garbage.tables.assert_each(100, &TABLES);
+    garbage.line.print_as("garbage, the line by its words", "changes");
+    garbage.line.assert_each(50, &line::KINDS);
     // Every outcome but those of login, which uses nothing of the words.
     let of_words: Vec<&str> = kinds::OUTCOMES.into_iter().filter(|outcome| !outcome.starts_with("login")).collect();
     garbage.tally.assert_at_least(10, &of_words);

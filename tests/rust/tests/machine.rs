@@ -3,7 +3,7 @@
 use srp_tests::port::{library::Library, machine::Machine};
 use srp_tests::position;
 
-const STATES: [&str; 29] = [
+const STATES: [&str; 39] = [
     "16 commands open",
     "SRP_CRED_REQ lifts 1",
     "SRP_CRED_REQ lifts more",
@@ -24,19 +24,29 @@ const STATES: [&str; 29] = [
     "from a boundary to the next",
     "h above the bytes handed out",
     "h below the bytes handed out",
+    "idle, none open",
+    "idle, some open",
+    "last by a step, between others",
+    "last by a step, first",
+    "last by a step, last",
     "move after operations",
     "move after operations, refused",
     "no boundary",
     "owed 0",
     "owed above 0",
     "owed below 0",
+    "served alone, its last",
+    "served alone, put back",
+    "served before its place",
+    "served before others, its last",
+    "served before others, put back",
     "tables before those of an older one",
     "tables of the oldest that waits",
     "up to 2^64, with a boundary",
 ];
 
 /// Events that come up whatever the initiator does.
-const EVENTS: [&str; 62] = [
+const EVENTS: [&str; 65] = [
     "add: done",
     "add: refused 11",
     "add: refused 28",
@@ -96,6 +106,9 @@ const EVENTS: [&str; 62] = [
     "take: task, code 0",
     "take: task, code 2",
     "take: task, code 4",
+    "turn: RDMA Read",
+    "turn: RDMA Write",
+    "turn: idle",
     "withdraw: done",
     "withdraw: refused 11",
     "withdraw: refused 28",
@@ -125,6 +138,7 @@ fn run(name: &str, seed: u64, fair: bool, count: u64, events: &[&str], states: &
     machine.events.print_as(name, "events");
     machine.states.print_as(name, "states");
     machine.lines.print_as(name, "lines");
+    println!("{name}: longest wait in line {} turns", machine.longest_wait);
     machine.events.assert_each(12, &[&EVENTS[..], events].concat());
     machine.states.assert_each(12, &[&STATES[..], &position::KINDS, states].concat());
     machine.lines.assert_each(12, &LINES);
@@ -132,11 +146,27 @@ fn run(name: &str, seed: u64, fair: bool, count: u64, events: &[&str], states: &
 
 #[test]
 fn a_fair_initiator() {
-    run("machine, a fair initiator", 17, true, 240_000, &[], &[]);
+    run("machine, a fair initiator", 19, true, 240_000, &[], &[]);
 }
 
 #[test]
 fn an_initiator_below_its_limit() {
     let unfair = ["send: a request below a limit of 1", "take: refused 22", "take: refused 25"];
     run("machine, an initiator below its limit", 12, false, 180_000, &unfair, &["limit below 0"]);
+}
+
+/// 32 moves of very unlike length in line: the longest wait is as long as it may be, and each event asserts that none is
+/// longer.
+#[test]
+fn thirty_two_moves_in_line() {
+    let mut machine = Machine::new(Library::new(18), 18);
+    for _ in 0..60 {
+        machine.crowded(600);
+    }
+    machine.events.print_as("machine, 32 moves in line", "events");
+    machine.states.print_as("machine, 32 moves in line", "states");
+    let pieces = ["turn: RDMA Read", "turn: RDMA Write", "step: RDMA Read", "step: RDMA Write"];
+    machine.events.assert_at_least(1_000, &pieces);
+    machine.states.assert_at_least(100, &["served before its place", "last by a step, between others"]);
+    assert_eq!(machine.longest_wait, 32, "turns");
 }

@@ -20,7 +20,7 @@ fn words_of_a_port() {
 fn generated_calls() {
     let mut random = Random::new(0x5350_5233);
     let mut ports = [1, 2, 3].map(SideBySide::new);
-    for _ in 0..400_000 {
+    for _ in 0..600_000 {
         ports[random.below(3)].call();
     }
     let (mut outcomes, mut features) = (Tally::default(), Tally::default());
@@ -31,8 +31,9 @@ fn generated_calls() {
     outcomes.print("port, generated calls");
     features.print_as("port, generated calls", "kinds of them");
     outcomes.assert_each(40, &kinds::OUTCOMES);
-    let kinds = [&kinds::FEATURES[..], &kinds::moves::FEATURES, &kinds::logins::FEATURES, &kinds::tables::FEATURES];
-    features.assert_each(40, &[&kinds.concat()[..], &position::KINDS].concat());
+    let of_calls = [&kinds::moves::FEATURES[..], &kinds::logins::FEATURES, &kinds::tables::FEATURES];
+    let kinds = [&kinds::FEATURES[..], &of_calls.concat(), &kinds::turns::FEATURES, &position::KINDS];
+    features.assert_each(40, &kinds.concat());
 }
 
 /// Data-in of 600 and 100 bytes, of which 650 are required: min(R, B) is 650.

@@ -48,3 +48,8 @@ fn boundary_rows() {
 fn waiting_rows() {
     port::rows::run_job_7(&mut Library::new(1), "the C interface");
 }
+
+#[test]
+fn turn_rows() {
+    port::rows::run_job_8(&mut Library::new(1), "the C interface");
+}

@@ -33,6 +33,7 @@ fn main() {
         }
         machine.list(true, 500);
         machine.list(false, 500);
+        machine.crowded(200);
     }
     looks.print("look");
     cuts.print("cut");

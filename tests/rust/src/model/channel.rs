@@ -5,6 +5,7 @@ use std::ops::Range;
 use super::command::Request;
 use super::cutting::sum_of_lengths;
 use super::descriptors::Descriptor;
+use super::turns::Line;
 use super::Refusal;
 use crate::limits::Limits;
 
@@ -22,6 +23,8 @@ pub struct Channel {
     pub unanswered: bool,
     /// In the order of taking.
     pub commands: Vec<OpenCommand>,
+    /// The moves with pieces, as turns serve them.
+    pub line: Line,
 }
 
 /// What the login settled for good.

@@ -2,6 +2,7 @@
 
 use super::channel::{Agreement, Channel, Credit, Port};
 use super::cutting::are_lawful;
+use super::turns::Line;
 use super::writing::{login_rejection, login_response, write, Answer, LENT_BYTES};
 use super::{number, Refusal};
 use crate::limits::Limits;
@@ -139,6 +140,7 @@ impl Channel {
             credit: Credit::after_login(settings.n),
             unanswered: false,
             commands: Vec::new(),
+            line: Line::new(),
         }
     }
 }

@@ -36,6 +36,7 @@ impl Port {
             let place = channel.place_of(tag).ok_or(Refusal::TagNotOpen)?;
             channel.commands[place].refused_while_waiting()?;
             let command = channel.commands.remove(place);
+            channel.leave_with_commands();
             channel.credit.request_ends();
             let delta = channel.credit.carry_delta();
             let residuals = [Residual::of(&command.data_out), Residual::of(&command.data_in)];

@@ -34,6 +34,7 @@ impl Channel {
         let [out, inn] = tables;
         if data_out.bad_field(out).is_some() || data_in.bad_field(inn).is_some() {
             self.commands.remove(place);
+            self.leave_with_commands();
             return Ok(Some(self.answer_with_code(&request, 0x02)));
         }
         // Its place among the others stays: its age counts from its taking.

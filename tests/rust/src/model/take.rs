@@ -158,6 +158,7 @@ impl Channel {
     fn abort(&mut self, aborted: impl Fn(&Request) -> bool) {
         let before = self.commands.len();
         self.commands.retain(|command| !aborted(&command.request));
+        self.leave_with_commands();
         for _ in self.commands.len()..before {
             self.credit.request_ends();
         }

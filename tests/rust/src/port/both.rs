@@ -3,6 +3,7 @@
 use super::call::{Call, Outcome, Target};
 use super::frame::Memory;
 use super::library::Library;
+use super::slots;
 use crate::model;
 
 pub struct Both {
@@ -43,7 +44,7 @@ impl Both {
 }
 
 impl Target for Both {
-    /// The outcome of both. Panics where they differ, or where afterwards the counters or the listing do.
+    /// The outcome of both. Panics where they differ, or where afterwards the counters, the listing or the line do.
     fn call(&mut self, call: &Call) -> Outcome {
         let outcome = self.compare(call);
         let counters = self.compare(&Call::Counters);
@@ -51,6 +52,8 @@ impl Target for Both {
         let records = (1..=self.words as u64).map(|word| word << 32 | word).collect();
         let listed = self.compare(&Call::List { records });
         assert_eq!(counters.answer[2], listed.answer[0], "H, and how many are listed");
+        let line = self.model.channel.iter().flat_map(|channel| channel.line.clone()).collect::<Vec<_>>();
+        assert_eq!(slots::line(&self.library.memory), line, "the line after {call:02x?}");
         outcome
     }
 }

@@ -13,6 +13,7 @@ pub enum Call {
     Plan { tag: u64, r_out: u32, r_in: u32 },
     Move { tag: u64, direction: u32, offset: u32, count: u32 },
     Step { tag: u64, direction: u32 },
+    Turn,
     Finish { tag: u64, status: u8, sense: Vec<u8>, buf: Vec<u8> },
     Add { k: u32 },
     Withdraw { k: u32 },
@@ -67,6 +68,7 @@ impl Call {
             Call::Plan { .. } => "plan",
             Call::Move { .. } => "move",
             Call::Step { .. } => "step",
+            Call::Turn => "turn",
             Call::Finish { .. } => "finish",
             Call::Add { .. } => "add",
             Call::Withdraw { .. } => "withdraw",
@@ -131,7 +133,7 @@ impl Call {
 
     /// Whether the store is lent with the call.
     pub fn has_store(&self) -> bool {
-        matches!(self, Call::Take { .. } | Call::Tables { .. } | Call::Step { .. })
+        matches!(self, Call::Take { .. } | Call::Tables { .. } | Call::Step { .. } | Call::Turn)
     }
 
     /// The call on the library; `lent` holds what the call has of it.
@@ -146,6 +148,7 @@ impl Call {
             Call::Plan { tag, r_out, r_in } => port.plan(tag, r_out, r_in),
             Call::Move { tag, direction, offset, count } => port.name_move(tag, direction, offset, count),
             Call::Step { tag, direction } => port.step(tag, direction),
+            Call::Turn => port.turn(),
             Call::Finish { tag, status, .. } => port.finish(tag, status, lent.input, lent.buf),
             Call::Add { k } => port.add(k),
             Call::Withdraw { k } => port.withdraw(k),
@@ -169,6 +172,7 @@ impl Target for model::Port {
             Call::Plan { tag, r_out, r_in } => self.plan(*tag, *r_out, *r_in),
             Call::Move { tag, direction, offset, count } => self.name_move(*tag, *direction, *offset, *count),
             Call::Step { tag, direction } => self.step(*tag, *direction, &mut answer),
+            Call::Turn => self.turn(&mut answer),
             Call::Finish { tag, status, sense, .. } => self.finish(*tag, *status, sense, &mut buf, &mut answer),
             Call::Add { k } => self.add(*k),
             Call::Withdraw { k } => self.withdraw(*k),

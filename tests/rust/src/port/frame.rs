@@ -84,11 +84,12 @@ fn writes_lawfully(call: &Call, outcome: &Outcome, words: &[u64], [before, after
     }
 }
 
-/// Calls that leave the port as it was where they are not refused: the two that only read, and a step that says done.
+/// Calls that leave the port as it was where they are not refused: the two that only read, a step that says done, and a
+/// turn that says idle.
 fn only_reads(call: &Call, outcome: &Outcome) -> bool {
     match call {
         Call::Counters | Call::List { .. } => true,
-        Call::Step { .. } => outcome.answer[0] == 0,
+        Call::Step { .. } | Call::Turn => outcome.answer[0] == 0,
         _ => false,
     }
 }

@@ -1,6 +1,7 @@
 //! Calls on words that no login made. "The calls are total: any words are a port": each returns, and what `frame` says
 //! holds; the numbers that are read lie in document 01's ranges.
 
+pub mod line;
 mod waiting;
 
 use super::call::{Call, Outcome, Target};
@@ -9,6 +10,7 @@ use super::generate::Generator;
 use super::heap::Heap;
 use super::kinds;
 use super::library::Library;
+use super::slots;
 use crate::generate::{boundary, is_boundary};
 use crate::model;
 use crate::random::Random;
@@ -46,6 +48,8 @@ pub struct Garbage<T> {
     pub pieces: Tally,
     /// Tables, by what the words of their command's slot say.
     pub tables: Tally,
+    /// What befell the line.
+    pub line: Tally,
 }
 
 impl<T: InMemory> Garbage<T> {
@@ -58,6 +62,7 @@ impl<T: InMemory> Garbage<T> {
             tally: Tally::default(),
             pieces: Tally::default(),
             tables: Tally::default(),
+            line: Tally::default(),
         }
     }
 
@@ -65,12 +70,13 @@ impl<T: InMemory> Garbage<T> {
     pub fn round(&mut self) {
         self.make_port();
         for _ in 0..16 {
-            let call = match self.random.one_in(10) {
-                true => waiting::tables(&mut self.random, self.target.memory()),
-                false => self.generator.call(&self.guide),
+            let call = match self.random.below(30) {
+                0..=2 => waiting::tables(&mut self.random, self.target.memory()),
+                3..=9 => Call::Turn,
+                _ => self.generator.call(&self.guide),
             };
             let expected = waiting::expected(&call, self.target.memory());
-            let outcome = self.target.call(&call);
+            let outcome = self.judged_by_line(&call);
             if let Some((refusal, kind)) = expected {
                 assert_eq!(outcome.returned, refusal, "{kind}: {call:02x?}");
                 self.tables.add(kind);
@@ -83,6 +89,43 @@ impl<T: InMemory> Garbage<T> {
                 return;
             }
         }
+    }
+
+    /// Makes a call; the line is as the words before it say. What a turn hands out, a step would have.
+    fn judged_by_line(&mut self, call: &Call) -> Outcome {
+        let before = self.target.memory().clone();
+        let stepped = match call {
+            Call::Turn => self.stepped_instead(),
+            _ => None,
+        };
+        let outcome = self.target.call(call);
+        let after = self.target.memory().clone();
+        let (line, kinds) = line::expected(call, &outcome, [&before, &after]);
+        assert_eq!(slots::line(&after), line, "{call:02x?}\n{outcome:02x?}");
+        kinds.into_iter().for_each(|kind| self.line.add(kind));
+        if let (Call::Turn, 0) = (call, outcome.returned) {
+            let mut expected = [0; 8];
+            if let Some((stepped, memory, slot)) = stepped {
+                if stepped.answer[0] == 1 {
+                    expected = stepped.answer;
+                    expected[7] = slots::tag(&before, slot);
+                    assert!(line::same_slot(&memory, &after, slot), "the slot after a turn\n{outcome:x?}");
+                }
+            }
+            assert_eq!(outcome.answer, expected, "a turn beside a step");
+        }
+        outcome
+    }
+
+    /// What a step gives where the next turn's move is, what it leaves, and the command's slot; the target's memory is
+    /// as it was.
+    fn stepped_instead(&mut self) -> Option<(Outcome, Memory, usize)> {
+        let before = self.target.memory().clone();
+        let (step, ready, slot) = line::step_instead(&before)?;
+        *self.target.memory() = ready;
+        let stepped = self.target.call(&step);
+        let left = std::mem::replace(self.target.memory(), before);
+        Some((stepped, left, slot))
     }
 
     fn make_port(&mut self) {
@@ -113,6 +156,9 @@ impl<T: InMemory> Garbage<T> {
         if random.one_in(5) {
             waiting::write_words(random, memory);
         }
+        if random.one_in(2) {
+            line::write_words(random, memory);
+        }
     }
 
     /// An open port, as some calls after a login leave it.
@@ -140,10 +186,15 @@ impl<T: InMemory> Garbage<T> {
             };
             assert_eq!(outcome.answer[0], length, "{call:02x?}\n{outcome:02x?}");
         }
-        if let (Call::Step { direction, .. }, [1, operation, _, address, length, offset, number, _]) =
+        if let (Call::Step { .. } | Call::Turn, [1, operation, _, address, length, offset, number, _]) =
             (call, outcome.answer)
         {
-            assert_eq!(operation, if *direction == 0 { 1 } else { 2 }, "RDMA Read or Write");
+            let lawful = match call {
+                Call::Step { direction: 0, .. } => operation == 1,
+                Call::Step { .. } => operation == 2,
+                _ => [1, 2].contains(&operation),
+            };
+            assert!(lawful, "RDMA Read or Write");
             assert!((1..=1_048_576).contains(&length), "a piece of {length} bytes");
             // Each operation before it had a byte below its offset.
             assert!((1..=offset + 1).contains(&number), "{number} operations up to a piece at {offset}");

@@ -21,6 +21,8 @@ pub use message::{command, request_with, Sent};
 enum Manner {
     /// Requests only with credit and with a tag of their own; few faults: many commands are open at a time.
     Careful,
+    /// As careful, and moves are named wherever one can be: many are in line.
+    Busy,
     /// Anything.
     Wild,
 }
@@ -80,14 +82,14 @@ impl Generator {
     }
 
     pub fn login(&mut self) -> Call {
-        self.manner = self.random.of(&[Manner::Careful, Manner::Wild]);
+        self.manner = self.random.of(&[Manner::Careful, Manner::Careful, Manner::Busy, Manner::Wild, Manner::Wild]);
         login::login(&mut self.random)
     }
 
     /// A call that draws 21, or 1.
     fn call_on_closed(&mut self) -> Call {
         let random = &mut self.random;
-        match random.below(12) {
+        match random.below(13) {
             0 => message::any(random),
             1 => Call::Plan { tag: random.of(&TAGS), r_out: random.any_size(), r_in: random.any_size() },
             2 => Call::Step { tag: random.of(&TAGS), direction: random.any_size() },
@@ -101,6 +103,7 @@ impl Generator {
                 Call::Move { tag: random.of(&TAGS), direction: random.any_size(), offset: 0, count: random.any_size() }
             }
             10 => Call::Tables { tag: random.of(&TAGS), tables: Default::default(), buf: buffer(random) },
+            11 => Call::Turn,
             _ => Call::List { records: record_list(random) },
         }
     }
@@ -110,10 +113,13 @@ impl Generator {
         if random.one_in(60) {
             self.manner = Manner::Wild; // with what a careful manner has made of the port
         }
-        let careful = self.manner == Manner::Careful;
+        let careful = self.manner != Manner::Wild;
+        if self.manner == Manner::Busy && channel.commands.len() > 2 && random.one_in(2) {
+            return owner::busy(random, channel);
+        }
         // Without an open command mostly a request comes next.
         let nothing_open = channel.commands.is_empty() && random.one_in(2);
-        match if nothing_open { 0 } else { random.below(110) } {
+        match if nothing_open { 0 } else { random.below(124) } {
             // A careful initiator without credit sends no request.
             0..=29 if careful && channel.credit.announced == 0 => owner::step(random, channel),
             0..=29 => {
@@ -122,6 +128,7 @@ impl Generator {
                 Call::Take { msg, buf: buffer(random) }
             }
             100..=109 => tables::tables(random, channel, &self.memory),
+            110..=123 => owner::turn(random, channel),
             30..=35 => message::other(random, channel, careful),
             36..=43 => owner::plan(random, channel),
             44..=53 => owner::name_move(random, channel),

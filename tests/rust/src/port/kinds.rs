@@ -4,12 +4,13 @@ pub mod logins;
 mod messages;
 pub mod moves;
 pub mod tables;
+pub mod turns;
 
 use super::call::{Call, Outcome};
 use crate::model::{number, Channel, Port};
 
 /// The outcomes that calls have, one a call: a refusal, or what the call gave.
-pub const OUTCOMES: [&str; 82] = [
+pub const OUTCOMES: [&str; 86] = [
     "login: accepted",
     "login: rejected 10000",
     "login: rejected 10002",
@@ -65,6 +66,10 @@ pub const OUTCOMES: [&str; 82] = [
     "step: refused 24",
     "step: refused 29",
     "step: refused 33",
+    "turn: RDMA Read",
+    "turn: RDMA Write",
+    "turn: idle",
+    "turn: refused 21",
     "finish: done",
     "finish: refused 1",
     "finish: refused 11",
@@ -107,14 +112,16 @@ pub fn outcome(call: &Call, outcome: &Outcome) -> String {
         (Call::Take { .. }, [_, 2, ..]) => format!("take: task, code {:x}", outcome.buf[39]),
         (Call::Take { .. }, [_, 3, ..]) => "take: credit response".into(),
         (Call::Take { .. }, [_, 4, ..]) => "take: logout".into(),
-        (Call::Step { .. }, [1, 1, ..]) => "step: RDMA Read".into(),
-        (Call::Step { .. }, [1, 2, ..]) => "step: RDMA Write".into(),
+        (Call::Step { .. } | Call::Turn, [1, 1, ..]) => format!("{name}: RDMA Read"),
+        (Call::Step { .. } | Call::Turn, [1, 2, ..]) => format!("{name}: RDMA Write"),
+        (Call::Turn, _) => "turn: idle".into(),
         _ => format!("{name}: done"),
     }
 }
 
 /// Further kinds, several a call: what a command was like, why it was refused, what a message says. `moves` has those
-/// of move and step, `logins` those of a login's boundary, `tables` those of tables and of bad fields.
+/// of move and step, `logins` those of a login's boundary, `tables` those of tables and of bad fields, `turns` those of
+/// the line.
 pub const FEATURES: [&str; 62] = [
     "SRP_CRED_REQ, delta above 1",
     "SRP_CRED_REQ, delta 1",
@@ -192,6 +199,7 @@ pub fn features(call: &Call, outcome: &Outcome, before: &Port) -> Vec<String> {
         }
     }
     found.extend(before.channel.iter().flat_map(|channel| tables::features(call, outcome, channel)));
+    found.extend(before.channel.iter().flat_map(|channel| turns::features(call, outcome, channel)));
     if let (Call::Move { tag, .. } | Call::Step { tag, .. }, Some(channel)) = (call, &before.channel) {
         let command = channel.place_of(*tag).map(|place| &channel.commands[place]);
         let limits = channel.agreement.limits;

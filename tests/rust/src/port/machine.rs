@@ -2,17 +2,20 @@
 //! the events' arguments, the calls' refusals and the messages written; of the port's state it is given D alone, as
 //! owed". Its own counts say what each message lifts, which operations are handed out and how many of a move, and which
 //! call is refused for what went before; what is in a command it reads with the model (`expected`). Its own list of the
-//! commands that were open says in which order they are listed. "The new call is an event of demand 3": tables are
-//! brought for any command at any time (`tables`). All of it is asserted of each event, as demand 3 has it, and so is
-//! the type of the message that is written. Each message sent is traced too (`lines`).
+//! commands that were open says in which order they are listed, and its own line which move a turn serves (`turns`).
+//! "The new call is an event of demand 3": tables are brought for any command at any time (`tables`). "Turns are events
+//! of demand 3 too". All of it is asserted of each event, as demand 3 has it, and so is the type of the message that is
+//! written. Each message sent is traced too (`lines`).
 
 mod ends;
 mod expected;
 mod initiator;
 mod lines;
+mod moves;
 mod owner;
 mod pieces;
 mod tables;
+mod turns;
 
 use super::call::{Call, Outcome, Target};
 use super::kinds;
@@ -30,6 +33,8 @@ pub struct Machine<T> {
     pub events: Tally,
     /// What the events came to.
     pub states: Tally,
+    /// The most turns that a move in line was served after, that turn included.
+    pub longest_wait: u64,
     /// The lines of the messages sent, by their way and name, and the memory that they are made in.
     pub lines: Tally,
     memory: Memory,
@@ -51,6 +56,7 @@ impl<T: Target> Machine<T> {
             ends: Ends::default(),
             events: Tally::default(),
             states: Tally::default(),
+            longest_wait: 0,
             lines: Tally::default(),
             memory: Memory::default(),
         }
@@ -71,8 +77,9 @@ impl<T: Target> Machine<T> {
     }
 
     fn event(&mut self) -> Channel {
-        match self.random.below(108) {
-            100.. => self.bring(),
+        match self.random.below(120) {
+            108.. => self.turn(),
+            100..=107 => self.bring(),
             0..=22 => self.send(),
             23..=37 => self.deliver(),
             38..=56 => return self.take(),

@@ -1,11 +1,10 @@
 //! The rows of tests/rows that are calls on a port.
 
+mod answers;
 mod counts;
 mod earlier;
 
 use super::call::{Call, Outcome, Restore, UNWRITTEN};
-use crate::model::number as field;
-use crate::model::writing::Answer;
 use crate::rows::{self, bytes, job, long, number};
 use crate::tally::Tally;
 
@@ -44,6 +43,10 @@ pub fn run_job_6(target: &mut impl Restore, through: &str) {
 
 pub fn run_job_7(target: &mut impl Restore, through: &str) {
     run_job(rows::JOB_7, &counts::JOB_7, 7, target, through).assert_lent([0; 4]);
+}
+
+pub fn run_job_8(target: &mut impl Restore, through: &str) {
+    run_job(rows::JOB_8, &counts::JOB_8, 8, target, through).assert_lent([0; 4]);
 }
 
 /// Runs the rows of a job's file in their order. A session begins with a closed port.
@@ -88,7 +91,7 @@ impl<T: Restore> Reader<'_, T> {
     fn judge(&mut self, words: &[&str]) -> Result<(Call, u32), String> {
         let equals = words.iter().position(|&word| word == "=").expect("an answer");
         let (call, answer) = (read_call(&words[..equals]), &words[equals + 1..]);
-        let mut expected = read_outcome(&call, answer);
+        let mut expected = answers::read(&call, answer);
         let mut outcome = match words {
             ["take", _, out, inn, ..] if self.level < 7 => {
                 earlier::take(self.target, &call, [bytes(out), bytes(inn)], &mut self.lent)
@@ -151,6 +154,7 @@ fn read_call(words: &[&str]) -> Call {
             Call::Move { tag: long(tag), direction: direction(way), offset: number(offset), count: number(count) }
         }
         ["step", tag, way] => Call::Step { tag: long(tag), direction: direction(way) },
+        ["turn"] => Call::Turn,
         ["finish", tag, status, sense, length, fill] => {
             Call::Finish { tag: long(tag), status: number(status) as u8, sense: bytes(sense), buf: lent(length, fill) }
         }
@@ -161,80 +165,6 @@ fn read_call(words: &[&str]) -> Call {
         ["list", records] => Call::List { records: vec![UNWRITTEN[0]; 4 * number(records) as usize] },
         ["counters"] => Call::Counters,
         _ => panic!("not a call: {words:?}"),
-    }
-}
-
-/// What the row says of the call: "after the call the lent buffer must hold WRITTEN from byte 0 on, and FILL in every
-/// other byte".
-fn read_outcome(call: &Call, words: &[&str]) -> Outcome {
-    let (mut buf, mut records) = (call.buf().to_vec(), call.records().to_vec());
-    let mut answer: Answer = if call.has_answer() { [0; 8] } else { UNWRITTEN };
-    let mut write = |written: &str| {
-        let written = bytes(written);
-        buf[..written.len()].copy_from_slice(&written);
-        written.len() as u64
-    };
-    let mut returned = 0;
-    match (call, words) {
-        (_, ["refused", n]) => returned = signed(n) as u32,
-        (_, ["refused", n, written]) => {
-            returned = signed(n) as u32;
-            answer[0] = write(written);
-        }
-        (Call::Login { .. }, ["accepted", written]) => answer[0] = write(written),
-        (Call::Login { .. }, ["rejected", reason, written]) => {
-            answer = [write(written), long(reason), 0, 0, 0, 0, 0, 0];
-        }
-        (Call::Take { msg, .. }, [kind, fields @ .., written]) => {
-            answer = take_answer(msg, kind, fields);
-            answer[0] = write(written);
-        }
-        (Call::Step { .. }, words) => answer = step_answer(words),
-        (Call::Counters, ["ok", counts @ ..]) => {
-            answer.iter_mut().zip(counts).for_each(|(word, count)| *word = signed(count) as u64);
-        }
-        (Call::List { .. }, ["ok", count, listed @ ..]) => {
-            answer[0] = long(count);
-            let fields = listed.iter().flat_map(|record| record.split(':')).map(long);
-            records.iter_mut().zip(fields).for_each(|(word, field)| *word = field);
-        }
-        (_, ["ok", written]) => answer[0] = write(written),
-        (_, ["ok"]) => {}
-        _ => panic!("not an answer: {words:?}"),
-    }
-    Outcome { returned, answer, buf, records }
-}
-
-/// `command TAG LUN CDB_OFFSET CDB_LENGTH`, and but for base.rows whether it waits; of a task request the tag and the
-/// LUN are the message's.
-fn take_answer(msg: &[u8], kind: &str, fields: &[&str]) -> Answer {
-    match (kind, fields) {
-        ("command", [tag, lun, at, length]) | ("command", [tag, lun, at, length, "ready"]) => {
-            [0, 1, long(tag), long(lun), long(at), long(length), 0, 0]
-        }
-        ("command", [tag, lun, at, length, "waiting"]) => [0, 1, long(tag), long(lun), long(at), long(length), 1, 0],
-        ("task", []) => [0, 2, field(&msg[8..16]), field(&msg[20..28]), 0, 0, 0, 0],
-        ("credit", []) => [0, 3, 0, 0, 0, 0, 0, 0],
-        ("logout", []) => [0, 4, 0, 0, 0, 0, 0, 0],
-        _ => panic!("not an answer of take: {kind} {fields:?}"),
-    }
-}
-
-/// A decimal number that may have a minus sign.
-fn signed(word: &str) -> i64 {
-    word.parse().expect("a decimal number")
-}
-
-/// base.rows has no number; it is read as 0.
-fn step_answer(words: &[&str]) -> Answer {
-    let said = |number: &[&str]| number.first().map_or(0, |number| long(number));
-    match words {
-        ["piece", kind @ ("R" | "W"), handle, address, length, offset, number @ ..] if number.len() < 2 => {
-            let operation = if *kind == "R" { 1 } else { 2 };
-            [1, operation, long(handle), long(address), long(length), long(offset), said(number), 0]
-        }
-        ["done", number @ ..] if number.len() < 2 => [0, 0, 0, 0, 0, 0, said(number), 0],
-        _ => panic!("not an answer of step: {words:?}"),
     }
 }
 
@@ -270,5 +200,10 @@ mod tests {
     #[test]
     fn waiting_rows() {
         super::run_job_7(&mut model::Port::default(), "the model");
+    }
+
+    #[test]
+    fn turn_rows() {
+        super::run_job_8(&mut model::Port::default(), "the model");
     }
 }

@@ -1,8 +1,9 @@
-//! The words of a command's slot that say whether it waits for its tables, and what these are judged by; for ports whose
-//! words no login made.
+//! The words of a port that say whether a command waits for its tables, and what these are judged by; where a move is;
+//! and which moves are in line. For ports whose words no login made, too.
 
 use super::frame::Memory;
 use crate::model::descriptors::{Descriptor, Table};
+use crate::model::turns::Place;
 use crate::model::MemoryDescriptor;
 
 /// Words before the slots, and of a slot.
@@ -13,12 +14,24 @@ const SLOT: usize = 32;
 const OPEN: usize = 0;
 const HELD: usize = 1;
 
-/// Of a slot: the tag; the place in the store, by its lowest 4 bits; odd where the command waits; and each way format,
+/// Of a slot: the tag, the LUN, odd where it is planned; the place in the store, by its lowest 4 bits; odd where the command waits; and each way format,
 /// count, table length and total length.
 const TAG: usize = 0;
+const LUN: usize = 1;
+pub const PLANNED: usize = 4;
 pub const PLACE: usize = 5;
 pub const WAITS: usize = 20;
 pub const DIRECTIONS: [usize; 2] = [21, 25];
+
+/// Of a slot each way: the offset of the move's next byte and that of its end, each modulo 2^32.
+pub const MOVES: [[usize; 2]; 2] = [[10, 11], [17, 18]];
+
+/// Of the line: where it begins, modulo 32, and how many moves are in it, 32 at most; then the ring of 32 places, a tag
+/// and a direction each, odd for data-in.
+pub const FIRST: usize = 528;
+pub const COUNT: usize = 529;
+const RING: usize = 530;
+pub const MOST_IN_LINE: usize = 32;
 
 /// Bytes of a place in the store, of which the second half is for data-in.
 const PLACE_BYTES: usize = 1024;
@@ -49,6 +62,30 @@ pub fn shares_a_place(words: &[u64]) -> bool {
 
 pub fn tag(memory: &Memory, slot: usize) -> u64 {
     word(memory, slot, TAG)
+}
+
+pub fn lun(memory: &Memory, slot: usize) -> u64 {
+    word(memory, slot, LUN)
+}
+
+/// Whether the move of a direction, 0 out and 1 in, has pieces left.
+pub fn has_pieces(memory: &Memory, slot: usize, direction: usize) -> bool {
+    let [next, end] = MOVES[direction].map(|at| word(memory, slot, at) as u32);
+    next < end
+}
+
+/// Where a place of the ring has its tag; the direction stands behind it.
+pub fn ring(place: usize) -> usize {
+    RING + 2 * (place % MOST_IN_LINE)
+}
+
+/// The moves in line, the next one first; none where the port is closed.
+pub fn line(memory: &Memory) -> Vec<Place> {
+    let words = &memory.words;
+    let (first, count) = (words[FIRST] % MOST_IN_LINE as u64, words[COUNT].min(MOST_IN_LINE as u64));
+    let count = if words[OPEN] % 2 == 1 { count } else { 0 };
+    let places = (0..count as usize).map(|at| ring(first as usize + at));
+    places.map(|at| Place { tag: words[at], direction: (words[at + 1] % 2) as u32 }).collect()
 }
 
 /// The first slot in use with that tag.

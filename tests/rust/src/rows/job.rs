@@ -3,7 +3,7 @@
 
 use super::long;
 
-/// The same row without what jobs up to 7 do not know: the channel, which is 0, a second lent buffer and the messages
+/// The same row without what jobs up to 8 do not know: the channel, which is 0, a second lent buffer and the messages
 /// in it. The number of a step stays behind its other words. The count of a listing is decimal there, and hexadecimal
 /// in base.rows.
 pub fn in_base_words(words: &[&str]) -> String {
@@ -58,14 +58,14 @@ pub fn is_wide(words: &[&str]) -> bool {
 
 #[cfg(test)]
 mod tests {
-    use super::super::{lines, JOB_1, JOB_4, JOB_5, JOB_6, JOB_7};
+    use super::super::{lines, JOB_1, JOB_4, JOB_5, JOB_6, JOB_7, JOB_8};
     use super::*;
 
     /// The rows that are put to C with ffffffff for such a number, and those of login and of the cut with a boundary.
     #[test]
     fn wide_numbers_and_boundaries() {
         let counts = [(JOB_1, 89, 0), (JOB_4, 113, 0), (JOB_5, 97, 0), (JOB_6, 118, 141 + 173), (JOB_7, 74, 145 + 187)];
-        for (file, wide, boundaries) in counts {
+        for (file, wide, boundaries) in counts.into_iter().chain([(JOB_8, 102, 161 + 188)]) {
             let text = lines(file);
             let rows = text.iter().map(|line| line.split(' ').collect::<Vec<&str>>());
             let count = |test: fn(&[&str]) -> bool| rows.clone().filter(|words| test(words)).count();

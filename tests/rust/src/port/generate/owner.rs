@@ -146,6 +146,35 @@ pub fn step(random: &mut Random, channel: &Channel) -> Call {
     Call::Step { tag: tag(random, chosen(command)), direction }
 }
 
+/// With few moves in line mostly one more.
+pub fn turn(random: &mut Random, channel: &Channel) -> Call {
+    let few = channel.line.len() < random.of(&[2, 4, 9]);
+    if few && !random.one_in(4) {
+        name_move(random, channel)
+    } else {
+        Call::Turn
+    }
+}
+
+/// A command planned, or a direction that has no move given one, of all its bytes; where each has one, a turn.
+pub fn busy(random: &mut Random, channel: &Channel) -> Call {
+    let unplanned = |command: &&OpenCommand| !command.planned && command.waiting.is_none();
+    let all = u32::MAX;
+    let call = match (channel.commands.iter().find(unplanned), channel.commands.iter().find(|command| free(command))) {
+        (Some(command), _) => Call::Plan { tag: command.request.tag, r_out: all, r_in: all },
+        (None, Some(command)) => {
+            let direction = u32::from(!is_free(&command.data_out));
+            Call::Move { tag: command.request.tag, direction, offset: 0, count: all }
+        }
+        (None, None) => Call::Turn,
+    };
+    if random.one_in(4) {
+        Call::Turn
+    } else {
+        call
+    }
+}
+
 pub fn finish(random: &mut Random, command: Option<u64>) -> Call {
     let (status, length) = match random.below(8) {
         0..=3 => (0x00, 0),

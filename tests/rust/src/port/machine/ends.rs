@@ -3,6 +3,7 @@
 use std::collections::VecDeque;
 
 use super::pieces::Pieces;
+use super::turns::Line;
 use crate::limits::Limits;
 use crate::model::descriptors::Descriptor;
 use crate::model::number;
@@ -19,6 +20,8 @@ pub struct Ends {
     pub to_initiator: VecDeque<Vec<u8>>,
     /// In no order that counts.
     pub open: Vec<Open>,
+    /// The moves with pieces, in the order in which turns serve them.
+    pub line: Line,
     /// The tags of all commands that were ever open, in the order of taking.
     pub taken: Vec<u64>,
     /// A credit request was written, and no answer to it was taken.

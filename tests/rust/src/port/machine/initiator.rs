@@ -19,17 +19,21 @@ impl<T: Target> Machine<T> {
         let (q, bad) = (random.of(&BOUNDARIES), random.of(&BAD_BOUNDARIES));
         let agreed = random.of(&[64, 200, 600, 1364, 1364, 1364]);
         let formats = random.of(&[0, 2, 4, 6, 6, 6, 6, 6]);
-        let login = plain::login(random, n, Limits { m, q }, agreed, formats);
         if random.one_in(4) {
             let refused = plain::login(random, n, Limits { m, q: bad }, agreed, formats);
             assert_eq!(self.counted(&refused).returned, 2, "Q {bad}");
             assert_eq!(self.call(&Call::Counters).returned, 21, "closed");
         }
+        self.log_in_with(n, Limits { m, q }, agreed, formats);
+    }
+
+    pub(super) fn log_in_with(&mut self, n: u32, limits: Limits, agreed: u32, formats: u16) {
+        let login = plain::login(&mut self.random, n, limits, agreed, formats);
         self.trace_sent("login", login.input());
         let outcome = self.counted(&login);
         assert_eq!((outcome.returned, outcome.answer[1]), (0, 0), "accepted");
-        self.states.add(if q == 0 { "no boundary" } else { "a boundary" });
-        self.ends = Ends::new(n, Login { limits: Limits { m, q }, agreed, formats: formats.into() });
+        self.states.add(if limits.q == 0 { "no boundary" } else { "a boundary" });
+        self.ends = Ends::new(n, Login { limits, agreed, formats: formats.into() });
     }
 
     /// "Send: a message of any content joins the queue to the port. A request, known by its type byte, takes 1 off the

@@ -23,6 +23,7 @@ impl<T: Target> Machine<T> {
                     self.states.add("ended by its tables in the middle");
                 }
                 self.ends.open.swap_remove(place);
+                self.ends.line.leave(&self.ends.open);
                 self.written(&outcome);
             }
             _ => {}

@@ -101,6 +101,25 @@ pub const JOB_7: [(&str, usize); 14] = [
     ("counters", 1160),
 ];
 
+/// Those of job8.rows.
+pub const JOB_8: [(&str, usize); 15] = [
+    ("session", 160),
+    ("login", 192),
+    ("take", 766),
+    ("tables", 290),
+    ("plan", 389),
+    ("move", 437),
+    ("step", 205),
+    ("turn", 1030),
+    ("finish", 231),
+    ("add", 437),
+    ("withdraw", 317),
+    ("grant", 740),
+    ("close", 24),
+    ("list", 1308),
+    ("counters", 1361),
+];
+
 /// Takes that levels below 7 lend tables to, by `earlier`'s kinds.
 pub const BASE_LENT: [u64; 4] = [41, 8, 18, 7];
 pub const JOB_1_LENT: [u64; 4] = [29, 2, 2, 17];
