@@ -4,7 +4,7 @@ use denote.Ref.{now}
 use Rattle.tables.specs.Bringing.{tables}
 use Rattle.exports.specs.Arguments.{wayIn}
 use Rattle.demand.specs.Demand1.{Demand1InC}
-use Rattle.demand.proofs.Judges.{judges-plan, judges-move, judges-add, judges-withdraw, judges-finish, judges-grant, judges-close, judges-step, judges-counters, judges-list, judges-look, judges-cut, judges-trace}
+use Rattle.demand.proofs.Judges.{judges-plan, judges-move, judges-add, judges-withdraw, judges-finish, judges-grant, judges-close, judges-step, judges-turn, judges-counters, judges-list, judges-look, judges-cut, judges-trace}
 use Rattle.demand.proofs.JudgesTake.{judges-take}
 use Rattle.demand.proofs.JudgesTables.{judges-tables}
 use Rattle.demand.proofs.JudgesLogin.{judges-login}
@@ -19,6 +19,7 @@ demand-1-in-c =
       plan = λ p q tag out inn n post. judges-plan (now p) (now q) n tag out inn (post .1);
       move = λ p q tag direction offset count n post. judges-move (now p) (now q) n tag direction offset count (post .1);
       step = λ p q st w v tag direction n post. judges-step (now p) (now q) (now st) tag direction n (now v) (post .1);
+      turn = λ p q st w v n post. judges-turn (now p) (now q) (now st) n (now v) (post .1);
       finish = λ p q e b d w v tag status n post. judges-finish (now p) (now b) (now q) (now d) n (now v) tag status (now e) (post .1);
       add = λ p q k n post. judges-add (now p) (now q) n k (post .1);
       withdraw = λ p q k n post. judges-withdraw (now p) (now q) n k (post .1);

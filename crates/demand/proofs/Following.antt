@@ -49,9 +49,9 @@ use Rattle.page.proofs.Written.{prints-written}
 use Rattle.exports.specs.Arguments.{settingsIn, wayIn}
 use Rattle.demand.specs.Calls.{Memory, seen, LoggedIn}
 use Rattle.demand.specs.Judgement.{readOn, shortAnswer, JudgesLook, JudgesTrace}
-use Rattle.demand.specs.Following.{PortCall, take-call, tables-call, plan-call, move-call, step-call, finish-call, add-call, withdraw-call, grant-call, close-call, Sendable, Receives, callingOf, Led, begins, goes-on, InRoom, ByLayouts, LoginByLayouts, LookByLayouts, TraceByLayouts, Demand2InC}
+use Rattle.demand.specs.Following.{PortCall, take-call, tables-call, plan-call, move-call, step-call, turn-call, finish-call, add-call, withdraw-call, grant-call, close-call, Sendable, Receives, callingOf, Led, begins, goes-on, InRoom, ByLayouts, LoginByLayouts, LookByLayouts, TraceByLayouts, Demand2InC}
 use Rattle.demand.proofs.Judges.{judges-look, judges-trace}
-use Rattle.demand.proofs.Holds.{took, brought, planned-is, named, stepped, finished, added, withdrew, granted, ended, logged-in}
+use Rattle.demand.proofs.Holds.{took, brought, planned-is, named, step-is, turn-is, finished, added, withdrew, granted, ended, logged-in}
 
 -- ── every message written follows its layout and fits
 
@@ -143,7 +143,8 @@ module _ (s : Memory) (r : Reply) (ss : List (List ℕ)) (s′ : Memory) (R : de
   follows (move-call tag d offset count) y m =
       let is = named tag d offset count m in
       gives (move-call tag d offset count) _ is (def.moved R tag d offset count) (unwritten _ is (m .wrote)) tt
-  follows (step-call tag d) y m = let is = stepped tag d m in gives (step-call tag d) _ is (def.stepped R tag d) (unwritten _ is (m .wrote)) tt
+  follows (step-call tag d) y m = let is = step-is tag d m in gives (step-call tag d) _ is (def.stepped R tag d) (unwritten _ is (m .wrote)) tt
+  follows turn-call y m = let is = turn-is m in gives turn-call _ is (def.turned R) (unwritten _ is (m .wrote)) tt
   follows (finish-call room tag status sense) y m =
       gives (finish-call room tag status sense) _ (finished room tag status sense m) (def.finished R room tag status sense)
       (in-room room (finishDef (seen s) room tag status sense .wrote) (every-write R .finishing room tag status sense y) (λ e. rw e)) tt
@@ -154,7 +155,7 @@ module _ (s : Memory) (r : Reply) (ss : List (List ℕ)) (s′ : Memory) (R : de
       gives (close-call room reason) _ (ended room reason m) (def.hung-up R room reason) (in-room room (closeDef (seen s) room reason .wrote) (every-write R .closing room reason y) (λ e. rw e)) tt
 
 -- every port of a run is one that a login made and calls changed
-led-reached : (s : Memory) → Led s → def.Reached (seen s)
+pub led-reached : (s : Memory) → Led s → def.Reached (seen s)
 led-reached s (begins settings Q own msg room ss p store l) =
     subst (λ (o : Outcome). def.Reached (o .port)) (logged-in l store) (def.logged-in (settingsIn settings Q) own room msg)
 led-reached s (goes-on s₀ s₁ c r ss L y m) = follows s₀ r ss s₁ (led-reached s₀ L) c y m .reached′

@@ -14,7 +14,7 @@ use Rattle.srp.specs.Credit.{Port, owed}
 use Rattle.srp.specs.Take.{Outcome, silent, Tables, takeDef}
 use Rattle.srp.specs.Take as def
 use Rattle.srp.specs.Tables.{tablesDef}
-use Rattle.srp.specs.Calls.{unless, planDef, moveDef, stepDef, finishDef, addDef, withdrawDef, grantDef, closeDef, countersDef, listOutcome, listDef}
+use Rattle.srp.specs.Calls.{unless, planDef, moveDef, stepDef, turnDef, finishDef, addDef, withdrawDef, grantDef, closeDef, countersDef, listOutcome, listDef}
 use Rattle.srp.specs.Login.{loginDef}
 use Rattle.srp.specs.Answers.{returned, sizeOf}
 use Rattle.srp.specs.declared.Refusal.the-variants.{Argument}
@@ -26,7 +26,7 @@ use Rattle.srp.specs.declared.Reply.{Reply}
 use Rattle.srp.specs.declared.Reply.the-variants.{Performed, Counts, Listed}
 use Rattle.machine.specs.Machine.{Machine, requestsHeld, Login, loginOf}
 use Rattle.machine.specs.Actions.{atFront}
-use Rattle.machine.specs.Events.{sends, delivers, takes, brings, plans, names, steps, finishes, adds, withdraws, grants}
+use Rattle.machine.specs.Events.{sends, delivers, takes, brings, plans, names, steps, turns, finishes, adds, withdraws, grants}
 use Rattle.machine.specs.Demand.{counted, Now, Meets}
 use Rattle.machine.proofs.Demand.{demand-3}
 use Rattle.answer.specs.Words.{answerWords}
@@ -37,23 +37,30 @@ use Rattle.exports.specs.Calls.{InC, AnswersInC, RepliesInC, CountersInC, ListI
 use Rattle.exports.proofs.Listing.{counters-unwritten, list-unwritten}
 use Rattle.srp.proofs.Listing.{listed-all}
 use Rattle.demand.specs.Posts.{Slice}
-use Rattle.demand.specs.Replies.{performed}
-use Rattle.demand.specs.Calls.{Memory, seen, LoggedIn, Took, Brought, WithMessage, Finished, Granted, Ended, WithoutMessage, Planned, Named, Stepped, Added, Withdrew, Untouched, TookFront, Call}
+use Rattle.demand.specs.Replies.{performed, stepped, turned}
+use Rattle.demand.specs.Calls.{Memory, seen, LoggedIn, Took, Brought, WithMessage, Finished, Granted, Ended, WithoutMessage, Planned, Named, Stepped, Turned, Added, Withdrew, Untouched, TookFront, Call}
 use Rattle.demand.specs.Holding.{Holds, Reports, Lists, Demand3InC}
 use Rattle.demand.proofs.Told as told
 
 -- ── each call that was made is its definition's
 
+-- what a call left, by other names
+left-as : {r r′ : Reply} {l l′ st st′ : List ℕ} {ss ss′ : List (List ℕ)} → r ≡ r′ → l ≡ l′ → st ≡ st′ → ss ≡ ss′
+    → _≡_ {A = Outcome} (record { reply = r; port = view l st; wrote = ss }) (record { reply = r′; port = view l′ st′; wrote = ss′ })
+left-as e f g h = λ i. record { reply = e i; port = view (f i) (g i); wrote = h i }
+
 module _ {s : Memory} {r : Reply} {ss : List (List ℕ)} {s′ : Memory} where
   pub took : (room : ℕ) (msg : List ℕ) → Took s room msg r ss s′ → takeDef (seen s) room msg ≡ record { reply = r; port = seen s′; wrote = ss }
   took room msg c =
-      rw (← c .words, ← c .store, ← c .message, ← c .gave .room-is, ← c .gave .reply, ← c .gave .wrote, ← c .words′, ← c .store′)
-      (told.answers (c .post .1 .answers) (told.take-told (view (now (c .p)) (now (c .st))) (length (now (c .b))) (now (c .m))))
+      sym (λ i. takeDef (view (c .words i) (c .store i)) (c .gave .room-is i) (c .message i))
+      ∙ told.answers (c .post .1 .answers) (told.take-told (view (now (c .p)) (now (c .st))) (length (now (c .b))) (now (c .m)))
+      ∙ left-as (c .gave .reply) (c .words′) (c .store′) (c .gave .wrote)
 
   pub brought : (room tag : ℕ) (t : Tables) → Brought s room tag t r ss s′ → tablesDef (seen s) room tag t ≡ record { reply = r; port = seen s′; wrote = ss }
   brought room tag t c =
-      rw (← c .words, ← c .store, ← c .lent, ← c .gave .room-is, ← c .gave .reply, ← c .gave .wrote, ← c .words′, ← c .store′)
-      (told.answers (c .post .1 .answers) (told.tables-told (view (now (c .p)) (now (c .st))) (length (now (c .b))) tag (tables (now (c .out)) (now (c .inn)))))
+      sym (λ i. tablesDef (view (c .words i) (c .store i)) (c .gave .room-is i) tag (c .lent i))
+      ∙ told.answers (c .post .1 .answers) (told.tables-told (view (now (c .p)) (now (c .st))) (length (now (c .b))) tag (tables (now (c .out)) (now (c .inn))))
+      ∙ left-as (c .gave .reply) (c .words′) (c .store′) (c .gave .wrote)
 
   -- with a lent message buffer: o is the call's definition, by the port and the buffer's length
   module _ (o : Port → ℕ → Outcome) (one : (p : Port) (room : ℕ) → told.Told performed (o p room)) {Post : (p q b d w v : Slice) (n : ℕ) → Type 0}
@@ -96,10 +103,17 @@ module _ {s : Memory} {r : Reply} {ss : List (List ℕ)} {s′ : Memory} where
   pub withdrew : (k : ℕ) → Withdrew s k r ss s′ → withdrawDef (seen s) k ≡ record { reply = r; port = seen s′; wrote = ss }
   withdrew k c = silently (λ p. withdrawDef p k) (λ p. told.withdraw-said p k) (λ p q n post. post .1) c
 
-  pub stepped : (tag : ℕ) (d : Direction) → Stepped s tag d r ss s′ → stepDef (seen s) tag d ≡ record { reply = r; port = seen s′; wrote = ss }
-  stepped tag d c =
-      rw (← c .words, ← c .direction-is, ← c .reply, ← c .wrote, ← c .words′, ← c .store′, ← c .store)
-      (told.steps (c .post .1 .steps) (told.step-said (view (now (c .p)) (now (c .st))) tag (directionIn (c .k))))
+  pub step-is : (tag : ℕ) (d : Direction) → Stepped s tag d r ss s′ → stepDef (seen s) tag d ≡ record { reply = r; port = seen s′; wrote = ss }
+  step-is tag d c =
+      sym (λ i. stepDef (view (c .words i) (c .store i)) tag (c .direction-is i))
+      ∙ told.steps stepped (c .post .1 .steps) (told.step-said (view (now (c .p)) (now (c .st))) tag (directionIn (c .k)))
+      ∙ left-as (c .reply) (c .words′) (c .store ∙ c .store′) (c .wrote)
+
+  pub turn-is : Turned s r ss s′ → turnDef (seen s) ≡ record { reply = r; port = seen s′; wrote = ss }
+  turn-is c =
+      sym (λ i. turnDef (view (c .words i) (c .store i)))
+      ∙ told.steps turned (c .post .1 .turns) (told.turn-said (view (now (c .p)) (now (c .st))))
+      ∙ left-as (c .reply) (c .words′) (c .store ∙ c .store′) (c .wrote)
 
   untouched : Untouched s r ss s′ → silent (seen s) Performed ≡ record { reply = r; port = seen s′; wrote = ss }
   untouched c = λ i. record { reply = c .reply i; port = seen (c .same i); wrote = c .wrote i }
@@ -116,7 +130,8 @@ meets L s m (takes room) r ss s′ c = front s room (m .wire .toPort) r ss s′ 
 meets L s m (brings room tag t) r ss s′ c = brought room tag t c
 meets L s m (plans tag out inn) r ss s′ c = planned-is tag out inn c
 meets L s m (names tag d offset count) r ss s′ c = named tag d offset count c
-meets L s m (steps tag d) r ss s′ c = stepped tag d c
+meets L s m (steps tag d) r ss s′ c = step-is tag d c
+meets L s m turns r ss s′ c = turn-is c
 meets L s m (finishes room tag status sense) r ss s′ c = finished room tag status sense c
 meets L s m (adds k) r ss s′ c = added k c
 meets L s m (withdraws k) r ss s′ c = withdrew k c

@@ -3,7 +3,7 @@
 use mathlib.Core.Path.{_≡_, refl, _∙_, ap}
 use mathlib.Core.Bool.{true}
 use mathlib.Core.List.{List, [], _∷_}
-use mathlib.Core.Option.{Option, none, some}
+use mathlib.Core.Option.{Option, none, some, Option·some-ne-none}
 use Prim.Native.Nat.{ℕ, _/_, min}
 use borrow.Author.Tests.{not-false}
 use lib.ListN.{length}
@@ -13,15 +13,17 @@ use Rattle.srp.specs.Descriptors.{segmentsOf, sumOf}
 use Rattle.srp.specs.Requests.{lookChecks, lookOutcome}
 use Rattle.srp.specs.Cutting.{upTo, next, cutNext, cutChecks, cutOutcome}
 use Rattle.srp.specs.Credit.{Open, Port, hasTag}
-use Rattle.srp.specs.Calls.{handOut, nextOf, numberIn, planChecks, planOutcome, moveChecks, moveOutcome, stepChecks, stepOutcome, finishChecks, finishOutcome, addChecks, addOutcome, withdrawChecks, withdrawOutcome, grantChecks, grantOutcome, closeChecks, closeOutcome, countersChecks, countersOutcome, listChecks, listOutcome, recordsBy, recordsFor}
+use Rattle.srp.specs.Calls.{handOut, nextOf, numberIn, serve, serveFirst, turnChecks, planChecks, planOutcome, moveChecks, moveOutcome, stepChecks, stepOutcome, finishChecks, finishOutcome, addChecks, addOutcome, withdrawChecks, withdrawOutcome, grantChecks, grantOutcome, closeChecks, closeOutcome, countersChecks, countersOutcome, listChecks, listOutcome, recordsBy, recordsFor}
 use Rattle.srp.specs.Outside.{lookInC, lookAnswer, cutInC, cutAnswer}
-use Rattle.srp.specs.Answers.{returned}
+use Rattle.srp.specs.Answers.{returned, operationIn}
 use Rattle.srp.specs.Writing.{placed}
+use Rattle.srp.specs.Take.{Outcome}
 use Rattle.srp.specs.declared.Refusal.{Refusal}
 use Rattle.srp.specs.declared.Reply.{Reply}
-use Rattle.srp.specs.declared.Reply.the-variants.{Refused, Performed}
+use Rattle.srp.specs.declared.Reply.the-variants.{Refused, Performed, Done, Idle}
 use Rattle.srp.specs.declared.Direction.{Direction}
 use Rattle.srp.specs.declared.Piece.{Piece}
+use Rattle.srp.specs.declared.Place.{Place}
 use Rattle.srp.specs.declared.Look.the-variants.{LookRefused}
 use Rattle.srp.specs.declared.Cut.the-variants.{CutRefused}
 use Rattle.srp.proofs.Checks.{passes}
@@ -30,8 +32,8 @@ use Rattle.page.specs.Page.{traceLine, traceChecks, traceInC}
 use Rattle.page.specs.declared.Way.{Way}
 use Rattle.exports.specs.Arguments.{recordSize, allWords, directionIn}
 use Rattle.exports.specs.Answered.{Answered}
-use Rattle.exports.specs.Calls.{PlanInC, MoveInC, StepInC, FinishInC, AddInC, WithdrawInC, GrantInC, CloseInC, CountersInC, ListInC}
-use Rattle.demand.specs.Judgement.{JudgesPlan, JudgesMove, JudgesStep, JudgesFinish, JudgesAdd, JudgesWithdraw, JudgesGrant, JudgesClose, JudgesCounters, JudgesList, JudgesLook, JudgesCut, JudgesTrace}
+use Rattle.exports.specs.Calls.{PlanInC, MoveInC, StepInC, TurnInC, FinishInC, AddInC, WithdrawInC, GrantInC, CloseInC, CountersInC, ListInC}
+use Rattle.demand.specs.Judgement.{JudgesPlan, JudgesMove, JudgesStep, JudgesTurn, JudgesFinish, JudgesAdd, JudgesWithdraw, JudgesGrant, JudgesClose, JudgesCounters, JudgesList, JudgesLook, JudgesCut, JudgesTrace}
 use Rattle.demand.proofs.Judging.{numberFor, judge, judge-answers, judge-replies, judge-numbers, judge-steps, judge-bytes}
 
 -- ── plan, move, add, withdraw
@@ -75,12 +77,12 @@ module _ (l b l′ b′ : List ℕ) (n : ℕ) (w : List ℕ) where
       was-open : (p : Port) → firstOf (closeChecks p (length b)) ≡ none → p .live ≡ true
       was-open p e = not-false (p .live) (passes (closeChecks p (length b)) e .1 .0)
 
--- ── step
+-- ── step and turn
 
 pub judges-step : (l l′ st : List ℕ) (tag direction n : ℕ) (w : List ℕ) → StepInC l l′ st tag direction n w → JudgesStep l l′ st tag direction n w
 judges-step l l′ st tag direction n w P =
     judge-steps (view l st) (stepOutcome (view l st) tag d) (unrefused (numberIn d c) (nextOf (view l st .terms) d c)) (stepChecks (view l st) tag) l st l′ n w (P .steps)
-    (P .done)
+    (λ is h. P .done (numberIn d c) (ap (λ (o : Outcome). o .reply) is ∙ done (numberIn d c) (nextOf (view l st .terms) d c) h))
   where
     d : Direction
     d = directionIn direction
@@ -91,6 +93,36 @@ judges-step l l′ st tag direction n w P =
     unrefused : (k : ℕ) (x : Option Piece) → returned (handOut (view l st) tag d k x .reply) ≡ 0
     unrefused k none = refl
     unrefused k (some o) = refl
+
+    -- without an operation it says done
+    done : (k : ℕ) (x : Option Piece) → operationIn (handOut (view l st) tag d k x .reply) ≡ none → handOut (view l st) tag d k x .reply ≡ Done k
+    done k none h = refl
+    done k (some o) h = absurd (Option·some-ne-none _ h)
+
+pub judges-turn : (l l′ st : List ℕ) (n : ℕ) (w : List ℕ) → TurnInC l l′ st n w → JudgesTurn l l′ st n w
+judges-turn l l′ st n w P =
+    judge-steps p (serveFirst p (p .line)) (unrefused (p .line)) (turnChecks p) l st l′ n w (P .turns)
+    (λ is h. P .idle (ap (λ (o : Outcome). o .reply) is ∙ idle (p .line) h))
+  where
+    p : Port
+    p = view l st
+
+    one-unrefused : (x : Place) (others : List Place) (k : ℕ) (y : Option Piece) → returned (serve p x others k y .reply) ≡ 0
+    one-unrefused x others k none = refl
+    one-unrefused x others k (some o) = refl
+
+    unrefused : (line : List Place) → returned (serveFirst p line .reply) ≡ 0
+    unrefused [] = refl
+    unrefused (x ∷ others) = one-unrefused x others _ (nextOf (p .terms) (x .direction) (find (hasTag (x .tag)) (p .held)))
+
+    -- without an operation it says idle
+    one-idle : (x : Place) (others : List Place) (k : ℕ) (y : Option Piece) → operationIn (serve p x others k y .reply) ≡ none → serve p x others k y .reply ≡ Idle
+    one-idle x others k none h = refl
+    one-idle x others k (some o) h = absurd (Option·some-ne-none _ h)
+
+    idle : (line : List Place) → operationIn (serveFirst p line .reply) ≡ none → serveFirst p line .reply ≡ Idle
+    idle [] h = refl
+    idle (x ∷ others) h = one-idle x others _ (nextOf (p .terms) (x .direction) (find (hasTag (x .tag)) (p .held))) h
 
 -- ── counters and listing
 

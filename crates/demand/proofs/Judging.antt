@@ -13,9 +13,8 @@ use Rattle.srp.specs.Credit.{Port}
 use Rattle.srp.specs.Writing.{placed}
 use Rattle.srp.specs.Take.{Outcome}
 use Rattle.srp.specs.Calls.{unless}
-use Rattle.srp.specs.Answers.{returned, answerOf}
+use Rattle.srp.specs.Answers.{returned, operationIn, answerOf}
 use Rattle.srp.specs.Outside.{CReturn, refusingC, inBuffer}
-use Rattle.srp.specs.declared.Reply.the-variants.{Done}
 use Rattle.srp.specs.declared.Refusal.{Refusal}
 use Rattle.srp.specs.declared.Refusal.the-variants.{ShortBuffer}
 use Rattle.srp.proofs.RefusalLaws.{number-range, number-injective}
@@ -100,16 +99,16 @@ module _ (p : Port) (o : Outcome) (unrefused : returned (o .reply) ≡ 0) where
       (λ e. N .words ∙ ap (λ (x : Option Refusal). answerWords (answerOf (unless x p o))) e)
       (λ f e. N .words ∙ ap (λ (x : Option Refusal). answerWords (answerOf (unless x p o))) e)
 
-  -- step: with words and no buffer
+  -- step, turn: with words and no buffer; `same` is asked where no check hits, of a refusal the contract has it
   pub judge-steps : (checks : List Check) (l st l′ : List ℕ) (n : ℕ) (w : List ℕ) → StepsInC l st l′ n w (unless (firstOf checks) p o)
-      → ((k : ℕ) → unless (firstOf checks) p o .reply ≡ Done k → l′ ≡ l)
+      → (unless (firstOf checks) p o ≡ o → operationIn (o .reply) ≡ none → l′ ≡ l)
       → Judgement checks n (Handed o l l′ st w) (λ f. (w ≡ noWords) × (l′ ≡ l))
-  judge-steps checks l st l′ n w S done =
+  judge-steps checks l st l′ n w S same =
       judge checks n (Handed o l l′ st w) (λ f. (w ≡ noWords) × (l′ ≡ l)) (S .numbers .number ∙ number-is (firstOf checks))
       (λ e. record {
         words = S .numbers .words ∙ ap (λ (x : Option Refusal). answerWords (answerOf (unless x p o))) e;
         port = S .call .port ∙ ap (λ (x : Option Refusal). unless x p o .port) e;
-        done = λ k d. done k (ap (λ (x : Option Refusal). unless x p o .reply) e ∙ d);
+        nothing = same (ap (λ (x : Option Refusal). unless x p o) e);
       })
       (λ f e. (
         S .numbers .words ∙ ap (λ (x : Option Refusal). answerWords (answerOf (unless x p o))) e,

@@ -7,4 +7,5 @@ pub mod JudgesLogin
 pub mod Demand1
 pub mod Holds
 pub mod Following
+pub mod Turns
 pub mod Numbered

@@ -3,7 +3,7 @@ use mathlib.Core.Path.{_≡_, refl, sym, _∙_, ap}
 use mathlib.Core.Bool.{Bool, true, false, true≢false}
 use mathlib.Core.List.{List, [], _∷_}
 use mathlib.Core.Option.{Option, none, some}
-use Prim.Native.Nat.{ℕ, _≤_}
+use Prim.Native.Nat.{ℕ, _+_, _≤_}
 use native.Mathlib.Omega.{arith}
 use native.Mathlib.Nat.{not-suc-le-zero}
 use borrow.Author.Tests.{not-false, ne-eqb}
@@ -18,24 +18,25 @@ use Rattle.srp.specs.Bytes.{bit}
 use Rattle.srp.proofs.Refusing.{answered-open}
 use Rattle.srp.specs.Tables.{badResponse, tablesChecks, tablesRefused, tablesBy, tablesDef}
 use Rattle.srp.specs.Take.{Outcome, silent, isOpen, Tables, waits, takeChecks, conducted, accepted, takeBy, takeDef}
-use Rattle.srp.specs.Calls.{unless, planChecks, planOutcome, planDef, moveChecks, moveOutcome, moveDef, addChecks, addOutcome, addDef, withdrawChecks, withdrawOutcome, withdrawDef, handOut, nextOf, numberIn, stepChecks, stepDef, finalResponse, finishChecks, finishOutcome, finishDef, grantChecks, grantOutcome, grantDef, closeChecks, closeOutcome, closeDef}
+use Rattle.srp.specs.Calls.{unless, planChecks, planOutcome, planDef, moveChecks, moveOutcome, moveDef, addChecks, addOutcome, addDef, withdrawChecks, withdrawOutcome, withdrawDef, handOut, nextOf, numberIn, stepChecks, stepDef, wrapped, serve, serveFirst, turnChecks, turnDef, finalResponse, finishChecks, finishOutcome, finishDef, grantChecks, grantOutcome, grantDef, closeChecks, closeOutcome, closeDef}
 use Rattle.srp.specs.Login.{loginChecks, rejections, loginBy, loginDef}
 use Rattle.srp.specs.Answers.{returned, sizeOf, answerOf}
 use Rattle.srp.specs.declared.Settings.{Settings}
 use Rattle.srp.specs.declared.Direction.{Direction}
 use Rattle.srp.specs.declared.Direction.the-variants.{Out, In}
 use Rattle.srp.specs.declared.Piece.{Piece}
+use Rattle.srp.specs.declared.Place.{Place}
 use Rattle.srp.specs.declared.Refusal.{Refusal}
 use Rattle.srp.specs.declared.Message.{Message}
 use Rattle.srp.specs.declared.Message.the-variants.{Bad, Cmd, TskMgmt, CredRsp, ILogout}
 use Rattle.srp.specs.declared.Reply.{Reply}
-use Rattle.srp.specs.declared.Reply.the-variants.{Refused, Performed, NewCommand}
+use Rattle.srp.specs.declared.Reply.the-variants.{Refused, Performed, NewCommand, Served}
 use Rattle.srp.proofs.RefusalLaws.{numbered}
 use Rattle.srp.proofs.Checks.{passes, hit}
 use Rattle.answer.specs.Words.{answerWords}
 use Rattle.words.specs.View.{view}
 use Rattle.exports.specs.Calls.{InC, AnswersInC, StepsInC, RepliesInC, LogsInC}
-use Rattle.demand.specs.Replies.{refusedOr, replyBy, performed, taken, stepped, loggedIn, written, messageIn}
+use Rattle.demand.specs.Replies.{refusedOr, replyBy, performed, taken, stepped, turned, loggedIn, written, messageIn}
 use Rattle.demand.specs.Judgement.{readOn}
 
 -- ── one message at most
@@ -55,9 +56,13 @@ back (s ∷ t ∷ ss) b h = absurd h
 
 -- ── what is told
 
--- an outcome whose reply the number and the words tell, as `said` reads them, with its message's length first
+-- the reply of an outcome is told by its number and its words, as `said` reads them; of step and turn this is all, since no message's length is in their words
+abbrev pub InWords : (said : List ℕ → Reply) → Outcome → Type 0
+InWords said o = replyBy said (returned (o .reply)) (answerWords (answerOf o)) ≡ o .reply
+
+-- and its message's length stands first
 pub record Told (said : List ℕ → Reply) (o : Outcome) : Type 0 where
-  pub reply : replyBy said (returned (o .reply)) (answerWords (answerOf o)) ≡ o .reply
+  pub reply : InWords said o
   pub size : getD (answerWords (answerOf o)) 0 0 ≡ sizeOf (o .wrote)
   pub single : Single (o .wrote)
 
@@ -140,17 +145,32 @@ module _ (p : Port) where
       performed-told _ _
       (response-single (find (hasTag tag) (p .held)) status sense _ (not-false (isOpen p tag) (passes (finishChecks p room tag status sense) e .1 .1 .1 .0)))
 
-  -- its words have no message's length
-  pub step-said : (tag : ℕ) (d : Direction) → replyBy stepped (returned (stepDef p tag d .reply)) (answerWords (answerOf (stepDef p tag d))) ≡ stepDef p tag d .reply
+  pub step-said : (tag : ℕ) (d : Direction) → InWords stepped (stepDef p tag d)
   step-said tag d = let c = find (hasTag tag) (p .held) in go (firstOf (stepChecks p tag)) d (numberIn d c) (nextOf (p .terms) d c)
     where
-      go : (x : Option Refusal) (d : Direction) (n : ℕ) (y : Option Piece)
-          → let o : Outcome = unless x p (handOut p tag d n y) in
-          replyBy stepped (returned (o .reply)) (answerWords (answerOf o)) ≡ o .reply
+      go : (x : Option Refusal) (d : Direction) (n : ℕ) (y : Option Piece) → InWords stepped (unless x p (handOut p tag d n y))
       go (some f) d n y = refused stepped f (answerWords (answerOf (silent p (Refused f))))
       go none d n none = refl
       go none Out n (some o) = refl
       go none In n (some o) = refl
+
+  pub turn-said : InWords turned (turnDef p)
+  turn-said = go (firstOf (turnChecks p)) (p .line)
+    where
+      piece-said : (q : Port) (tag : ℕ) (d : Direction) (o : Piece) (n : ℕ) → InWords turned (silent q (Served tag d o n))
+      piece-said q tag Out o n = refl
+      piece-said q tag In o n = refl
+
+      one : (x : Place) (others : List Place) (n : ℕ) (y : Option Piece) → InWords turned (serve p x others n y)
+      one x others n none = refl
+      one x others n (some o) = piece-said (serve p x others n (some o) .port) (x .tag) (x .direction) (wrapped o) (n + 1)
+
+      go : (x : Option Refusal) (line : List Place) → InWords turned (unless x p (serveFirst p line))
+      go (some f) line = refused turned f (answerWords (answerOf (silent p (Refused f))))
+      go none [] = refl
+      go none (x ∷ others) =
+          let c = find (hasTag (x .tag)) (p .held) in
+          one x others (numberIn (x .direction) c) (nextOf (p .terms) (x .direction) c)
 
 -- plan, move, add, withdraw: they have no words
 abbrev pub Silent : Outcome → Type 0
@@ -196,7 +216,7 @@ outcome o r p ss e f g = λ i. record { reply = e i; port = f i; wrote = g i }
 
 module _ {o : Outcome} {n : ℕ} {w : List ℕ} (N : InC n w o) where
   -- the reply that the numbers say is the outcome's
-  reply-is : (said : List ℕ → Reply) → replyBy said (returned (o .reply)) (answerWords (answerOf o)) ≡ o .reply → o .reply ≡ replyBy said n w
+  reply-is : (said : List ℕ → Reply) → InWords said o → o .reply ≡ replyBy said n w
   reply-is said e = sym (ap (λ (k : ℕ). replyBy said k w) (N .number) ∙ ap (λ (l : List ℕ). replyBy said (returned (o .reply)) l) (N .words) ∙ e)
 
   -- and the message, placed in the buffer b
@@ -222,11 +242,10 @@ logs-in {st} {l′} {b} {b′} {n} {w} {o} {said} A T =
     outcome o (replyBy said n w) (view l′ st) (messageIn w b′) (reply-is (A .numbers) said (T .reply)) (sym (A .call .port))
     (message-is (A .numbers) b b′ (A .call .buffer) (T .size) (T .single))
 
--- step
-pub steps : {l st l′ : List ℕ} {n : ℕ} {w : List ℕ} {o : Outcome} → StepsInC l st l′ n w o
-    → replyBy stepped (returned (o .reply)) (answerWords (answerOf o)) ≡ o .reply
-    → o ≡ record { reply = replyBy stepped n w; port = view l′ st; wrote = [] }
-steps {l} {st} {l′} {n} {w} {o} S e = outcome o (replyBy stepped n w) (view l′ st) [] (reply-is (S .numbers) stepped e) (sym (S .call .port)) (S .call .wrote)
+-- step, turn
+pub steps : {l st l′ : List ℕ} {n : ℕ} {w : List ℕ} {o : Outcome} (said : List ℕ → Reply) → StepsInC l st l′ n w o → InWords said o
+    → o ≡ record { reply = replyBy said n w; port = view l′ st; wrote = [] }
+steps {l} {st} {l′} {n} {w} {o} said S e = outcome o (replyBy said n w) (view l′ st) [] (reply-is (S .numbers) said e) (sym (S .call .port)) (S .call .wrote)
 
 -- a call without the answer's words
 pub replies : {l st l′ : List ℕ} {n : ℕ} {o : Outcome} → RepliesInC l st l′ n o → Silent o

@@ -12,12 +12,12 @@ use Rattle.srp.specs.declared.Direction.{Direction}
 use Rattle.srp.specs.declared.Reply.{Reply}
 use Rattle.srp.specs.declared.Reply.the-variants.{Performed}
 use Rattle.machine.specs.Machine.{Machine}
-use Rattle.machine.specs.Events.{Event, sends, delivers, takes, brings, plans, names, steps, finishes, adds, withdraws, grants}
+use Rattle.machine.specs.Events.{Event, sends, delivers, takes, brings, plans, names, steps, turns, finishes, adds, withdraws, grants}
 use Rattle.words.specs.View.{view}
 use Rattle.tables.specs.Bringing.{tables}
 use Rattle.exports.specs.Arguments.{directionIn}
-use Rattle.demand.specs.Posts.{Slice, LoginPost, TakePost, TablesPost, PlanPost, MovePost, StepPost, FinishPost, AddPost, WithdrawPost, GrantPost, ClosePost}
-use Rattle.demand.specs.Replies.{replyBy, performed, taken, stepped, loggedIn, messageIn}
+use Rattle.demand.specs.Posts.{Slice, LoginPost, TakePost, TablesPost, PlanPost, MovePost, StepPost, TurnPost, FinishPost, AddPost, WithdrawPost, GrantPost, ClosePost}
+use Rattle.demand.specs.Replies.{replyBy, performed, taken, stepped, turned, loggedIn, messageIn}
 
 -- what the owner keeps of a port: its words and its store
 pub record Memory : Type 0 where
@@ -164,6 +164,21 @@ pub record Stepped (s : Memory) (tag : ℕ) (direction : Direction) (r : Reply) 
   pub words′ : now q ≡ s′ .words
   pub store′ : s .store ≡ s′ .store
 
+pub record Turned (s : Memory) (r : Reply) (ss : List (List ℕ)) (s′ : Memory) : Type 0 where
+  pub p : Slice
+  pub q : Slice
+  pub st : Slice
+  pub w : Slice
+  pub v : Slice
+  pub n : ℕ
+  pub words : now p ≡ s .words
+  pub store : now st ≡ s .store
+  pub post : TurnPost p q st w v n
+  pub reply : replyBy turned n (now v) ≡ r
+  pub wrote : [] ≡ ss
+  pub words′ : now q ≡ s′ .words
+  pub store′ : s .store ≡ s′ .store
+
 -- no call is made: sending and delivering do not touch the port, and with an empty queue no take happens
 pub record Untouched (s : Memory) (r : Reply) (ss : List (List ℕ)) (s′ : Memory) : Type 0 where
   pub reply : Performed ≡ r
@@ -185,6 +200,7 @@ Call s m (brings room tag t) r ss s′ = Brought s room tag t r ss s′
 Call s m (plans tag out inn) r ss s′ = Planned s tag out inn r ss s′
 Call s m (names tag d offset count) r ss s′ = Named s tag d offset count r ss s′
 Call s m (steps tag d) r ss s′ = Stepped s tag d r ss s′
+Call s m turns r ss s′ = Turned s r ss s′
 Call s m (finishes room tag status sense) r ss s′ = Finished s room tag status sense r ss s′
 Call s m (adds k) r ss s′ = Added s k r ss s′
 Call s m (withdraws k) r ss s′ = Withdrew s k r ss s′

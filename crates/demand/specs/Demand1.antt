@@ -3,8 +3,8 @@ use Prim.Native.Nat.{ℕ}
 use denote.Ref.{now}
 use Rattle.tables.specs.Bringing.{tables as tablesOf}
 use Rattle.exports.specs.Arguments.{wayIn}
-use Rattle.demand.specs.Posts.{Slice, LoginPost, TakePost, TablesPost, PlanPost, MovePost, StepPost, FinishPost, AddPost, WithdrawPost, GrantPost, ClosePost, CountersPost, ListPost, LookPost, CutPost, TracePost}
-use Rattle.demand.specs.Judgement.{JudgesTake, JudgesTables, JudgesLogin, JudgesPlan, JudgesMove, JudgesStep, JudgesFinish, JudgesAdd, JudgesWithdraw, JudgesGrant, JudgesClose, JudgesCounters, JudgesList, JudgesLook, JudgesCut, JudgesTrace}
+use Rattle.demand.specs.Posts.{Slice, LoginPost, TakePost, TablesPost, PlanPost, MovePost, StepPost, TurnPost, FinishPost, AddPost, WithdrawPost, GrantPost, ClosePost, CountersPost, ListPost, LookPost, CutPost, TracePost}
+use Rattle.demand.specs.Judgement.{JudgesTake, JudgesTables, JudgesLogin, JudgesPlan, JudgesMove, JudgesStep, JudgesTurn, JudgesFinish, JudgesAdd, JudgesWithdraw, JudgesGrant, JudgesClose, JudgesCounters, JudgesList, JudgesLook, JudgesCut, JudgesTrace}
 
 pub record Demand1InC : Type 0 where
   pub login : (p q c : Slice) (Q : ℕ) (id m b d w v : Slice) (n : ℕ) → LoginPost p q c Q id m b d w v n
@@ -16,6 +16,7 @@ pub record Demand1InC : Type 0 where
   pub plan : (p q : Slice) (tag out inn n : ℕ) → PlanPost p q tag out inn n → JudgesPlan (now p) (now q) tag out inn n
   pub move : (p q : Slice) (tag direction offset count n : ℕ) → MovePost p q tag direction offset count n → JudgesMove (now p) (now q) tag direction offset count n
   pub step : (p q st w v : Slice) (tag direction n : ℕ) → StepPost p q st w v tag direction n → JudgesStep (now p) (now q) (now st) tag direction n (now v)
+  pub turn : (p q st w v : Slice) (n : ℕ) → TurnPost p q st w v n → JudgesTurn (now p) (now q) (now st) n (now v)
   pub finish : (p q e b d w v : Slice) (tag status n : ℕ) → FinishPost p q e b d w v tag status n
       → JudgesFinish (now p) (now b) (now q) (now d) tag status (now e) n (now v)
   pub add : (p q : Slice) (k n : ℕ) → AddPost p q k n → JudgesAdd (now p) (now q) k n

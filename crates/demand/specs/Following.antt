@@ -36,7 +36,7 @@ use Rattle.page.specs.declared.Way.{Way}
 use Rattle.exports.specs.Arguments.{settingsIn, wayIn}
 use Rattle.demand.specs.Posts.{Slice, LookPost, TracePost}
 use Rattle.demand.specs.Judgement.{readOn}
-use Rattle.demand.specs.Calls.{Memory, seen, LoggedIn, Took, Brought, Finished, Granted, Ended, Planned, Named, Stepped, Added, Withdrew}
+use Rattle.demand.specs.Calls.{Memory, seen, LoggedIn, Took, Brought, Finished, Granted, Ended, Planned, Named, Stepped, Turned, Added, Withdrew}
 
 -- ── the calls
 
@@ -47,6 +47,7 @@ pub data PortCall : Type 0 where
   plan-call : (tag out inn : ℕ) → PortCall
   move-call : (tag : ℕ) → Direction → (offset count : ℕ) → PortCall
   step-call : (tag : ℕ) → Direction → PortCall
+  turn-call : PortCall
   finish-call : (room tag status : ℕ) (sense : List ℕ) → PortCall
   add-call : ℕ → PortCall
   withdraw-call : ℕ → PortCall
@@ -105,6 +106,7 @@ callingOf (tables-call room tag t) = writing room (λ s. Brought s room tag t) (
 callingOf (plan-call tag out inn) = quiet (λ s. Planned s tag out inn) ((out < 2 ^ 32) × (inn < 2 ^ 32))
 callingOf (move-call tag d offset count) = quiet (λ s. Named s tag d offset count) (Unit {0})
 callingOf (step-call tag d) = quiet (λ s. Stepped s tag d) (Unit {0})
+callingOf turn-call = quiet Turned (Unit {0})
 callingOf (finish-call room tag status sense) = writing room (λ s. Finished s room tag status sense) (status < 2 ^ 8)
 callingOf (add-call k) = quiet (λ s. Added s k) (Unit {0})
 callingOf (withdraw-call k) = quiet (λ s. Withdrew s k) (Unit {0})

@@ -17,15 +17,19 @@ use Rattle.exports.specs.Arguments.{recordSize, allWords, settingsIn}
 use Rattle.demand.specs.Posts.{Slice, CountersPost, ListPost}
 use Rattle.demand.specs.Calls.{Memory, seen, LoggedIn, Call}
 
--- the login with these settings, Q and this message was accepted and left the words p, and each call is made on the words and the store that the last
--- one left; `store` is whatever the owner lent
-abbrev pub Holds : (settings : List ℕ) (Q : ℕ) (own msg : List ℕ) (room : ℕ) (ss : List (List ℕ)) (p store : List ℕ) → Type 0
-Holds settings Q own msg room ss p store =
+-- what is claimed of every run: the login with these settings, Q and this message was accepted and left the words p, and each call is made on the words and
+-- the store that the last one left; `store` is whatever the owner lent
+abbrev pub OfRuns : (Claim : (L : Login) (s : Memory) (m : Machine) (es : List Event) → Run L seen Call s m es → Type 0)
+    → (settings : List ℕ) (Q : ℕ) (own msg : List ℕ) (room : ℕ) (ss : List (List ℕ)) (p store : List ℕ) → Type 0
+OfRuns Claim settings Q own msg room ss p store =
     LoggedIn settings Q own msg room Accepted ss p
     → let c : Settings = settingsIn settings Q in
     let L : Login = loginOf c msg in
     let s : Memory = record { words = p; store = store } in
-    (es : List Event) (run : Run L seen Call s (start (c .buffers)) es) → Fair L seen Call s (start (c .buffers)) es run → Demand L seen Call s (start (c .buffers)) es run
+    (es : List Event) (run : Run L seen Call s (start (c .buffers)) es) → Fair L seen Call s (start (c .buffers)) es run → Claim L s (start (c .buffers)) es run
+
+abbrev pub Holds : (settings : List ℕ) (Q : ℕ) (own msg : List ℕ) (room : ℕ) (ss : List (List ℕ)) (p store : List ℕ) → Type 0
+Holds settings Q own msg room ss p store = OfRuns (λ L s m es run. Demand L seen Call s m es run) settings Q own msg room ss p store
 
 -- what the counters answer, the number n and the words w: "W, A, H and D", the first three as the machine has counted them
 abbrev pub Reports : (L : Login) (m : Machine) (s : Memory) (n : ℕ) (w : List ℕ) → Type 0

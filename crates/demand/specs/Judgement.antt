@@ -19,15 +19,15 @@ use Rattle.srp.specs.Writing.{targetLogout, placed}
 use Rattle.srp.specs.Take.{Outcome, Tables, answerBad, refusedBy, accepted}
 use Rattle.srp.specs.Tables.{tablesChecks, tablesRefused, tablesOutcome}
 use Rattle.srp.specs.Order.{takeOrder}
-use Rattle.srp.specs.Calls.{planChecks, planOutcome, moveChecks, moveOutcome, stepChecks, stepOutcome, finishChecks, finishOutcome, addChecks, addOutcome, withdrawChecks, withdrawOutcome, grantChecks, grantOutcome, closeChecks, closeOutcome, countersChecks, countersOutcome, listing, listChecks, listOutcome}
+use Rattle.srp.specs.Calls.{planChecks, planOutcome, moveChecks, moveOutcome, stepChecks, stepOutcome, serveFirst, turnChecks, finishChecks, finishOutcome, addChecks, addOutcome, withdrawChecks, withdrawOutcome, grantChecks, grantOutcome, closeChecks, closeOutcome, countersChecks, countersOutcome, listing, listChecks, listOutcome}
 use Rattle.srp.specs.Login.{loginChecks, rejections, judged}
 use Rattle.srp.specs.Outside.{lookAnswer, cutAnswer}
-use Rattle.srp.specs.Answers.{answerOf}
+use Rattle.srp.specs.Answers.{operationIn, answerOf}
 use Rattle.srp.specs.declared.Refusal.{Refusal}
 use Rattle.srp.specs.declared.Refusal.the-variants.{ShortBuffer}
 use Rattle.srp.specs.declared.Settings.{Settings}
 use Rattle.srp.specs.declared.Message.{Message}
-use Rattle.srp.specs.declared.Reply.the-variants.{Done, Accepted, Rejected}
+use Rattle.srp.specs.declared.Reply.the-variants.{Accepted, Rejected}
 use Rattle.answer.specs.Words.{answerWords}
 use Rattle.words.specs.View.{view, closedWords}
 use Rattle.tables.specs.Bringing.{Accepted as Supplied}
@@ -150,15 +150,20 @@ JudgesMove l l′ tag direction offset count n =
     → let d = directionIn direction in
     Judgement (moveChecks (view l st) tag d offset) n (view l′ st ≡ moveOutcome (view l st) tag d offset count .port) (λ f. l′ ≡ l)
 
--- step has words and no buffer; one that says done alters no word of the port
+-- step and turn have words and no buffer; one that hands out no operation, as it says done or idle, alters no word of the port
 pub record Handed (o : Outcome) (l l′ st w : List ℕ) : Type 0 where
   pub words : w ≡ answerWords (answerOf o)
   pub port : view l′ st ≡ o .port
-  pub done : (k : ℕ) → o .reply ≡ Done k → l′ ≡ l
+  pub nothing : operationIn (o .reply) ≡ none → l′ ≡ l
 
 abbrev pub JudgesStep : (l l′ st : List ℕ) (tag direction n : ℕ) (w : List ℕ) → Type 0
 JudgesStep l l′ st tag direction n w =
     Judgement (stepChecks (view l st) tag) n (Handed (stepOutcome (view l st) tag (directionIn direction)) l l′ st w) (λ f. (w ≡ noWords) × (l′ ≡ l))
+
+-- the first of the line is served; of the refusals it draws 21 alone
+abbrev pub JudgesTurn : (l l′ st : List ℕ) (n : ℕ) (w : List ℕ) → Type 0
+JudgesTurn l l′ st n w =
+    Judgement (turnChecks (view l st)) n (Handed (serveFirst (view l st) (view l st .line)) l l′ st w) (λ f. (w ≡ noWords) × (l′ ≡ l))
 
 abbrev pub JudgesFinish : (l b l′ b′ : List ℕ) (tag status : ℕ) (sense : List ℕ) (n : ℕ) (w : List ℕ) → Type 0
 JudgesFinish l b l′ b′ tag status sense n w =

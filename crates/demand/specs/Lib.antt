@@ -5,4 +5,5 @@ pub mod Judgement
 pub mod Demand1
 pub mod Following
 pub mod Holding
+pub mod Turns
 pub mod Numbered

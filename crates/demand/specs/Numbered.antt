@@ -12,7 +12,7 @@ use denote.Ref.{now}
 use contract.Lifetimes.{Lfts}
 use Rattle.srp.specs.Limits.{mostBuffers}
 use Rattle.srp.specs.Tables.{tablesDef}
-use Rattle.srp.specs.Calls.{planDef, moveDef, stepDef, finishDef, addDef, withdrawDef, grantDef, closeDef, countersDef, listDef}
+use Rattle.srp.specs.Calls.{planDef, moveDef, stepDef, turnDef, finishDef, addDef, withdrawDef, grantDef, closeDef, countersDef, listDef}
 use Rattle.srp.specs.Login.{loginDef}
 use Rattle.srp.specs.Requests.{lookDef}
 use Rattle.srp.specs.Cutting.{cutDef}
@@ -34,6 +34,7 @@ use Rattle.tables.proofs.bring.Reads as tables-call
 use Rattle.transfer.proofs.plan.Reads as plan-call
 use Rattle.transfer.proofs.name_move.Reads as move-call
 use Rattle.transfer.proofs.step.Reads as step-call
+use Rattle.transfer.proofs.turn.Reads as turn-call
 use Rattle.finish.proofs.finish.Reads as finish-call
 use Rattle.credit.proofs.add.Reads as add-call
 use Rattle.credit.proofs.withdraw.Reads as withdraw-call
@@ -41,7 +42,7 @@ use Rattle.credit.proofs.grant.Reads as grant-call
 use Rattle.close.proofs.close.Reads as close-call
 use Rattle.report.proofs.counters.Reads as counters-call
 use Rattle.report.proofs.list.Reads as list-call
-use Rattle.demand.specs.Posts.{Slice, LoginPost, TakePost, TablesPost, PlanPost, MovePost, StepPost, FinishPost, AddPost, WithdrawPost, GrantPost, ClosePost, CountersPost, ListPost, LookPost, CutPost, TracePost}
+use Rattle.demand.specs.Posts.{Slice, LoginPost, TakePost, TablesPost, PlanPost, MovePost, StepPost, TurnPost, FinishPost, AddPost, WithdrawPost, GrantPost, ClosePost, CountersPost, ListPost, LookPost, CutPost, TracePost}
 
 -- of a call by value: the reply r has the number and the values of the outcome
 pub record SaysAs (r : Reply) (o : Outcome) : Type 0 where
@@ -74,6 +75,9 @@ pub record EachSays : Type 0 where
   pub step : (p q : Slice) (κs : Lfts 2) (s : Slice) (tag : ℕ) (d : Direction) (r : Reply)
       → step-call.Post κs (p, (s, (tag, (d, tt)))) r (q, (s, (tag, (d, tt))))
       → SaysAs r (stepDef (view (now p) (now s)) tag d)
+  pub turn : (p q : Slice) (κs : Lfts 2) (s : Slice) (r : Reply)
+      → turn-call.Post κs (p, (s, tt)) r (q, (s, tt))
+      → SaysAs r (turnDef (view (now p) (now s)))
   pub finish : (st : List ℕ) (p q : Slice) (κs : Lfts 3) (tag status : ℕ) (e b d : Slice) (a : Answer)
       → finish-call.Post κs (p, (tag, (status, (e, (b, tt))))) a (q, (tag, (status, (e, (d, tt)))))
       → SaysAs (a .reply) (finishDef (view (now p) st) (length (now b)) tag status (now e))
@@ -114,6 +118,7 @@ pub record EachCounts : Type 0 where
       → n ≡ returned (moveDef (view (now p) st) tag (directionIn direction) offset count .reply)
   pub step : (p q st w v : Slice) (tag direction n : ℕ) → StepPost p q st w v tag direction n
       → CountsAs n (now v) (stepDef (view (now p) (now st)) tag (directionIn direction))
+  pub turn : (p q st w v : Slice) (n : ℕ) → TurnPost p q st w v n → CountsAs n (now v) (turnDef (view (now p) (now st)))
   pub finish : (st : List ℕ) (p q e b d w v : Slice) (tag status n : ℕ) → FinishPost p q e b d w v tag status n
       → CountsAs n (now v) (finishDef (view (now p) st) (length (now b)) tag status (now e))
   pub add : (st : List ℕ) (p q : Slice) (k n : ℕ) → AddPost p q k n → n ≡ returned (addDef (view (now p) st) k .reply)

@@ -11,6 +11,7 @@ use Rattle.exports.proofs.taking.srp_target_tables.Reads as tables-in-c
 use Rattle.exports.proofs.port.srp_target_plan.Reads as plan-in-c
 use Rattle.exports.proofs.port.srp_target_move.Reads as move-in-c
 use Rattle.exports.proofs.port.srp_target_step.Reads as step-in-c
+use Rattle.exports.proofs.port.srp_target_turn.Reads as turn-in-c
 use Rattle.exports.proofs.port.srp_target_finish.Reads as finish-in-c
 use Rattle.exports.proofs.port.srp_target_add.Reads as add-in-c
 use Rattle.exports.proofs.port.srp_target_withdraw.Reads as withdraw-in-c
@@ -47,6 +48,9 @@ MovePost p q tag direction offset count n =
 
 abbrev pub StepPost : (p q st w v : Slice) (tag direction n : ℕ) → Type 0
 StepPost p q st w v tag direction n = (κs : Lfts 3) × step-in-c.Post κs (p, (st, (tag, (direction, (w, tt))))) n (q, (st, (tag, (direction, (v, tt)))))
+
+abbrev pub TurnPost : (p q st w v : Slice) (n : ℕ) → Type 0
+TurnPost p q st w v n = (κs : Lfts 3) × turn-in-c.Post κs (p, (st, (w, tt))) n (q, (st, (v, tt)))
 
 -- e is the sense
 abbrev pub FinishPost : (p q e b d w v : Slice) (tag status n : ℕ) → Type 0

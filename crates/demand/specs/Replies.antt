@@ -7,10 +7,11 @@ use lib.Dec.{eqb}
 use lib.ListN.{getD, take}
 use Rattle.srp.specs.Refusals.{refusalNumbered}
 use Rattle.srp.specs.Cutting.{piece}
+use Rattle.srp.specs.declared.Direction.the-variants.{Out, In}
 use Rattle.srp.specs.declared.Refusal.{Refusal}
 use Rattle.srp.specs.declared.Kind.the-variants.{Read, Write}
 use Rattle.srp.specs.declared.Reply.{Reply}
-use Rattle.srp.specs.declared.Reply.the-variants.{Refused, Performed, NewCommand, TaskAnswered, CreditSettled, LoggedOut, Operation, Done, Accepted, Rejected}
+use Rattle.srp.specs.declared.Reply.the-variants.{Refused, Performed, NewCommand, TaskAnswered, CreditSettled, LoggedOut, Operation, Done, Served, Idle, Accepted, Rejected}
 
 abbrev pub refusedOr : Option Refusal → Reply → Reply
 refusedOr none r = r
@@ -41,6 +42,13 @@ stepped w =
     cond (eqb (getD w 0 0) 1)
     (Operation (cond (eqb (getD w 1 0) 1) Read Write) (piece (getD w 3 0) (getD w 2 0) (getD w 4 0) (getD w 5 0)) (getD w 6 0))
     (Done (getD w 6 0))
+
+-- turn: 1 for an operation, with the words of step's, whose kind tells the direction, and behind its number the tag; 0 for idle
+abbrev pub turned : List ℕ → Reply
+turned w =
+    cond (eqb (getD w 0 0) 1)
+    (Served (getD w 7 0) (cond (eqb (getD w 1 0) 1) Out In) (piece (getD w 3 0) (getD w 2 0) (getD w 4 0) (getD w 5 0)) (getD w 6 0))
+    Idle
 
 -- login: behind the message's length the reason of a rejection, 0 where it is accepted
 abbrev pub loggedIn : List ℕ → Reply
