@@ -45,7 +45,11 @@ fn place_at(s: &[u64], j: usize) -> usize
 fn direction_of(word: u64) -> Direction
     ensures { λ d. ⌜ d ≡ directionIn word ⌝ }
 {
-    if word % 2 == 1 { Direction::In } else { Direction::Out }
+    if word % 2 == 1 {
+        Direction::In
+    } else {
+        Direction::Out
+    }
 }
 
 fn word_of(d: Direction) -> u64

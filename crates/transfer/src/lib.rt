@@ -187,7 +187,14 @@ fn hand_out(s: &mut [u64], store: &[u8], i: usize, d: Direction, terms: Terms) -
 }
 
 // The next piece of the planned command in slot i, or done; the last piece takes the move out of the line.
-fn step_planned(s: &mut [u64], store: &[u8], tag: u64, i: usize, d: Direction, terms: Terms) -> Reply
+fn step_planned(
+    s: &mut [u64],
+    store: &[u8],
+    tag: u64,
+    i: usize,
+    d: Direction,
+    terms: Terms,
+) -> Reply
     requires { ⌜ length (now s) ≡ portWords ⌝ }
     requires { ⌜ length (now store) ≡ storeSize ⌝ }
     requires { ⌜ headOf (now s) .live ≡ true ⌝ }
