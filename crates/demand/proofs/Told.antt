@@ -60,7 +60,7 @@ back (s ∷ t ∷ ss) b h = absurd h
 abbrev pub InWords : (said : List ℕ → Reply) → Outcome → Type 0
 InWords said o = replyBy said (returned (o .reply)) (answerWords (answerOf o)) ≡ o .reply
 
--- and its message's length stands first
+-- so it is of an outcome with a message at most, whose length stands first
 pub record Told (said : List ℕ → Reply) (o : Outcome) : Type 0 where
   pub reply : InWords said o
   pub size : getD (answerWords (answerOf o)) 0 0 ≡ sizeOf (o .wrote)

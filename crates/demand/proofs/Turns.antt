@@ -16,7 +16,7 @@ use Rattle.srp.specs.Credit.{Open, Port, hasTag, closedPort}
 use Rattle.srp.specs.Take.{Outcome}
 use Rattle.srp.specs.Calls.{unless, kindOf, nextOf, numberIn, serve, serveFirst, turnChecks, turnDef}
 use Rattle.srp.specs.Ranges.{Ranges, Ranged}
-use Rattle.srp.specs.Answers.{kindNumber, returned, sizeOf, answerOf}
+use Rattle.srp.specs.Answers.{kindNumber, returned, sizeOf}
 use Rattle.srp.specs.declared.Direction.{Direction}
 use Rattle.srp.specs.declared.Piece.{Piece}
 use Rattle.srp.specs.declared.Place.{Place}
@@ -32,7 +32,7 @@ use Rattle.answer.specs.Words.{answerWords}
 use Rattle.words.specs.View.{view}
 use Rattle.exports.specs.Arguments.{settingsIn}
 use Rattle.exports.specs.Calls.{InC}
-use Rattle.demand.specs.Calls.{Memory, seen, Call}
+use Rattle.demand.specs.Calls.{seen, Call}
 use Rattle.demand.specs.Turns.{ServedInTime, InLine, ServesInC, TurnSays, TurnsInC}
 use Rattle.demand.proofs.Holds.{meets, logged-in}
 use Rattle.demand.proofs.Following.{led-reached}
