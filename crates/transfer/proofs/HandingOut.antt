@@ -11,7 +11,6 @@ use Rattle.srp.specs.Both.{of}
 use Rattle.srp.specs.Credit.{Side, onSide}
 use Rattle.srp.specs.Calls.{hasPieces, handing, nextIn, wrapped}
 use Rattle.srp.specs.declared.Direction.{Direction}
-use Rattle.srp.specs.declared.Terms.{Terms}
 use Rattle.srp.specs.declared.Piece.{Piece}
 use Rattle.srp.specs.declared.Cut.{Cut}
 use Rattle.srp.specs.declared.Cut.the-variants.{CutPiece, CutDone}
@@ -23,10 +22,10 @@ use Rattle.words.specs.declared.Part.{Part}
 use Rattle.transfer.specs.Stepping.{commandAt, sideAt, HandsNone, HandsOne}
 use Rattle.transfer.proofs.Pieces.{side-read, no-piece, a-piece}
 
-module _ (l st : List ℕ) (i : ℕ) (T : Terms) (d : Direction) (settled : T ≡ headOf l .terms) {p : Part} (P : PartIs l i d p)
+module _ (l st : List ℕ) (i : ℕ) (d : Direction) {p : Part} (P : PartIs l i d p)
     {place : ℕ} (stands : place ≡ getD (slots l) i noSlot .place) where
   abbrev coming : Option Piece
-  coming = nextIn T (sideOf st (placeAt d place) p)
+  coming = nextIn (headOf l .terms) (sideOf st (placeAt d place) p)
 
   -- the direction as it was read
   read : sideAt l st i d ≡ sideOf st (placeAt d place) p
@@ -34,7 +33,7 @@ module _ (l st : List ℕ) (i : ℕ) (T : Terms) (d : Direction) (settled : T �
 
   -- its next piece
   next-read : nextIn (headOf l .terms) (sideAt l st i d) ≡ coming
-  next-read = λ j. nextIn (sym settled j) (read j)
+  next-read = ap (nextIn (headOf l .terms)) read
 
   module _ {r : Cut} (is : r ≡ nextWrapped coming) where
     -- no piece is left

@@ -104,10 +104,10 @@ module _ (n : Option Piece) {r : Cut} (is : r ≡ nextWrapped n) where
 -- ── the move's next byte
 
 -- behind the next piece it stays in 32 bits, and is at or behind as many bytes as there are operations then
-pub next-fits : (l st : List ℕ) (T : Terms) (at : ℕ) (p : Part) {r : Cut} (m : Piece) → T ≡ headOf l .terms → PartFits p → p .transfer .end < 2 ^ 32
-    → r ≡ nextWrapped (nextIn T (sideOf st at p)) → r ≡ CutPiece m → (p .transfer .at + m .len < 2 ^ 32) × (p .transfer .number + 1 ≤ p .transfer .at + m .len)
-next-fits l st T at p m settled fits small is f =
+pub next-fits : (l st : List ℕ) (at : ℕ) (p : Part) {r : Cut} (m : Piece) → PartFits p → p .transfer .end < 2 ^ 32
+    → r ≡ nextWrapped (nextIn (headOf l .terms) (sideOf st at p)) → r ≡ CutPiece m → (p .transfer .at + m .len < 2 ^ 32) × (p .transfer .number + 1 ≤ p .transfer .at + m .len)
+next-fits l st at p m fits small is f =
+    let T : Terms = headOf l .terms in
     let o = a-piece (nextIn T (sideOf st at p)) is f in
-    let some-byte : 1 ≤ T .maximum = rw settled (head-fits l .terms .smallest) in
-    let e = ends-by T some-byte (sideOf st at p) (o .0) (o .1) in
+    let e = ends-by T (head-fits l .terms .smallest) (sideOf st at p) (o .0) (o .1) in
     rw (o .2) (omega (arith, e, small), omega (arith, e, fits .counted))

@@ -7,7 +7,6 @@ use srp::Piece;
 use srp::Place;
 use srp::Refusal;
 use srp::Reply;
-use srp::Terms;
 use state::Found;
 use state::Leaving;
 use state::moves;
@@ -143,36 +142,31 @@ fn larger(a: u32, b: u32) -> u32
 }
 
 // The next piece of a direction's current move, or done.
-fn next_for(s: &[u64], store: &[u8], place: u8, p: Part, d: Direction, terms: Terms) -> Cut
+fn next_for(s: &[u64], store: &[u8], place: u8, p: Part, d: Direction, maximum: u32) -> Cut
     requires { ⌜ length (now s) ≡ portWords ⌝ }
     requires { ⌜ length (now store) ≡ storeSize ⌝ }
     requires { ⌜ place < mostSlots ⌝ }
     requires { ⌜ p .segments ≤ mostCopies ⌝ }
-    requires { ⌜ terms ≡ headOf (now s) .terms ⌝ }
-    ensures { λ r. ⌜ r ≡ nextWrapped (nextIn terms (sideOf (now (store .entry)) (placeAt d place) p)) ⌝ }
+    requires { ⌜ maximum ≡ headOf (now s) .terms .maximum ⌝ }
+    ensures { λ r. ⌜ r ≡ nextWrapped (nextIn (headOf (now (s .entry)) .terms) (sideOf (now (store .entry)) (placeAt d place) p)) ⌝ }
 {
     let at = place_for(place, d);
     let end = at + (p.segments as usize) * SEGMENT;
-    let piece = cut::next_piece(
-        &store[at..end],
-        terms.maximum,
-        p.transfer.at,
-        p.transfer.end,
-    );
+    let piece = cut::next_piece(&store[at..end], maximum, p.transfer.at, p.transfer.end);
     cut::end_at_boundary(piece, words::load_boundary(s))
 }
 
 // The next piece of a direction's current move, of the command in slot i, is handed out.
-fn hand_out(s: &mut [u64], store: &[u8], i: usize, d: Direction, terms: Terms) -> Handed
+fn hand_out(s: &mut [u64], store: &[u8], i: usize, d: Direction, maximum: u32) -> Handed
     requires { ⌜ length (now s) ≡ portWords ⌝ }
     requires { ⌜ length (now store) ≡ storeSize ⌝ }
     requires { ⌜ i < mostSlots ⌝ }
-    requires { ⌜ terms ≡ headOf (now s) .terms ⌝ }
+    requires { ⌜ maximum ≡ headOf (now s) .terms .maximum ⌝ }
     ensures { λ r. ⌜ HandsOut (now (s .entry)) (now (s .exit)) (now (store .entry)) i d r ⌝ }
 {
     let p = commands::load_part(s, i, d);
     let place = commands::load_place(s, i);
-    match next_for(s, store, place, p, d, terms) {
+    match next_for(s, store, place, p, d, maximum) {
         // next_piece refuses nothing: this arm is shown not to be reached
         Cut::CutRefused(_) => Handed::Nothing(p.transfer.number),
         Cut::CutDone => Handed::Nothing(p.transfer.number),
@@ -193,16 +187,16 @@ fn step_planned(
     tag: u64,
     i: usize,
     d: Direction,
-    terms: Terms,
+    maximum: u32,
 ) -> Reply
     requires { ⌜ length (now s) ≡ portWords ⌝ }
     requires { ⌜ length (now store) ≡ storeSize ⌝ }
     requires { ⌜ headOf (now s) .live ≡ true ⌝ }
     requires { ⌜ FoundAt (now s) tag i ⌝ }
-    requires { ⌜ terms ≡ headOf (now s) .terms ⌝ }
+    requires { ⌜ maximum ≡ headOf (now s) .terms .maximum ⌝ }
     ensures { λ r. ⌜ StepsPlanned (now (s .entry)) (now (s .exit)) (now (store .entry)) tag d r ⌝ }
 {
-    match hand_out(s, store, i, d, terms) {
+    match hand_out(s, store, i, d, maximum) {
         Handed::Nothing(n) => Reply::Done(n),
         Handed::One(piece, n, more) => {
             if more {
@@ -236,21 +230,21 @@ pub fn step(s: &mut [u64; PORT], store: &[u8; STORE], tag: u64, d: Direction) ->
     if !commands::load_planned(s, i) {
         return Reply::Refused(Refusal::Unplanned);
     }
-    step_planned(s, store, tag, i, d, h.terms)
+    step_planned(s, store, tag, i, d, h.terms.maximum)
 }
 
 // Serves the move x, the first of the line, whose command is in slot i.
-fn serve(s: &mut [u64], store: &[u8], x: Place, i: usize, terms: Terms) -> Reply
+fn serve(s: &mut [u64], store: &[u8], x: Place, i: usize, maximum: u32) -> Reply
     requires { ⌜ length (now s) ≡ portWords ⌝ }
     requires { ⌜ length (now store) ≡ storeSize ⌝ }
     requires { ⌜ headOf (now s) .live ≡ true ⌝ }
     requires { ⌜ FirstIs (now s) x ⌝ }
     requires { ⌜ FoundAt (now s) (x .tag) i ⌝ }
-    requires { ⌜ terms ≡ headOf (now s) .terms ⌝ }
+    requires { ⌜ maximum ≡ headOf (now s) .terms .maximum ⌝ }
     ensures { λ r. ⌜ Serves (now (s .entry)) (now (s .exit)) (now (store .entry)) r ⌝ }
 {
     let d = x.direction;
-    match hand_out(s, store, i, d, terms) {
+    match hand_out(s, store, i, d, maximum) {
         Handed::Nothing(_) => Reply::Idle,
         Handed::One(piece, n, more) => {
             line::pass(s, x, more);
@@ -275,5 +269,5 @@ pub fn turn(s: &mut [u64; PORT], store: &[u8; STORE]) -> Reply
     let Found::At(i) = state::find(s, x.tag) else {
         return Reply::Idle;
     };
-    serve(s, store, x, i, h.terms)
+    serve(s, store, x, i, h.terms.maximum)
 }

@@ -5,6 +5,7 @@ use native.Mathlib.Omega.{arith}
 use lib.ListN.{getD}
 use Rattle.srp.specs.Calls.{nextIn}
 use Rattle.words.specs.Slots.{slots, noSlot, placeAt}
+use Rattle.words.specs.Head.{headOf}
 use Rattle.words.specs.View.{sideOf}
 use Rattle.transfer.proofs.Pieces.{no-refusal, next-fits, handed-open}
 use Rattle.transfer.proofs.HandingOut.{hands-none, hands-one}
@@ -50,7 +51,7 @@ add-next : tie.Need-add-next
 add-next c =
     let a = c .before .before .before .before .before .before .before .before .before .before .before .before .before .args in
     let q = c .before .before .before .before .before .before .before .before .before .load-part .result in
-    let f = next-fits (a .s .now) (a .store .now) (a .terms) (placeAt (a .d) (c .before .before .before .before .before .before .before .load-place .result)) q (c .before .before .before .piece .given .0 .0) (c .before .before .before .before .before .before .before .before .before .before .before .before .before .pre .1 .1 .1) (c .before .before .before .before .before .before .before .before .before .load-part .ensures .fits) (search needs) (c .before .before .before .before .before .next-for .ensures) (c .before .before .before .piece .given .1) in
+    let f = next-fits (a .s .now) (a .store .now) (placeAt (a .d) (c .before .before .before .before .before .before .before .load-place .result)) q (c .before .before .before .piece .given .0 .0) (c .before .before .before .before .before .before .before .before .before .load-part .ensures .fits) (search needs) (c .before .before .before .before .before .next-for .ensures) (c .before .before .before .piece .given .1) in
     record { fits = f .0 }
 
 -- src/lib.rt:181:17
@@ -62,7 +63,7 @@ add-number : tie.Need-add-number
 add-number c =
     let a = c .before .before .before .before .before .before .before .before .before .before .before .before .before .before .before .args in
     let q = c .before .before .before .before .before .before .before .before .before .before .before .load-part .result in
-    let f = next-fits (a .s .now) (a .store .now) (a .terms) (placeAt (a .d) (c .before .before .before .before .before .before .before .before .before .load-place .result)) q (c .before .before .before .before .before .piece .given .0 .0) (c .before .before .before .before .before .before .before .before .before .before .before .before .before .before .before .pre .1 .1 .1) (c .before .before .before .before .before .before .before .before .before .before .before .load-part .ensures .fits) (search needs) (c .before .before .before .before .before .before .before .next-for .ensures) (c .before .before .before .before .before .piece .given .1) in
+    let f = next-fits (a .s .now) (a .store .now) (placeAt (a .d) (c .before .before .before .before .before .before .before .before .before .load-place .result)) q (c .before .before .before .before .before .piece .given .0 .0) (c .before .before .before .before .before .before .before .before .before .before .before .load-part .ensures .fits) (search needs) (c .before .before .before .before .before .before .before .next-for .ensures) (c .before .before .before .before .before .piece .given .1) in
     record { fits = omega (arith, f) }
 
 -- src/lib.rt:183:13
@@ -70,7 +71,7 @@ set-move-requires : tie.Need-set-move-requires
 set-move-requires c κs =
     let a = c .before .before .before .before .before .before .before .before .before .before .before .before .before .before .before .before .args in
     let q = c .before .before .before .before .before .before .before .before .before .before .before .before .load-part .result in
-    let f = next-fits (a .s .now) (a .store .now) (a .terms) (placeAt (a .d) (c .before .before .before .before .before .before .before .before .before .before .load-place .result)) q (c .before .before .before .before .before .before .piece .given .0 .0) (c .before .before .before .before .before .before .before .before .before .before .before .before .before .before .before .before .pre .1 .1 .1) (c .before .before .before .before .before .before .before .before .before .before .before .before .load-part .ensures .fits) (search needs) (c .before .before .before .before .before .before .before .before .next-for .ensures) (c .before .before .before .before .before .before .piece .given .1) in
+    let f = next-fits (a .s .now) (a .store .now) (placeAt (a .d) (c .before .before .before .before .before .before .before .before .before .before .load-place .result)) q (c .before .before .before .before .before .before .piece .given .0 .0) (c .before .before .before .before .before .before .before .before .before .before .before .before .load-part .ensures .fits) (search needs) (c .before .before .before .before .before .before .before .before .next-for .ensures) (c .before .before .before .before .before .before .piece .given .1) in
     (c .before .before .before .before .before .before .before .before .before .before .before .before .before .before .before .before .pre .0, (c .before .before .before .before .before .before .before .before .before .before .before .before .before .before .before .before .pre .1 .1 .0, f .1))
 
 -- src/lib.rt:166:1
@@ -81,7 +82,7 @@ same-length c = search needs
 returns : tie.Need-returns
 returns c =
     let a = c .before .before .before .before .before .before .before .before .before .before .args in
-    absurd (no-refusal (nextIn (a .terms) (sideOf (a .store .now) (placeAt (a .d) (c .before .before .before .before .load-place .result)) (c .before .before .before .before .before .before .load-part .result))) (c .before .before .next-for .ensures) (c .enum-told .given .1))
+    absurd (no-refusal (nextIn (headOf (a .s .now) .terms) (sideOf (a .store .now) (placeAt (a .d) (c .before .before .before .before .load-place .result)) (c .before .before .before .before .before .before .load-part .result))) (c .before .before .next-for .ensures) (c .enum-told .given .1))
 
 -- src/lib.rt:166:1
 same-length-2 : tie.Need-same-length-2
@@ -91,7 +92,7 @@ same-length-2 c = search needs
 returns-2 : tie.Need-returns-2
 returns-2 c =
     let a = c .before .before .before .before .before .before .before .before .before .before .args in
-    hands-none (a .s .now) (a .store .now) (a .i) (a .terms) (a .d) (c .before .before .before .before .before .before .before .before .before .before .pre .1 .1 .1) (c .before .before .before .before .before .before .load-part .ensures) (c .before .before .before .before .load-place .ensures .0) (c .before .before .next-for .ensures) (c .enum-told2 .given .1)
+    hands-none (a .s .now) (a .store .now) (a .i) (a .d) (c .before .before .before .before .before .before .load-part .ensures) (c .before .before .before .before .load-place .ensures .0) (c .before .before .next-for .ensures) (c .enum-told2 .given .1)
 
 -- src/lib.rt:166:1
 same-length-3 : tie.Need-same-length-3
@@ -103,7 +104,7 @@ returns-3 c =
     let a = c .before .before .before .before .before .before .before .before .before .before .before .before .before .before .before .before .before .before .before .before .args in
     let q = c .before .before .before .before .before .before .before .before .before .before .before .before .before .before .before .before .load-part .result in
     let m = c .before .before .before .before .before .before .before .before .before .before .piece .given .0 .0 in
-    hands-one (a .s .now) (a .store .now) (a .i) (a .terms) (a .d) (c .before .before .before .before .before .before .before .before .before .before .before .before .before .before .before .before .before .before .before .before .pre .1 .1 .1) (c .before .before .before .before .before .before .before .before .before .before .before .before .before .before .before .before .load-part .ensures) (c .before .before .before .before .before .before .before .before .before .before .before .before .before .before .load-place .ensures .0) (c .before .before .before .before .before .before .before .before .before .before .before .before .next-for .ensures) (c .before .before .before .before .before .before .larger .result) (q .transfer .at + m .len) m (c .before .before .before .before .before .before .before .before .before .before .piece .given .1) refl (c .before .before .before .set-move .ensures)
+    hands-one (a .s .now) (a .store .now) (a .i) (a .d) (c .before .before .before .before .before .before .before .before .before .before .before .before .before .before .before .before .load-part .ensures) (c .before .before .before .before .before .before .before .before .before .before .before .before .before .before .load-place .ensures .0) (c .before .before .before .before .before .before .before .before .before .before .before .before .next-for .ensures) (c .before .before .before .before .before .before .larger .result) (q .transfer .at + m .len) m (c .before .before .before .before .before .before .before .before .before .before .piece .given .1) refl (c .before .before .before .set-move .ensures)
     (handed-open (a .store .now) (getD (slots (a .s .now)) (a .i) noSlot) (a .d) (c .before .before .before .before .before .before .before .before .before .before .before .before .before .before .before .before .load-part .ensures .whole) (m .len) refl (c .before .before .before .before .before .before .larger .ensures)) refl
 
 pub hand-out-spec : {M : Type 1} → statement M

@@ -1,11 +1,11 @@
 -- `transfer::next_for` meets its contract. Assumes nothing.
-use mathlib.Core.Path.{sym, _∙_, ap}
+use mathlib.Core.Path.{_∙_, ap}
 use mathlib.Core.List.{List}
-use Prim.Native.Nat.{ℕ, _+_, _-_, _*_}
+use Prim.Native.Nat.{_+_, _-_, _*_}
 use lib.ListN.{take, drop}
 use Rattle.srp.specs.Descriptors.{Segment, segmentsOf}
 use Rattle.srp.specs.Cutting.{upTo, next}
-use Rattle.srp.specs.declared.Terms.{Terms}
+use Rattle.words.specs.Head.{headOf}
 use Rattle.cut.specs.Walk.{nextWrapped, ended}
 use Rattle.cut.proofs.Pieces.{ended-next}
 use Rattle.transfer.proofs.Pieces.{next-part}
@@ -49,13 +49,13 @@ returns c =
     let a = c .before .before .before .before .before .before .before .before .args in
     let at = c .before .before .before .before .before .place-for .result in
     let q = c .before .load-boundary .result in
-    let T = a .terms in
+    let T = headOf (a .s .now) .terms in
     let t = a .p .transfer in
     let ss : List Segment = segmentsOf (take (at + a .p .segments * 16 - at) (drop at (a .store .now))) in
     c .end-at-boundary .ensures
     ∙ ap (ended q) (c .before .before .next-piece .ensures)
-    ∙ ended-next (T .maximum) q (t .at) (t .end) ss (c .before .load-boundary .ensures .1)
-    ∙ ap (λ (k : ℕ). nextWrapped (next (upTo (T .maximum) k) (t .at) (t .end) ss)) (c .before .load-boundary .ensures .0 ∙ sym (ap (λ (x : Terms). x .boundary) (c .before .before .before .before .before .before .before .before .pre .1 .1 .1 .1)))
+    ∙ ended-next (a .maximum) q (t .at) (t .end) ss (c .before .load-boundary .ensures .1)
+    ∙ (λ j. nextWrapped (next (upTo (c .before .before .before .before .before .before .before .before .pre .1 .1 .1 .1 j) (c .before .load-boundary .ensures .0 j)) (t .at) (t .end) ss))
     ∙ ap nextWrapped (next-part T (a .store .now) (a .place) (a .d) (a .p) (c .before .before .before .before .before .place-for .ensures .0))
 
 pub next-for-spec : {M : Type 1} → statement M

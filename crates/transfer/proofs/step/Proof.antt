@@ -82,7 +82,7 @@ step-planned-requires c κs =
     let l = a .s .now in
     let live : headOf l .live ≡ true = head-open (c .before .before .before .before .before .before .before .before .before .before .before .before .before .before .before .before .before .get-head .ensures) (c .before .before .before .before .before .before .before .before .before .before .before .before .before .before .before .before .if1 .left) in
     let F : FoundAt l (a .tag) (c .before .before .before .before .before .before .before .before .before .before .before .i .given .0 .0) = rw (c .before .before .before .before .before .before .before .before .before .before .before .i .given .1) at (c .before .before .before .before .before .before .before .before .before .before .before .before .before .find .ensures) in
-    (search needs, (search needs, (live, (F, ap (λ (h : Head). h .terms) (c .before .before .before .before .before .before .before .before .before .before .before .before .before .before .before .before .before .get-head .ensures .whole)))))
+    (search needs, (search needs, (live, (F, ap (λ (h : Head). h .terms .maximum) (c .before .before .before .before .before .before .before .before .before .before .before .before .before .before .before .before .before .get-head .ensures .whole)))))
 
 returns-5 : tie.Need-returns-5
 returns-5 c =

@@ -70,7 +70,7 @@ serve-requires c κs =
     let live : headOf (a .s .now) .live ≡ true = head-open (c .before .before .before .before .before .before .before .before .before .before .before .before .before .before .before .before .get-head .ensures) (c .before .before .before .before .before .before .before .before .before .before .before .before .before .before .before .if1 .left) in
     let I : FirstIs (a .s .now) (c .before .before .before .before .before .before .before .before .at .result) = first-is (a .s .now) (c .before .before .before .before .before .before .before .before .at .result) (c .before .before .before .before .before .before .before .before .before .before .before .before .len .ensures .0) (c .before .before .before .before .before .before .before .before .before .before .before .if2 .left) (c .before .before .before .before .before .before .before .before .at .ensures) in
     let F : FoundAt (a .s .now) (c .before .before .before .before .before .before .before .before .at .result .tag) (c .before .before .before .i .given .0 .0) = rw (c .before .before .before .i .given .1) at (c .before .before .before .before .before .find .ensures) in
-    (search needs, (search needs, (live, (I, (F, ap (λ (h : Head). h .terms) (c .before .before .before .before .before .before .before .before .before .before .before .before .before .before .before .before .get-head .ensures .whole))))))
+    (search needs, (search needs, (live, (I, (F, ap (λ (h : Head). h .terms .maximum) (c .before .before .before .before .before .before .before .before .before .before .before .before .before .before .before .before .get-head .ensures .whole))))))
 
 -- src/lib.rt:256:1
 returns-4 : tie.Need-returns-4
