@@ -445,8 +445,8 @@ uint32_t srp_target_step(uint64_t *port, const uint8_t *store, uint64_t tag, uin
  * answer after 0, idle:           all eight 0
  * The operation tells the direction: an RDMA Read is data-out, an RDMA Write data-in. The piece is the one that
  * srp_target_step would hand out for that tag and direction, and the call hands it out as a step does; the number
- * counts the move's steps and turns together. Idle comes exactly where no move has a piece left. It alters no word of
- * the port.
+ * counts the move's steps and turns together. Idle comes exactly where no move has a piece left; in words that no login
+ * made, also where the first of the line has none. It alters no word of the port.
  *
  * The line:
  *   - A move that has a byte joins it at its end when srp_target_move names it. The two directions of a command are two

@@ -9,7 +9,7 @@ use native.Mathlib.Nat.{add-zero}
 use native.Mathlib.Numerals.{add-one}
 use borrow.Author.Tests.{lt-ltb, le-ltb}
 use lib.ListN.{length, getD, take, drop, set, length-set, length-drop}
-use lib.Seq.{getD-set-same, getD-set-other, getD-drop, drop-set-add, take-suc-set, take-set-le}
+use lib.Seq.{getD-set-same, getD-set-other, getD-drop, drop-set-add, take-suc-set}
 use Rattle.srp.specs.Limits.{mostMoves}
 use Rattle.srp.specs.Credit.{place}
 use Rattle.srp.specs.Line.{joins, putBack}

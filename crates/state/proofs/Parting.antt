@@ -3,17 +3,17 @@
 use mathlib.Core.Path.{_≡_, refl, sym, _∙_, ap}
 use mathlib.Core.Bool.{Bool, true, false, not}
 use mathlib.Core.List.{List, [], _∷_, _++_, map, append-assoc, append-nil}
-use mathlib.Core.Option.{Option, none, some}
+use mathlib.Core.Option.{Option, none}
 use Prim.Native.Nat.{ℕ, _+_, _≤_, _<_}
 use native.Mathlib.Omega.{arith}
 use native.Mathlib.Numerals.{add-one}
 use borrow.Author.Tests.{eqb-true}
 use lib.Dec.{eqb}
 use lib.ListN.{length, getD, take, drop, set, drop-of-length-le}
-use lib.Seq.{getD-take, take-take, take-suc-set, drop-set-lt, set-getD}
+use lib.Seq.{getD-take, take-suc-set, drop-set-lt, set-getD}
 use Rattle.srp.specs.Limits.{mostMoves}
 use Rattle.srp.specs.Lists.{find, without}
-use Rattle.srp.specs.Credit.{Open, hasTag, withHeld}
+use Rattle.srp.specs.Credit.{Open, hasTag}
 use Rattle.srp.specs.Line.{isEnded}
 use Rattle.srp.specs.declared.Place.{Place}
 use Rattle.words.specs.Sizes.{portWords}
@@ -21,7 +21,7 @@ use Rattle.words.specs.declared.Slot.{Slot}
 use Rattle.words.specs.Slots.{slots, noSlot}
 use Rattle.words.specs.Head.{headOf}
 use Rattle.words.specs.Line.{firstIn, behind, count, ring, line}
-use Rattle.words.specs.View.{opens, openOf, openPort, shown}
+use Rattle.words.specs.View.{openOf, openPort, shown}
 use Rattle.line.specs.Changes.{noPlace, PlaceChanged, LengthChanged}
 use Rattle.line.proofs.Ring.{ring-long, line-long}
 use Rattle.state.specs.Changes.{FoundAt, FoundIs, ends, ending, NoneEnds, withoutSlots, withoutEnded, Alters}
@@ -30,7 +30,7 @@ use Rattle.state.specs.declared.Found.the-variants.{Nothing}
 use Rattle.state.specs.declared.Ending.{Ending}
 use Rattle.state.specs.declared.Ending.the-variants.{Finished, Aborted}
 use Rattle.state.specs.declared.Leaving.{Leaving}
-use Rattle.state.specs.declared.Leaving.the-variants.{Handed, Ended}
+use Rattle.state.specs.declared.Leaving.the-variants.{Ended}
 use Rattle.state.proofs.Held.{tail-same, head-same, stays, goes}
 
 -- ── whether a command ends

@@ -3,14 +3,12 @@
 use mathlib.Core.Path.{_≡_, refl, sym, _∙_, ap}
 use mathlib.Core.List.{List, [], _∷_, _++_, map, map-append}
 use mathlib.Core.Logic.{_⊎_}
-use Prim.Native.Nat.{ℕ, suc, _+_, _-_, _*_, _≤_, _<_}
+use Prim.Native.Nat.{ℕ, _+_, _-_, _*_, _≤_, _<_}
 use native.Mathlib.Omega.{arith}
 use native.Mathlib.Numerals.{add-one}
 use lib.ListN.{length, getD, take, drop, set}
 use lib.Seq.{take-append-le, take-suc-set, getD-take, getD-set-same}
-use Rattle.srp.specs.Lists.{over}
 use Rattle.srp.specs.Descriptors.{standingSize}
-use Rattle.srp.specs.Credit.{Open}
 use Rattle.srp.specs.declared.Descriptor.{Descriptor}
 use Rattle.srp.specs.declared.Request.{Request}
 use Rattle.srp.proofs.ListLaws.{map-same}
@@ -18,7 +16,7 @@ use Rattle.words.specs.declared.Head.{Head}
 use Rattle.words.specs.declared.Part.{Part}
 use Rattle.words.specs.declared.Awaited.{Awaited}
 use Rattle.words.specs.declared.Slot.{Slot}
-use Rattle.words.specs.Sizes.{mostSlots, listSize, placeSize, storeSize}
+use Rattle.words.specs.Sizes.{mostSlots, placeSize, storeSize}
 use Rattle.words.specs.Slots.{SlotFits, slots, noSlot}
 use Rattle.words.specs.Head.{HeadIs, CountsFit, headOf, countedOf, SlotChanged, HeadChanged}
 use Rattle.words.specs.View.{sideOf, givenOf, opens, openOf, openPort}

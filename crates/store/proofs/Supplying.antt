@@ -9,7 +9,7 @@ use native.Mathlib.Omega.{arith}
 use native.Mathlib.Nat.{zero-add, suc-add}
 use borrow.Author.Tests.{leb-true, leb-false}
 use lib.Dec.{leb}
-use lib.ListN.{length, getD, take, drop, set, length-drop, length-take, take-append-drop, drop-of-length-le}
+use lib.ListN.{length, getD, take, drop, length-drop, length-take, take-append-drop, drop-of-length-le}
 use lib.Seq.{paste, length-paste, drop-drop, take-length, take-nil, take-append-le, take-append-add, getD-take, getD-set-same}
 use Rattle.srp.specs.Lists.{over}
 use Rattle.srp.specs.declared.Direction.{Direction}
@@ -24,7 +24,7 @@ use Rattle.words.specs.View.{opens, openOf}
 use Rattle.srp.proofs.FieldLaws.{front}
 use Rattle.words.proofs.Slots.{apart, from-written, slots-long}
 use Rattle.words.proofs.Ports.{opens-long, slot-fits}
-use Rattle.store.specs.Places.{Free, Holding, OwnPlace, placeOf, newSlot, openIn, under, supplied, Supplied, Carried}
+use Rattle.store.specs.Places.{Free, Holding, placeOf, newSlot, under, supplied, Supplied, Carried}
 use Rattle.store.proofs.Placing.{open-alike, with-both, both-long, outside, here, others, before, behind}
 
 -- ── a place carried to another

@@ -3,15 +3,14 @@
 use mathlib.Core.Path.{_≡_, refl, sym, _∙_, ap}
 use mathlib.Core.Logic.{_⊎_, inl, inr, ⊎-elim}
 use mathlib.Core.Bool.{Bool, true, false, cond, not, _&&_, _||_, true≢false}
-use mathlib.Core.List.{List, [], _∷_, _++_, map}
-use mathlib.Core.Option.{Option, none, some}
-use Prim.Native.Nat.{ℕ, _+_, _*_, _/_, _%_, _≤_, _<_}
+use mathlib.Core.List.{List, [], _∷_, map}
+use Prim.Native.Nat.{ℕ, _*_, _/_, _%_, _<_}
 use native.Mathlib.Omega.{arith}
 use borrow.Author.Tests.{eq-eqb, ne-eqb, leb-true}
 use lib.Dec.{eqb, leb}
 use lib.ListN.{length, getD, take, drop, set}
 use lib.Seq.{take-at, getD-take, take-set-lt}
-use Rattle.srp.specs.Lists.{find, change, over}
+use Rattle.srp.specs.Lists.{change, over}
 use Rattle.srp.specs.Descriptors.{whole, goodTable, fetched, standingSize, Given, chosen, segments, sumOf, copiesAgree, goodFormat}
 use Rattle.srp.specs.Credit.{Open, Port, withHeld, hasTag}
 use Rattle.srp.specs.Take.{newSide}

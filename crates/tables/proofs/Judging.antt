@@ -2,8 +2,8 @@
 -- Assumes nothing.
 use mathlib.Core.Path.{_≡_, refl, _∙_, ap}
 use mathlib.Core.Bool.{Bool, true, false, cond, not, _&&_}
-use mathlib.Core.List.{List, [], _∷_}
-use mathlib.Core.Option.{Option, none, some}
+use mathlib.Core.List.{[], _∷_}
+use mathlib.Core.Option.{Option, some}
 use Prim.Native.Nat.{ℕ, _≤_, _<_}
 use lib.Dec.{eqb}
 use lib.ListN.{length}
@@ -12,16 +12,13 @@ use Rattle.srp.specs.Limits.{bufferSize}
 use Rattle.srp.specs.Lists.{find}
 use Rattle.srp.specs.Both.{Both}
 use Rattle.srp.specs.Refusals.{firstOf}
-use Rattle.srp.specs.Descriptors.{Given, segments, sumOf, fetched, goodFields}
+use Rattle.srp.specs.Descriptors.{Given, fetched, goodFields}
 use Rattle.srp.specs.Credit.{Open, Port, hasTag}
 use Rattle.srp.specs.Take.{silent, isOpen, Tables, tablesFit, fieldsFit}
 use Rattle.srp.specs.Tables.{isWaiting, tablesChecks, tablesOutcome, tablesBy, tablesDef}
 use Rattle.srp.specs.declared.Refusal.{Refusal}
 use Rattle.srp.specs.declared.Refusal.the-variants.{ShortBuffer, TableLength, Fields, Closed, TagNotOpen, Waiting}
 use Rattle.srp.specs.declared.Reply.the-variants.{Refused}
-use Rattle.cut.specs.declared.Total.the-variants.{Sum, Wrong}
-use Rattle.cut.proofs.Refusing.{no-sum, is-sum}
-use Rattle.command.specs.Reading.{fieldsOf}
 use Rattle.tables.specs.Bringing.{judgedDef, badDef}
 
 -- ── 1, 21, 24 and 33

@@ -1,9 +1,8 @@
 -- Tables, cut where the code is cut, and what each part promises. l, st and b are the port's words, its store and the lent buffer before the call, l′, st′
 -- and b′ after it; t are the tables.
 use mathlib.Core.Path.{_≡_}
-use mathlib.Core.Bool.{Bool, true, false, cond, not}
+use mathlib.Core.Bool.{cond, not}
 use mathlib.Core.List.{List, [], _∷_}
-use mathlib.Core.Option.{Option, some}
 use Prim.Native.Nat.{ℕ, _/_, _<_}
 use lib.Dec.{eqb}
 use lib.ListN.{length, getD}

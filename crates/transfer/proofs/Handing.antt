@@ -4,14 +4,14 @@ use mathlib.Core.Path.{_≡_, refl, sym, _∙_, ap}
 use mathlib.Core.Bool.{Bool, true, false}
 use mathlib.Core.List.{List}
 use mathlib.Core.Option.{Option, none, some, Option·map}
-use Prim.Native.Nat.{ℕ, _+_, _≤_, _<_, min}
+use Prim.Native.Nat.{ℕ, _≤_, _<_, min}
 use native.Mathlib.Omega.{arith}
 use lib.Dec.{ltb}
 use lib.ListN.{getD}
 use borrow.Author.Tests.{lt-ltb, le-ltb}
 use Rattle.srp.specs.Lists.{find, change, without}
 use Rattle.srp.specs.Both.{of}
-use Rattle.srp.specs.Credit.{Side, movable, onSide, Open, Port, hasTag, place, withHeld, withMoves}
+use Rattle.srp.specs.Credit.{Side, movable, onSide, Open, Port, hasTag, place, withMoves}
 use Rattle.srp.specs.Line.{moreIn, samePlace, joins, keepsPlace}
 use Rattle.srp.specs.Tables.{isWaiting}
 use Rattle.srp.specs.Calls.{moving, hasPieces, unfinished, altered, kindOf, handing, nextOf, numberIn, handOut, stepOutcome}
@@ -27,7 +27,7 @@ use Rattle.srp.proofs.Tags.{find-changed}
 use Rattle.words.specs.Slots.{slots, noSlot, PartIs, placeAt, movedSlot}
 use Rattle.words.specs.Line.{line}
 use Rattle.words.specs.Head.{headOf, SlotChanged}
-use Rattle.words.specs.View.{sideOf, openOf, openPort, shown, view}
+use Rattle.words.specs.View.{sideOf, openOf, openPort, view}
 use Rattle.words.specs.declared.Head.{Head}
 use Rattle.words.specs.declared.Part.{Part}
 use Rattle.words.specs.declared.Slot.{Slot}

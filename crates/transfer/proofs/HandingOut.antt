@@ -9,7 +9,7 @@ use lib.Dec.{ltb}
 use lib.ListN.{getD}
 use Rattle.srp.specs.Both.{of}
 use Rattle.srp.specs.Credit.{Side, onSide}
-use Rattle.srp.specs.Calls.{hasPieces, handing, nextIn, wrapped}
+use Rattle.srp.specs.Calls.{hasPieces, handing, nextIn}
 use Rattle.srp.specs.declared.Direction.{Direction}
 use Rattle.srp.specs.declared.Piece.{Piece}
 use Rattle.srp.specs.declared.Cut.{Cut}

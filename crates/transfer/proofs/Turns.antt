@@ -2,16 +2,15 @@
 -- Assumes nothing.
 use mathlib.Core.Path.{_≡_, refl, sym, _∙_, ap}
 use mathlib.Core.Bool.{Bool, true, false}
-use mathlib.Core.List.{List, [], _∷_}
+use mathlib.Core.List.{List, _∷_}
 use mathlib.Core.Option.{Option, none, some}
-use Prim.Native.Nat.{ℕ, _≤_, _<_}
+use Prim.Native.Nat.{ℕ, _≤_}
 use native.Mathlib.Omega.{arith}
 use lib.ListN.{length, getD, take, drop}
 use lib.Seq.{drop-cons, getD-take}
-use Rattle.srp.specs.Lists.{find}
-use Rattle.srp.specs.Credit.{Open, Port, hasTag}
+use Rattle.srp.specs.Credit.{Open, Port}
 use Rattle.srp.specs.Line.{putBack}
-use Rattle.srp.specs.Take.{Outcome, silent}
+use Rattle.srp.specs.Take.{silent}
 use Rattle.srp.specs.Calls.{handing, nextOf, numberIn, serve, serveFirst, turnDef}
 use Rattle.srp.specs.declared.Direction.{Direction}
 use Rattle.srp.specs.declared.Piece.{Piece}
@@ -19,7 +18,7 @@ use Rattle.srp.specs.declared.Place.{Place}
 use Rattle.srp.specs.declared.Refusal.the-variants.{Closed}
 use Rattle.srp.specs.declared.Reply.{Reply}
 use Rattle.srp.specs.declared.Reply.the-variants.{Refused, Served, Idle}
-use Rattle.words.specs.Slots.{slots, noSlot}
+use Rattle.words.specs.Slots.{slots}
 use Rattle.words.specs.Line.{count, ring, line}
 use Rattle.words.specs.Head.{headOf, SlotChanged}
 use Rattle.words.specs.View.{view}

@@ -1,41 +1,31 @@
+-- `line::drop_first` meets its contract. Assumes nothing.
 use Rattle.line.proofs.Ring.{first-dropped}
 use native.Mathlib.Omega.{arith}
 use borrow.Author.Needs.{needs}
 use Rattle.line.proofs.drop_first.Statement.{statement}
 use Rattle.line.proofs.drop_first.Tie as tie
-use Rattle.line.proofs.drop_first.Reads as reads
-use Rattle.line.proofs.drop_first.Lts as lts
-use Rattle.line.proofs.len.Reads as len-reads
 
--- src/lib.rt:109:9
 len-requires : tie.Need-len-requires
 len-requires c κs = search needs
 
--- src/lib.rt:110:17
 slice-read-first : tie.Need-slice-read-first
 slice-read-first c = search needs
 
--- src/lib.rt:111:17
 add-s : tie.Need-add-s
 add-s c = search needs
 
--- src/lib.rt:111:5
 slice-write-s : tie.Need-slice-write-s
 slice-write-s c = search needs
 
--- src/lib.rt:112:18
 sub-s : tie.Need-sub-s
 sub-s c = search needs
 
--- src/lib.rt:112:5
 slice-write-s-2 : tie.Need-slice-write-s-2
 slice-write-s-2 c = search needs
 
--- src/lib.rt:104:1
 same-length : tie.Need-same-length
 same-length c = search needs
 
--- src/lib.rt:104:1
 returns : tie.Need-returns
 returns c =
     let n = c .before .len in

@@ -1,45 +1,33 @@
+-- `line::put` meets its contract. Assumes nothing.
 use Rattle.line.proofs.Ring.{place-put}
 use borrow.Author.Needs.{needs}
 use Rattle.line.proofs.put.Statement.{statement}
 use Rattle.line.proofs.put.Tie as tie
-use Rattle.line.proofs.put.Reads as reads
-use Rattle.line.proofs.put.Lts as lts
-use Rattle.line.proofs.place_at.Reads as place-at-reads
-use Rattle.line.proofs.word_of.Reads as word-of-reads
 
--- src/lib.rt:78:9
 place-at-requires : tie.Need-place-at-requires
 place-at-requires c κs = search needs
 
--- src/lib.rt:79:5
 mul-s : tie.Need-mul-s
 mul-s c = search needs
 
--- src/lib.rt:79:5
 slice-write-s : tie.Need-slice-write-s
 slice-write-s c = search needs
 
--- src/lib.rt:81:16
 word-of-requires : tie.Need-word-of-requires
 word-of-requires c κs = search needs
 
--- src/lib.rt:81:7
 add-s : tie.Need-add-s
 add-s c = search needs
 
--- src/lib.rt:81:5
 mul-s-2 : tie.Need-mul-s-2
 mul-s-2 c = search needs
 
--- src/lib.rt:81:5
 slice-write-s-2 : tie.Need-slice-write-s-2
 slice-write-s-2 c = search needs
 
--- src/lib.rt:73:1
 same-length : tie.Need-same-length
 same-length c = search needs
 
--- src/lib.rt:73:1
 returns : tie.Need-returns
 returns c =
     let a = c .before .before .before .before .args in

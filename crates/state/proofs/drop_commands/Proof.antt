@@ -1,3 +1,4 @@
+-- `state::drop_commands` meets its contract. Assumes nothing.
 use mathlib.Core.Path.{ap}
 use native.Mathlib.Omega.{arith}
 use Rattle.words.specs.declared.Head.{Head}
@@ -5,16 +6,10 @@ use Rattle.state.proofs.Parting.{none-still, all-left}
 use borrow.Author.Needs.{needs}
 use Rattle.state.proofs.drop_commands.Statement.{statement}
 use Rattle.state.proofs.drop_commands.Tie as tie
-use Rattle.state.proofs.drop_commands.Reads as reads
-use Rattle.state.proofs.drop_commands.Lts as lts
-use Rattle.state.proofs.drop_slots.Reads as drop-slots-reads
-use Rattle.state.proofs.moves.leave.Reads as leave-reads
 
--- src/lib.rt:97:5
 leave-requires : tie.Need-leave-requires
 leave-requires c κs = search needs
 
--- src/lib.rt:98:5
 drop-slots-requires : tie.Need-drop-slots-requires
 drop-slots-requires c κs =
     let L = c .before .before .before .leave .ensures in
@@ -22,11 +17,9 @@ drop-slots-requires c κs =
     let p = c .before .before .before .before .before .before .pre in
     (search needs, (omega (arith, p .1 .0, ap (λ (h : Head). h .held) (L .head)), none-still (a .which) (a .s .now) _ (a .first) (L .slots) (L .head) (p .1 .1)))
 
--- src/lib.rt:91:1
 same-length : tie.Need-same-length
 same-length c = search needs
 
--- src/lib.rt:91:1
 returns : tie.Need-returns
 returns c =
     all-left _ _ _ _ (c .before .before .before .before .before .before .leave .ensures) (c .before .before .drop-slots .ensures)

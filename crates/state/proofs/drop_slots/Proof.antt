@@ -8,13 +8,6 @@ use borrow.Author.Tests.{not-true, not-false}
 use Rattle.state.proofs.Held.{Dropping, drop-start, drop-ended, drop-kept, drop-unmoved, dropped}
 use Rattle.state.proofs.drop_slots.Statement.{statement}
 use Rattle.state.proofs.drop_slots.Tie as tie
-use Rattle.state.proofs.drop_slots.Reads as reads
-use Rattle.state.proofs.drop_slots.Lts as lts
-use Rattle.state.proofs.ended.Reads as ended-reads
-use Rattle.words.proofs.commands.load_request.Reads as load-request-reads
-use Rattle.words.proofs.commands.shift_slot.Reads as shift-slot-reads
-use Rattle.words.proofs.get_head.Reads as get-head-reads
-use Rattle.words.proofs.set_counts.Reads as set-counts-reads
 
 abbrev Inv-loop : tie.InvT-loop
 Inv-loop s₀ first which h held i₀ kept₀ s i kept =
@@ -24,47 +17,38 @@ abbrev μ-loop : tie.MeasureT-loop
 μ-loop s₀ first which h held i₀ kept₀ s i kept =
     held - i
 
--- src/lib.rt:64:9
 get-head-requires : tie.Need-get-head-requires Inv-loop μ-loop
 get-head-requires c κs =
     search needs
 
--- src/lib.rt:68:5
 loop-holds : tie.Need-loop-holds Inv-loop μ-loop
 loop-holds c =
     drop-start _ _ _ _ (c .get-head .ensures .held) (c .before .before .before .pre .0) (c .before .before .before .pre .1 .0) (c .before .before .before .pre .1 .1)
 
--- src/lib.rt:69:13
 load-request-requires : tie.Need-load-request-requires Inv-loop μ-loop
 load-request-requires c κs =
     search needs
 
--- src/lib.rt:70:13
 ended-requires : tie.Need-ended-requires Inv-loop μ-loop
 ended-requires c κs =
     search needs
 
--- src/lib.rt:72:17
 shift-slot-requires : tie.Need-shift-slot-requires Inv-loop μ-loop
 shift-slot-requires c κs =
     search needs
 
--- src/lib.rt:74:13
 add-kept : tie.Need-add-kept Inv-loop μ-loop
 add-kept c =
     omega arith
 
--- src/lib.rt:76:9
 add-i : tie.Need-add-i Inv-loop μ-loop
 add-i c =
     omega arith
 
--- src/lib.rt:68:5
 loop-less : tie.Need-loop-less Inv-loop μ-loop
 loop-less c =
     omega arith
 
--- src/lib.rt:68:5
 loop-again : tie.Need-loop-again Inv-loop μ-loop
 loop-again c =
     let D = c .before .before .before .before .before .loop .inv in
@@ -81,17 +65,14 @@ loop-again c =
     (λ w. rw (w .1, w .2) (drop-ended _ _ _ _ _ _ D on _ (r .ensures) (sym (c .before .ended .ensures) ∙ not-false _ (w .0 .left))))
     (c .if1 .came)
 
--- src/lib.rt:78:5
 set-counts-requires : tie.Need-set-counts-requires Inv-loop μ-loop
 set-counts-requires c κs =
     search needs
 
--- src/lib.rt:58:1
 same-length : tie.Need-same-length Inv-loop μ-loop
 same-length c =
     c .before .before .set-counts .kept .0 ∙ c .before .before .before .before .before .loop .inv .same-long
 
--- src/lib.rt:58:1
 returns : tie.Need-returns Inv-loop μ-loop
 returns c =
     dropped _ _ _ _ _ _ (c .before .before .before .before .before .loop .inv) (c .before .before .before .before .loop-test .left) _ (c .before .before .before .before .before .before .get-head .ensures .whole) (c .before .before .set-counts .last .0) (c .before .before .set-counts .ensures)

@@ -8,72 +8,52 @@ use Rattle.transfer.proofs.Handing.{too-far, under-way, begun-empty, be
 use borrow.Author.Needs.{needs}
 use Rattle.transfer.proofs.begin.Statement.{statement}
 use Rattle.transfer.proofs.begin.Tie as tie
-use Rattle.transfer.proofs.begin.Reads as reads
-use Rattle.transfer.proofs.begin.Lts as lts
-use Rattle.line.proofs.join.Reads as join-reads
-use Rattle.wire.proofs.least.Reads as least-reads
-use Rattle.words.proofs.commands.load_part.Reads as load-part-reads
-use Rattle.words.proofs.commands.set_move.Reads as set-move-reads
 
--- src/lib.rt:75:9
 load-part-requires : tie.Need-load-part-requires
 load-part-requires c κs = search needs
 
--- src/lib.rt:77:31
 cast-least : tie.Need-cast-least
 cast-least c = search needs
 
--- src/lib.rt:77:50
 cast-least-2 : tie.Need-cast-least-2
 cast-least-2 c = search needs
 
--- src/lib.rt:77:9
 least-requires : tie.Need-least-requires
 least-requires c κs = search needs
 
--- src/lib.rt:79:9
 same-length : tie.Need-same-length
 same-length c = search needs
 
--- src/lib.rt:79:9
 returns : tie.Need-returns
 returns c =
     let a = c .before .before .before .before .before .before .before .before .args in
     let p = c .before .before .before .before .before .before .before .before .pre in
     too-far (p .1 .1 .0) (p .1 .0) (a .d) (a .offset) (a .count) (c .before .before .before .before .before .load-part .ensures) (p .1 .1 .1 .0) (p .1 .1 .1 .1) (rw (c .before .least .ensures) at (c .if1 .taken))
 
--- src/lib.rt:82:9
 same-length-2 : tie.Need-same-length-2
 same-length-2 c = search needs
 
--- src/lib.rt:82:9
 returns-2 : tie.Need-returns-2
 returns-2 c =
     let a = c .before .before .before .before .before .before .before .before .before .before .args in
     let p = c .before .before .before .before .before .before .before .before .before .before .pre in
     under-way (p .1 .1 .0) (p .1 .0) (a .d) (a .offset) (a .count) (c .before .before .before .before .before .before .before .load-part .ensures) (p .1 .1 .1 .0) (p .1 .1 .1 .1) (rw (c .before .before .before .least .ensures) at (c .before .before .if1 .left)) (c .if2 .taken)
 
--- src/lib.rt:84:27
 add-least : tie.Need-add-least
 add-least c = search needs
 
--- src/lib.rt:84:15
 least-requires-2 : tie.Need-least-requires-2
 least-requires-2 c κs = search needs
 
--- src/lib.rt:84:15
 cast-end : tie.Need-cast-end
 cast-end c = search needs
 
--- src/lib.rt:85:5
 set-move-requires : tie.Need-set-move-requires
 set-move-requires c κs = search needs
 
--- src/lib.rt:87:9
 same-length-3 : tie.Need-same-length-3
 same-length-3 c = search needs
 
--- src/lib.rt:87:9
 returns-3 : tie.Need-returns-3
 returns-3 c =
     let a = c .before .before .before .before .before .before .before .before .before .before .before .before .before .before .before .before .args in
@@ -83,15 +63,12 @@ returns-3 c =
     begun-empty (p .1 .1 .0) (p .1 .0) (a .d) (a .offset) (a .count) P (p .1 .1 .1 .0) (p .1 .1 .1 .1) (rw (c .before .before .before .before .before .before .before .before .before .least .ensures) at (c .before .before .before .before .before .before .before .before .if1 .left)) to (c .before .before .before .before .before .before .if2 .left) (c .before .before .before .set-move .ensures)
     (λ st. named-open st (getD (slots (a .s .now)) (a .i) noSlot) (a .d) (P .whole) (a .offset) (a .count) (c .before .before .before .before .before .least2 .ensures ∙ ap (λ (k : ℕ). min (a .offset + a .count) k) (c .before .before .before .before .before .before .before .before .before .least .ensures))) (c .if3 .taken)
 
--- src/lib.rt:93:5
 join-requires : tie.Need-join-requires
 join-requires c κs = search needs
 
--- src/lib.rt:67:1
 same-length-4 : tie.Need-same-length-4
 same-length-4 c = search needs
 
--- src/lib.rt:67:1
 returns-4 : tie.Need-returns-4
 returns-4 c =
     let a = c .before .before .before .before .before .before .before .before .before .before .before .before .before .before .before .before .before .before .before .before .args in

@@ -12,41 +12,27 @@ use Rattle.transfer.proofs.HandingOut.{hands-none, hands-one}
 use borrow.Author.Needs.{needs}
 use Rattle.transfer.proofs.hand_out.Statement.{statement}
 use Rattle.transfer.proofs.hand_out.Tie as tie
-use Rattle.transfer.proofs.hand_out.Reads as reads
-use Rattle.transfer.proofs.hand_out.Lts as lts
-use Rattle.transfer.proofs.larger.Reads as larger-reads
-use Rattle.transfer.proofs.next_for.Reads as next-for-reads
-use Rattle.words.proofs.commands.load_part.Reads as load-part-reads
-use Rattle.words.proofs.commands.load_place.Reads as load-place-reads
-use Rattle.words.proofs.commands.set_move.Reads as set-move-reads
 
--- src/lib.rt:173:9
 load-part-requires : tie.Need-load-part-requires
 load-part-requires c κs = search needs
 
--- src/lib.rt:174:9
 load-place-requires : tie.Need-load-place-requires
 load-place-requires c κs = search needs
 
--- src/lib.rt:175:11
 next-for-requires : tie.Need-next-for-requires
 next-for-requires c κs =
     let p = c .before .before .before .before .before .before .before .pre in
     (p .0, (p .1 .0, (search needs, (search needs, p .1 .1 .1))))
 
--- src/lib.rt:177:31
 enum-told : tie.Need-enum-told
 enum-told c = search needs
 
--- src/lib.rt:178:25
 enum-told-2 : tie.Need-enum-told-2
 enum-told-2 c = search needs
 
--- src/lib.rt:179:23
 enum-known-piece : tie.Need-enum-known-piece
 enum-known-piece c = search needs
 
--- src/lib.rt:180:24
 add-next : tie.Need-add-next
 add-next c =
     let a = c .before .before .before .before .before .before .before .before .before .before .before .before .before .args in
@@ -54,11 +40,9 @@ add-next c =
     let f = next-fits (a .s .now) (a .store .now) (placeAt (a .d) (c .before .before .before .before .before .before .before .load-place .result)) q (c .before .before .before .piece .given .0 .0) (c .before .before .before .before .before .before .before .before .before .load-part .ensures .fits) (search needs) (c .before .before .before .before .before .next-for .ensures) (c .before .before .before .piece .given .1) in
     record { fits = f .0 }
 
--- src/lib.rt:181:17
 larger-requires : tie.Need-larger-requires
 larger-requires c κs = search needs
 
--- src/lib.rt:182:26
 add-number : tie.Need-add-number
 add-number c =
     let a = c .before .before .before .before .before .before .before .before .before .before .before .before .before .before .before .args in
@@ -66,7 +50,6 @@ add-number c =
     let f = next-fits (a .s .now) (a .store .now) (placeAt (a .d) (c .before .before .before .before .before .before .before .before .before .load-place .result)) q (c .before .before .before .before .before .piece .given .0 .0) (c .before .before .before .before .before .before .before .before .before .before .before .load-part .ensures .fits) (search needs) (c .before .before .before .before .before .before .before .next-for .ensures) (c .before .before .before .before .before .piece .given .1) in
     record { fits = omega (arith, f) }
 
--- src/lib.rt:183:13
 set-move-requires : tie.Need-set-move-requires
 set-move-requires c κs =
     let a = c .before .before .before .before .before .before .before .before .before .before .before .before .before .before .before .before .args in
@@ -74,31 +57,25 @@ set-move-requires c κs =
     let f = next-fits (a .s .now) (a .store .now) (placeAt (a .d) (c .before .before .before .before .before .before .before .before .before .before .load-place .result)) q (c .before .before .before .before .before .before .piece .given .0 .0) (c .before .before .before .before .before .before .before .before .before .before .before .before .load-part .ensures .fits) (search needs) (c .before .before .before .before .before .before .before .before .next-for .ensures) (c .before .before .before .before .before .before .piece .given .1) in
     (c .before .before .before .before .before .before .before .before .before .before .before .before .before .before .before .before .pre .0, (c .before .before .before .before .before .before .before .before .before .before .before .before .before .before .before .before .pre .1 .1 .0, f .1))
 
--- src/lib.rt:166:1
 same-length : tie.Need-same-length
 same-length c = search needs
 
--- src/lib.rt:166:1
 returns : tie.Need-returns
 returns c =
     let a = c .before .before .before .before .before .before .before .before .before .before .args in
     absurd (no-refusal (nextIn (headOf (a .s .now) .terms) (sideOf (a .store .now) (placeAt (a .d) (c .before .before .before .before .load-place .result)) (c .before .before .before .before .before .before .load-part .result))) (c .before .before .next-for .ensures) (c .enum-told .given .1))
 
--- src/lib.rt:166:1
 same-length-2 : tie.Need-same-length-2
 same-length-2 c = search needs
 
--- src/lib.rt:166:1
 returns-2 : tie.Need-returns-2
 returns-2 c =
     let a = c .before .before .before .before .before .before .before .before .before .before .args in
     hands-none (a .s .now) (a .store .now) (a .i) (a .d) (c .before .before .before .before .before .before .load-part .ensures) (c .before .before .before .before .load-place .ensures .0) (c .before .before .next-for .ensures) (c .enum-told2 .given .1)
 
--- src/lib.rt:166:1
 same-length-3 : tie.Need-same-length-3
 same-length-3 c = search needs
 
--- src/lib.rt:166:1
 returns-3 : tie.Need-returns-3
 returns-3 c =
     let a = c .before .before .before .before .before .before .before .before .before .before .before .before .before .before .before .before .before .before .before .before .args in

@@ -1,32 +1,19 @@
 -- `transfer::serve` meets its contract. Assumes nothing.
-use mathlib.Core.Path.{_≡_, ap, sym, _∙_}
-use mathlib.Core.List.{List}
-use native.Mathlib.Omega.{arith}
-use lib.ListN.{length}
-use Rattle.srp.specs.declared.Place.{Place}
 use Rattle.transfer.specs.Stepping.{HandsNone, HandsOne}
 use Rattle.transfer.proofs.Turns.{first-stays, serves-none, serves-one}
 use borrow.Author.Needs.{needs}
 use Rattle.transfer.proofs.serve.Statement.{statement}
 use Rattle.transfer.proofs.serve.Tie as tie
-use Rattle.transfer.proofs.serve.Reads as reads
-use Rattle.transfer.proofs.serve.Lts as lts
-use Rattle.line.proofs.pass.Reads as pass-reads
-use Rattle.transfer.proofs.hand_out.Reads as hand-out-reads
 
--- src/lib.rt:246:11
 hand-out-requires : tie.Need-hand-out-requires
 hand-out-requires c κs = search needs
 
--- src/lib.rt:247:31
 enum-told : tie.Need-enum-told
 enum-told c = search needs
 
--- src/lib.rt:248:21
 enum-known-piece : tie.Need-enum-known-piece
 enum-known-piece c = search needs
 
--- src/lib.rt:249:13
 pass-requires : tie.Need-pass-requires
 pass-requires c κs =
     let a = c .before .before .before .before .before .before .before .before .before .before .args in
@@ -35,11 +22,9 @@ pass-requires c κs =
     let H : HandsOne (a .s .now) (c .before .before .before .before .before .before .hand-out .last .0) (a .store .now) (a .i) (a .x .direction) (m .given .0 .0) (m .given .0 .1 .0) (m .given .0 .1 .1 .0) = rw (m .given .1) at (c .before .before .before .before .before .before .hand-out .ensures) in
     (search needs, first-stays (H .changed) (p .1 .1 .1 .0))
 
--- src/lib.rt:236:1
 same-length : tie.Need-same-length
 same-length c = search needs
 
--- src/lib.rt:236:1
 returns : tie.Need-returns
 returns c =
     let a = c .before .before .before .before .before .before .before .before .args in
@@ -48,11 +33,9 @@ returns c =
     let H : HandsNone (a .s .now) (c .before .before .before .before .hand-out .last .0) (a .store .now) (a .i) (a .x .direction) (m .given .0 .0) = rw (m .given .1) at (c .before .before .before .before .hand-out .ensures) in
     serves-none (p .1 .1 .1 .1 .0) (p .1 .1 .0) (p .1 .1 .1 .0) (a .store .now) H
 
--- src/lib.rt:236:1
 same-length-2 : tie.Need-same-length-2
 same-length-2 c = search needs
 
--- src/lib.rt:236:1
 returns-2 : tie.Need-returns-2
 returns-2 c =
     let a = c .before .before .before .before .before .before .before .before .before .before .before .before .before .args in

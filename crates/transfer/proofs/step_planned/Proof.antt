@@ -1,37 +1,25 @@
 -- `transfer::step_planned` meets its contract. Assumes nothing.
-use mathlib.Core.Path.{_≡_}
 use Rattle.transfer.specs.Stepping.{HandsNone, HandsOne}
 use Rattle.transfer.proofs.Handing.{none-left, more-left, last-handed}
 use borrow.Author.Needs.{needs}
 use Rattle.transfer.proofs.step_planned.Statement.{statement}
 use Rattle.transfer.proofs.step_planned.Tie as tie
-use Rattle.transfer.proofs.step_planned.Reads as reads
-use Rattle.transfer.proofs.step_planned.Lts as lts
-use Rattle.state.proofs.moves.leave.Reads as leave-reads
-use Rattle.transfer.proofs.hand_out.Reads as hand-out-reads
-use Rattle.transfer.proofs.kind_for.Reads as kind-for-reads
 
--- src/lib.rt:198:11
 hand-out-requires : tie.Need-hand-out-requires
 hand-out-requires c κs = search needs
 
--- src/lib.rt:199:25
 enum-known-n : tie.Need-enum-known-n
 enum-known-n c = search needs
 
--- src/lib.rt:200:21
 enum-known-piece : tie.Need-enum-known-piece
 enum-known-piece c = search needs
 
--- src/lib.rt:202:41
 kind-for-requires : tie.Need-kind-for-requires
 kind-for-requires c κs = search needs
 
--- src/lib.rt:202:17
 same-length : tie.Need-same-length
 same-length c = search needs
 
--- src/lib.rt:202:17
 returns : tie.Need-returns
 returns c =
     let a = c .before .before .before .before .before .before .before .before .before .before .before .args in
@@ -40,19 +28,15 @@ returns c =
     let H : HandsOne (a .s .now) (c .before .before .before .before .before .before .before .hand-out .last .0) (a .store .now) (a .i) (a .d) (m .given .0 .0) (m .given .0 .1 .0) (m .given .0 .1 .1 .0) = rw (m .given .1) at (c .before .before .before .before .before .before .before .hand-out .ensures) in
     more-left (p .1 .1 .1 .0) (p .1 .1 .0) (a .store .now) (a .d) H (c .before .if1 .taken) (c .kind-for .ensures)
 
--- src/lib.rt:208:13
 leave-requires : tie.Need-leave-requires
 leave-requires c κs = search needs
 
--- src/lib.rt:209:30
 kind-for-requires-2 : tie.Need-kind-for-requires-2
 kind-for-requires-2 c κs = search needs
 
--- src/lib.rt:190:1
 same-length-2 : tie.Need-same-length-2
 same-length-2 c = search needs
 
--- src/lib.rt:190:1
 returns-2 : tie.Need-returns-2
 returns-2 c =
     let a = c .before .before .before .before .before .before .before .before .before .args in
@@ -61,11 +45,9 @@ returns-2 c =
     let H : HandsNone (a .s .now) (c .before .before .before .before .before .hand-out .last .0) (a .store .now) (a .i) (a .d) (m .given .0 .0) = rw (m .given .1) at (c .before .before .before .before .before .hand-out .ensures) in
     none-left (p .1 .1 .1 .0) (p .1 .1 .0) (a .store .now) (a .d) H
 
--- src/lib.rt:190:1
 same-length-3 : tie.Need-same-length-3
 same-length-3 c = search needs
 
--- src/lib.rt:190:1
 returns-3 : tie.Need-returns-3
 returns-3 c =
     let a = c .before .before .before .before .before .before .before .before .before .before .before .before .before .before .before .args in

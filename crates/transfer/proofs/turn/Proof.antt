@@ -10,52 +10,36 @@ use Rattle.transfer.proofs.Turns.{first-is, turns-closed, turns-idle, t
 use borrow.Author.Needs.{needs}
 use Rattle.transfer.proofs.turn.Statement.{statement}
 use Rattle.transfer.proofs.turn.Tie as tie
-use Rattle.transfer.proofs.turn.Reads as reads
-use Rattle.transfer.proofs.turn.Lts as lts
-use Rattle.line.proofs.at.Reads as at-reads
-use Rattle.line.proofs.len.Reads as len-reads
-use Rattle.state.proofs.find.Reads as find-reads
-use Rattle.transfer.proofs.serve.Reads as serve-reads
-use Rattle.words.proofs.get_head.Reads as get-head-reads
 
--- src/lib.rt:259:9
 get-head-requires : tie.Need-get-head-requires
 get-head-requires c κs = search needs
 
--- src/lib.rt:262:9
 returns : tie.Need-returns
 returns c =
     let a = c .before .before .before .before .args in
     turns-closed (a .s .now) (a .store .now) (port-closed (c .before .get-head .ensures) (a .store .now) (c .if1 .taken))
 
--- src/lib.rt:264:8
 len-requires : tie.Need-len-requires
 len-requires c κs = search needs
 
--- src/lib.rt:265:9
 returns-2 : tie.Need-returns-2
 returns-2 c =
     let a = c .before .before .before .before .before .before .before .before .args in
     let live : headOf (a .s .now) .live ≡ true = head-open (c .before .before .before .before .before .get-head .ensures) (c .before .before .before .before .if1 .left) in
     turns-idle (a .s .now) (a .store .now) live (c .before .len .ensures .0) (c .if2 .taken)
 
--- src/lib.rt:267:9
 at-requires : tie.Need-at-requires
 at-requires c κs = search needs
 
--- src/lib.rt:268:24
 find-requires : tie.Need-find-requires
 find-requires c κs = search needs
 
--- src/lib.rt:268:19
 enum-known-i : tie.Need-enum-known-i
 enum-known-i c = search needs
 
--- src/lib.rt:269:9
 enum-told : tie.Need-enum-told
 enum-told c = search needs
 
--- src/lib.rt:269:9
 returns-3 : tie.Need-returns-3
 returns-3 c =
     let a = c .before .before .before .before .before .before .before .before .before .before .before .before .before .before .before .before .args in
@@ -63,7 +47,6 @@ returns-3 c =
     let I : FirstIs (a .s .now) (c .before .before .before .before .before .at .result) = first-is (a .s .now) (c .before .before .before .before .before .at .result) (c .before .before .before .before .before .before .before .before .before .len .ensures .0) (c .before .before .before .before .before .before .before .before .if2 .left) (c .before .before .before .before .before .at .ensures) in
     turns-unknown (a .s .now) (a .store .now) live I (rw (c .enum-told .given .1) at (c .before .before .find .ensures))
 
--- src/lib.rt:271:5
 serve-requires : tie.Need-serve-requires
 serve-requires c κs =
     let a = c .before .before .before .before .before .before .before .before .before .before .before .before .before .before .before .before .before .before .before .args in
@@ -72,7 +55,6 @@ serve-requires c κs =
     let F : FoundAt (a .s .now) (c .before .before .before .before .before .before .before .before .at .result .tag) (c .before .before .before .i .given .0 .0) = rw (c .before .before .before .i .given .1) at (c .before .before .before .before .before .find .ensures) in
     (search needs, (search needs, (live, (I, (F, ap (λ (h : Head). h .terms .maximum) (c .before .before .before .before .before .before .before .before .before .before .before .before .before .before .before .before .get-head .ensures .whole))))))
 
--- src/lib.rt:256:1
 returns-4 : tie.Need-returns-4
 returns-4 c =
     let a = c .before .before .before .before .before .before .before .before .before .before .before .before .before .before .before .before .before .before .before .before .args in

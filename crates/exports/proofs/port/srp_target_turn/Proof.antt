@@ -9,36 +9,25 @@ use Rattle.exports.proofs.Plain.{turn-wordless}
 use borrow.Author.Needs.{needs}
 use Rattle.exports.proofs.port.srp_target_turn.Statement.{statement}
 use Rattle.exports.proofs.port.srp_target_turn.Tie as tie
-use Rattle.exports.proofs.port.srp_target_turn.Reads as reads
-use Rattle.exports.proofs.port.srp_target_turn.Lts as lts
-use Rattle.answer.proofs.served_words.Reads as served-words-reads
-use Rattle.exports.proofs.port.give_nothing.Reads as give-nothing-reads
-use Rattle.transfer.proofs.turn.Reads as turn-reads
 
--- src/port.rt:163:9
 turn-requires : tie.Need-turn-requires
 turn-requires c κs = search needs
 
--- src/port.rt:164:23
 enum-known-r : tie.Need-enum-known-r
 enum-known-r c = search needs
 
--- src/port.rt:165:9
 give-nothing-requires : tie.Need-give-nothing-requires
 give-nothing-requires c κs =
     let a = c .before .before .before .before .args in
     turn-wordless (view (a .port .now) (a .store .now)) (c .before .before .turn .result) (c .before .before .turn .ensures .replies .reply) (c .before .match .keys2)
 
--- src/port.rt:165:9
 returns : tie.Need-returns
 returns c =
     turn-in-c (c .before .before .before .turn .ensures) (c .give-nothing .ensures)
 
--- src/port.rt:167:15
 served-words-requires : tie.Need-served-words-requires
 served-words-requires c κs = search needs
 
--- src/port.rt:155:1
 returns-2 : tie.Need-returns-2
 returns-2 c =
     let e = c .before .before .r .given .1 in

@@ -1,3 +1,4 @@
+-- `state::command_ends` meets its contract. Assumes nothing.
 use mathlib.Core.Path.{sym, _∙_, ap}
 use Rattle.srp.specs.declared.Request.{Request}
 use Rattle.state.specs.Changes.{FoundAt, ends}
@@ -5,52 +6,37 @@ use Rattle.state.proofs.Parting.{other-ends, nothing-ends, found-ends}
 use borrow.Author.Needs.{needs}
 use Rattle.state.proofs.moves.command_ends.Statement.{statement}
 use Rattle.state.proofs.moves.command_ends.Tie as tie
-use Rattle.state.proofs.moves.command_ends.Reads as reads
-use Rattle.state.proofs.moves.command_ends.Lts as lts
-use Rattle.state.proofs.ended.Reads as ended-reads
-use Rattle.state.proofs.find.Reads as find-reads
-use Rattle.state.proofs.moves.other_tag.Reads as other-tag-reads
-use Rattle.words.proofs.commands.load_request.Reads as load-request-reads
 
--- src/moves.rt:55:8
 other-tag-requires : tie.Need-other-tag-requires
 other-tag-requires c κs = search needs
 
--- src/moves.rt:56:9
 returns : tie.Need-returns
 returns c =
     other-ends (c .before .before .before .args .s .now) (c .before .before .before .args .which) (c .before .before .before .args .tag) (sym (c .before .other-tag .ensures) ∙ c .if1 .taken)
 
--- src/moves.rt:58:24
 find-requires : tie.Need-find-requires
 find-requires c κs = search needs
 
--- src/moves.rt:58:19
 enum-known-i : tie.Need-enum-known-i
 enum-known-i c = search needs
 
--- src/moves.rt:59:9
 enum-told : tie.Need-enum-told
 enum-told c = search needs
 
--- src/moves.rt:59:9
 returns-2 : tie.Need-returns-2
 returns-2 c =
     let a = c .before .before .before .before .before .before .args in
     nothing-ends (a .s .now) (a .which) (a .tag) (rw (c .enum-told .given .1) at (c .before .before .find .ensures))
 
--- src/moves.rt:61:9
 load-request-requires : tie.Need-load-request-requires
 load-request-requires c κs =
     let a = c .before .before .before .before .before .before .before .args in
     let F : FoundAt (a .s .now) (a .tag) (c .before .i .given .0 .0) = rw (c .before .i .given .1) at (c .before .before .before .find .ensures) in
     (search needs, F .small)
 
--- src/moves.rt:62:5
 ended-requires : tie.Need-ended-requires
 ended-requires c κs = search needs
 
--- src/moves.rt:51:1
 returns-3 : tie.Need-returns-3
 returns-3 c =
     let a = c .before .before .before .before .before .before .before .before .before .args in

@@ -1,3 +1,4 @@
+-- `state::leave` meets its contract. Assumes nothing.
 use mathlib.Core.Path.{sym, _∙_}
 use mathlib.Core.Logic.{⊎-elim}
 use Prim.Native.Nat.{_-_}
@@ -7,13 +8,6 @@ use borrow.Author.Tests.{not-true, not-false}
 use Rattle.state.proofs.Parting.{Parting, part-start, part-left, part-kept, part-unmoved, parted}
 use Rattle.state.proofs.moves.leave.Statement.{statement}
 use Rattle.state.proofs.moves.leave.Tie as tie
-use Rattle.state.proofs.moves.leave.Reads as reads
-use Rattle.state.proofs.moves.leave.Lts as lts
-use Rattle.line.proofs.at.Reads as at-reads
-use Rattle.line.proofs.len.Reads as len-reads
-use Rattle.line.proofs.put.Reads as put-reads
-use Rattle.line.proofs.set_len.Reads as set-len-reads
-use Rattle.state.proofs.moves.move_leaves.Reads as move-leaves-reads
 
 abbrev Inv-loop : tie.InvT-loop
 Inv-loop s₀ which n i₀ kept₀ s i kept = Parting which n s₀ s i kept
@@ -21,47 +15,38 @@ Inv-loop s₀ which n i₀ kept₀ s i kept = Parting which n s₀ s i kept
 abbrev μ-loop : tie.MeasureT-loop
 μ-loop s₀ which n i₀ kept₀ s i kept = n - i
 
--- src/moves.rt:80:9
 len-requires : tie.Need-len-requires Inv-loop μ-loop
 len-requires c κs =
     search needs
 
--- src/moves.rt:83:5
 loop-holds : tie.Need-loop-holds Inv-loop μ-loop
 loop-holds c =
     part-start _ _ _ (c .len .ensures .0) (c .len .ensures .1) (c .before .before .before .pre)
 
--- src/moves.rt:84:13
 at-requires : tie.Need-at-requires Inv-loop μ-loop
 at-requires c κs =
     search needs
 
--- src/moves.rt:85:13
 move-leaves-requires : tie.Need-move-leaves-requires Inv-loop μ-loop
 move-leaves-requires c κs =
     search needs
 
--- src/moves.rt:87:17
 put-requires : tie.Need-put-requires Inv-loop μ-loop
 put-requires c κs =
     search needs
 
--- src/moves.rt:89:13
 add-kept : tie.Need-add-kept Inv-loop μ-loop
 add-kept c =
     omega arith
 
--- src/moves.rt:91:9
 add-i : tie.Need-add-i Inv-loop μ-loop
 add-i c =
     omega arith
 
--- src/moves.rt:83:5
 loop-less : tie.Need-loop-less Inv-loop μ-loop
 loop-less c =
     omega arith
 
--- src/moves.rt:83:5
 loop-again : tie.Need-loop-again Inv-loop μ-loop
 loop-again c =
     let D = c .before .before .before .before .before .before .loop .inv in
@@ -78,17 +63,14 @@ loop-again c =
     (λ w. rw (w .1, w .2) (part-left _ _ _ _ _ _ D on _ (x .ensures) (λ st. sym (not-false _ (w .0 .left)) ∙ t .ensures st)))
     (c .if1 .came)
 
--- src/moves.rt:93:5
 set-len-requires : tie.Need-set-len-requires Inv-loop μ-loop
 set-len-requires c κs =
     search needs
 
--- src/moves.rt:76:1
 same-length : tie.Need-same-length Inv-loop μ-loop
 same-length c =
     c .before .before .set-len .kept .0 ∙ c .before .before .before .before .before .loop .inv .same-long
 
--- src/moves.rt:76:1
 returns : tie.Need-returns Inv-loop μ-loop
 returns c =
     parted _ _ _ _ _ _ (c .before .before .before .before .before .loop .inv) (c .before .before .before .before .loop-test .left) (c .before .before .set-len .last .0) (c .before .before .set-len .ensures)

@@ -1,3 +1,4 @@
+-- `state::move_leaves` meets its contract. Assumes nothing.
 use mathlib.Core.Path.{sym, _∙_, ap}
 use Rattle.words.specs.View.{shown}
 use Rattle.state.specs.Leaving.{leaves}
@@ -5,34 +6,24 @@ use Rattle.state.specs.declared.Leaving.{Leaving}
 use borrow.Author.Needs.{needs}
 use Rattle.state.proofs.moves.move_leaves.Statement.{statement}
 use Rattle.state.proofs.moves.move_leaves.Tie as tie
-use Rattle.state.proofs.moves.move_leaves.Reads as reads
-use Rattle.state.proofs.moves.move_leaves.Lts as lts
-use Rattle.state.proofs.moves.command_ends.Reads as command-ends-reads
-use Rattle.state.proofs.moves.same_place.Reads as same-place-reads
 
--- src/moves.rt:70:25
 enum-known-which : tie.Need-enum-known-which
 enum-known-which c = search needs
 
--- src/moves.rt:70:31
 same-place-requires : tie.Need-same-place-requires
 same-place-requires c κs = search needs
 
--- src/moves.rt:71:24
 enum-known-which-2 : tie.Need-enum-known-which-2
 enum-known-which-2 c = search needs
 
--- src/moves.rt:71:30
 command-ends-requires : tie.Need-command-ends-requires
 command-ends-requires c κs = search needs
 
--- src/moves.rt:65:1
 returns : tie.Need-returns
 returns c =
     let a = c .before .before .before .before .before .args in
     λ st. c .same-place .ensures ∙ sym (ap (λ (w : Leaving). leaves w (shown (a .s .now) st .held) (a .x)) (c .before .before .which .given .1))
 
--- src/moves.rt:65:1
 returns-2 : tie.Need-returns-2
 returns-2 c =
     let a = c .before .before .before .before .before .args in
