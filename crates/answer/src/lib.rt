@@ -1,4 +1,6 @@
 // What an answer is in numbers, for callers that have no enums; and the answer of a refusal without a message.
+#![tactic(auto)]
+
 ghost use Rattle.std.specs.Prelude.{◌≡◌, ℕ};
 ghost use Rattle.srp.specs.Refusals.{number_of, conduct_of, reason_in};
 ghost use Rattle.srp.specs.Calls.{kind_of};

@@ -1,4 +1,6 @@
 // Address boundaries: which Q a login and the cut take, and how long a piece may be at an address.
+#![tactic(auto)]
+
 ghost use Rattle.std.specs.Prelude.{◌≡◌, false};
 ghost use Rattle.srp.specs.Cutting.{longest_at_lem, bad_boundary};
 

@@ -1,5 +1,7 @@
 // The end of a channel by the target: its commands are dropped, and an SRP_T_LOGOUT says so. The owner closes with a reason; a hang-up of take ends
 // the channel in the same way.
+#![tactic(auto)]
+
 ghost use Rattle.std.specs.Prelude.{◌≡◌, true, ◌≤◌, length};
 ghost use Rattle.srp.specs.Limits.{buffer_size};
 ghost use Rattle.words.specs.Sizes.{port_words};

@@ -6,21 +6,21 @@ use srp::limits::{BOTH_FORMATS, LONGEST_AGREED, SHORTEST_AGREED};
 use wire::layout::COMMAND;
 
 // The agreed length and formats that look is given.
-#[derive(Drop)]
+#[derive(Clone, Copy)]
 pub enum Setting {
     InRange,
     OutOfRange,
 }
 
 // A message's length.
-#[derive(Drop)]
+#[derive(Clone, Copy)]
 pub enum Length {
     Allowed,
     NotAllowed,
 }
 
 // A message's type.
-#[derive(Drop)]
+#[derive(Clone, Copy)]
 pub enum MessageType {
     SrpCmd,
     Other,

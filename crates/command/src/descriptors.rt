@@ -10,14 +10,14 @@ use wire::layout::{
 };
 
 // A format, where it is agreed.
-#[derive(Drop)]
+#[derive(Clone, Copy)]
 pub enum Format {
     Agreed(u8),
     NotAgreed,
 }
 
 // A count of copies: at most 32, and no more than the table has.
-#[derive(Drop)]
+#[derive(Clone, Copy)]
 pub enum Count {
     Within,
     Above,

@@ -1,4 +1,6 @@
 // Look: how an SRP_CMD is read without state; its CDB and its segments as parts of what the caller lent; bad fields.
+#![tactic(auto)]
+
 mod checks;
 mod descriptors;
 mod given;

@@ -11,7 +11,7 @@ use srp::{Descriptor, Refusal};
 use wire::layout::{ADDITIONAL, CDB, FORMATS, IN_COUNT, OUT_COUNT, SHORTEST_CDB};
 
 // The CDB's length, and both descriptors but for their total lengths, which no check before refusal 10 reads.
-#[derive(Drop)]
+#[derive(Clone, Copy)]
 pub struct Shape {
     pub cdb: usize,
     pub out: Descriptor,
@@ -19,7 +19,7 @@ pub struct Shape {
 }
 
 // The shape of an SRP_CMD, or which refusal it draws.
-#[derive(Drop)]
+#[derive(Clone, Copy)]
 pub enum Shaped {
     Fit(Shape),
     Unfit(Refusal),

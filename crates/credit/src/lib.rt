@@ -1,4 +1,6 @@
 // Credit: buffers added to those wanted and withdrawn from them, and a grant of what is owed.
+#![tactic(auto)]
+
 ghost use Rattle.std.specs.Prelude.{◌≡◌, true, ◌≤◌, ◌<◌, ◌+◌, ltb, length};
 ghost use Rattle.srp.specs.Limits.{buffer_size, most_buffers};
 ghost use Rattle.words.specs.Sizes.{port_words};

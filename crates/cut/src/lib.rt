@@ -1,4 +1,6 @@
 // The next piece of a move, from its direction's memory descriptors as bytes, and the cut with its refusals.
+#![tactic(auto)]
+
 mod locate;
 
 ghost use Rattle.std.specs.Prelude.{◌≡◌, ◌+◌, ◌/◌, ◌^◌, ◌≤◌, false, not, length, nat_le};
@@ -17,7 +19,7 @@ const LARGEST_TOTAL: u64 = 0xffff_ffff;
 const LARGEST_ADDRESS: u64 = 0xffff_ffff_ffff_ffff;
 
 // The sum of the lengths of some segments, or that a field is bad (refusal 10): for a list by itself, that a segment passes 2^64.
-#[derive(Drop)]
+#[derive(Clone, Copy)]
 pub enum Total {
     Sum(u64),
     Wrong,

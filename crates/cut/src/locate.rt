@@ -6,7 +6,7 @@ ghost use Rattle.cut.specs.Locating.{located};
 use wire::layout::{SEGMENT, SEGMENT_LENGTH};
 
 // A segment's index and length, and the sum of the earlier lengths.
-#[derive(Drop)]
+#[derive(Clone, Copy)]
 pub struct Location {
     pub index: usize,
     pub len: u32,
@@ -14,7 +14,7 @@ pub struct Location {
 }
 
 // The segment that holds an offset; or the offset is behind the last byte.
-#[derive(Drop)]
+#[derive(Clone, Copy)]
 pub enum Located {
     At(Location),
     Behind,

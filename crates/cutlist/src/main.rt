@@ -1,5 +1,7 @@
 // cutlist: reads one SRP_CMD from standard input and prints the RDMA operations that move its data, out before in.
 // Both formats agreed, messages of up to 1,364 bytes, M = 512, R = B. What is printed is `cutlist` of crate srp's specs/Outside.antt.
+#![tactic(auto)]
+
 mod lines;
 mod output;
 

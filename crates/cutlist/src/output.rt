@@ -15,14 +15,14 @@ const MAXIMUM: u32 = 512;
 const LONGEST_LINE: usize = 32;
 
 // A data buffer: its descriptor, and B.
-#[derive(Drop)]
+#[derive(Clone, Copy)]
 pub struct Buffer {
     pub descriptor: Descriptor,
     pub total: u32,
 }
 
 // Operations: data-out's buffer and data-in's.
-#[derive(Drop)]
+#[derive(Clone, Copy)]
 pub enum Output {
     Refused(Refusal),
     Fetch,
@@ -30,7 +30,7 @@ pub enum Output {
 }
 
 // How many bytes of a text hold lines, and where the next operation starts.
-#[derive(Drop)]
+#[derive(Clone, Copy)]
 pub struct Filled {
     pub len: usize,
     pub from: u32,

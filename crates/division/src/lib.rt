@@ -1,5 +1,7 @@
 // How the 256 values of an SRP_CMD's byte 5 divide: in a message whose length never decides, each passes, draws 5 or draws 6.
 // All are gone through, each by the decision on a format that look and take make.
+#![tactic(auto)]
+
 ghost use Rattle.std.specs.Prelude.{◌≡◌, ◌<◌};
 ghost use Rattle.division.specs.Dividing.{values, drawn, divide_def, lead_of_lem, counted_in};
 
@@ -8,21 +10,21 @@ use srp::Refusal;
 use srp::limits::BOTH_FORMATS;
 
 // How many values pass, draw 5 and draw 6.
-#[derive(Drop)]
+#[derive(Clone, Copy)]
 pub struct Division {
     pub pass: u32,
     pub out: u32,
     pub inn: u32,
 }
 
-#[derive(Drop)]
+#[derive(Clone, Copy)]
 pub enum Divided {
     Refused(Refusal),
     Counts(Division),
 }
 
 // Where a value leads.
-#[derive(Drop)]
+#[derive(Clone, Copy)]
 enum Lead {
     Passes,
     DrawsOut,

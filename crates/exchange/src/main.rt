@@ -2,6 +2,8 @@
 // start, a last byte before the others; the listing; an abort; the listing oldest first, with a tag used again; commands that wait for their tables, of
 // which one's are bad and one is aborted; three moves by turns; buffers added, granted and withdrawn; a logout; a second login with address boundaries,
 // which the owner ends. Each message, each call and each RDMA operation is a line.
+#![tactic(auto)]
+
 mod boundary;
 mod moves;
 mod order;

@@ -1,6 +1,8 @@
 // The calls for callers in C, as include/srp_target.h declares them; those on a port are in port.rt. Look, the cut and trace return 0 or the refusal's
 // number, and write their answer's 32 bytes, or the line's 81, into the lent buffer. A refusal leaves the buffer as it was; every byte past those is kept.
 // How format bytes divide is answered in eight words, as by the calls on a port.
+#![tactic(auto)]
+
 pub mod port;
 pub mod taking;
 

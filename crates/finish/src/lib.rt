@@ -1,4 +1,6 @@
 // Finish: a command ends with its status, sense and residuals.
+#![tactic(auto)]
+
 ghost use Rattle.std.specs.Prelude.{◌≡◌, true, List, ℕ, ◌≤◌, length};
 ghost use Rattle.srp.specs.Limits.{buffer_size, longest_sense};
 ghost use Rattle.srp.specs.Writing.{residual_of};

@@ -1,5 +1,7 @@
 // formats: prints how the values of an SRP_CMD's byte 5 divide, a line for each agreement: the agreed formats as a login has them, how many values pass, draw
 // 5 and draw 6. What is printed is `table` of specs/Table.antt.
+#![tactic(auto)]
+
 mod lines;
 
 use libc::STDOUT_FILENO;

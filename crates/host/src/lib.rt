@@ -1,5 +1,7 @@
 // A small initiator, for the programs that show and test the port: it lays its messages into lent buffers. Besides, the queues between both ends,
 // what it sends and receives through them, and the lines that the programs print.
+#![tactic(auto)]
+
 pub mod channel;
 pub mod paper;
 pub mod queue;

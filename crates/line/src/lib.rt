@@ -1,5 +1,7 @@
 // The line of moves in a port's words: a ring of places, of which it is so many from the first on. Moves join behind the last, and the first one
 // leaves without another being moved.
+#![tactic(auto)]
+
 ghost use Rattle.std.specs.Prelude.{◌≡◌, true, ◌∷◌, [], ◌++◌, ◌+◌, ◌*◌, ◌%◌, ◌≤◌, ◌<◌, length, get_or, drop};
 ghost use Rattle.srp.specs.Limits.{most_moves};
 ghost use Rattle.srp.specs.Line.{joins, put_back};

@@ -1,4 +1,6 @@
 // Login: the settings, the refusals and rejections, and the port that an accepted login makes.
+#![tactic(auto)]
+
 ghost use Rattle.std.specs.Prelude.{◌≡◌, ◌≤◌, length};
 ghost use Rattle.srp.specs.Limits.{buffer_size};
 ghost use Rattle.srp.specs.Bytes.{part};
@@ -36,7 +38,7 @@ const MULTIPLE_CHANNELS: u32 = 0x00010005;
 const OTHER_TARGET: u32 = 0x00010003;
 
 // What a login of the right length and type comes to.
-#[derive(Drop)]
+#[derive(Clone, Copy)]
 pub enum Verdict {
     Accept,
     Reject(u32),

@@ -1,5 +1,7 @@
 // What the port writes: each message is laid into the lent buffer field by field, every byte past it kept.
 // The fields are written from the last to the first, as the definition of a message nests them.
+#![tactic(auto)]
+
 ghost use Rattle.std.specs.Prelude.{◌≡◌, [], ◌∷◌, ◌+◌, ◌≤◌, ◌<◌, length};
 ghost use Rattle.srp.specs.Limits.{buffer_size, longest_sense};
 ghost use Rattle.srp.specs.Bytes.{Field, bit, put, puts, write};
@@ -22,7 +24,7 @@ const RESPONSE_BYTES: u32 = 4;
 pub const ANSWER_SIZE: usize = RSP_SIZE + (RESPONSE_BYTES as usize);
 
 // The fields of an SRP_RSP but for its response bytes and its sense.
-#[derive(Drop)]
+#[derive(Clone, Copy)]
 pub struct Header {
     pub solnt: bool,
     pub delta: u32,

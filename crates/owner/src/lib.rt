@@ -1,5 +1,7 @@
 // The port's owner, for the programs that show and test the port: each call and each RDMA operation is shown as it goes by, and what the port writes
 // joins the queue to the initiator.
+#![tactic(auto)]
+
 mod buffers;
 mod requests;
 mod session;

@@ -1,4 +1,6 @@
 // A message as one line of 80 columns, for people at a terminal. What the line says is decided by value; then it is written once.
+#![tactic(auto)]
+
 mod entries;
 mod kinds;
 mod writing;
@@ -17,14 +19,14 @@ pub const LINE: usize = 81;
 pub const MOST_READ: usize = 40;
 
 // towards the port, or from it
-#[derive(Drop)]
+#[derive(Clone, Copy)]
 pub enum Way {
     Towards,
     From,
 }
 
 // The types of document 01; a message that is none of them is unknown.
-#[derive(Drop)]
+#[derive(Clone, Copy)]
 pub enum Name {
     LoginReq,
     TskMgmt,
@@ -40,14 +42,14 @@ pub enum Name {
 }
 
 // What stands in some columns, if anything.
-#[derive(Drop)]
+#[derive(Clone, Copy)]
 pub enum Entry {
     Blank,
     Number(u64),
 }
 
 // What a line says: `number` is a delta, or an unknown message's length; `code` is a reason or an RSP_CODE.
-#[derive(Drop)]
+#[derive(Clone, Copy)]
 pub struct Line {
     pub way: Way,
     pub name: Name,

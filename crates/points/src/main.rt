@@ -1,4 +1,6 @@
 // points: document 01's P1 to P10, through the calls of the port. Each begins with what document 01 says of it; then what the port does.
+#![tactic(auto)]
+
 use host::paper::{CMD_SIZE, DIRECT_SIZE, ENTRIES, GOOD, IN_DIRECT, IN_INDIRECT, SEGMENT};
 use host::queue::QUEUE;
 use host::{MESSAGE, channel, message, show};

@@ -1,6 +1,8 @@
 // What the owner reads of a port: its counters and its open commands. A listing is made by value, and what is to be written to a lent list of records
 // decided by value; list_into only copies it. No `&mut [Record]` is covered by the borrow checker: the proofs of list_into and of lend, which makes one, are
 // walks of their code by hand.
+#![tactic(auto)]
+
 ghost use Rattle.std.specs.Prelude.{◌≡◌, ◌<◌, length, get_or};
 ghost use Rattle.std.proofs.Math.IntN.{sub_ℕ};
 ghost use Rattle.words.specs.Sizes.{port_words, most_slots};
@@ -11,7 +13,7 @@ use srp::{Counters, Record, Refusal, Reply};
 use words::{PORT, SLOTS, Slot};
 
 // A listing: its reply, how many records a lent list is to have of it, and its records, blank behind those of the open commands.
-#[derive(Drop)]
+#[derive(Clone, Copy)]
 pub struct Listing {
     pub reply: Reply,
     pub count: usize,
@@ -19,7 +21,7 @@ pub struct Listing {
 }
 
 // A lent list as it comes back, and the listing's reply.
-#[derive(Drop)]
+#[derive(Clone, Copy)]
 pub struct Lent {
     pub reply: Reply,
     pub records: [Record; SLOTS],

@@ -1,4 +1,6 @@
 // A message to the port, read whole: a command, a task request, a credit response, the initiator's logout, or the refusal of 3 to 8 that it draws.
+#![tactic(auto)]
+
 ghost use Rattle.std.specs.Prelude.{◌≡◌, length, ◌≤◌};
 ghost use Rattle.srp.specs.Limits.{shortest_message};
 ghost use Rattle.srp.specs.Messages.{tsk_mgmt};
@@ -13,7 +15,7 @@ use wire::layout::{
 };
 
 // A type other than an SRP_CMD's.
-#[derive(Drop)]
+#[derive(Clone, Copy)]
 enum KnownType {
     Known,
     Unknown,

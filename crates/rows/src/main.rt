@@ -1,13 +1,15 @@
 // Puts rows of questions and answers, made by a model of document 01 that was written elsewhere, to the code: look and the cut as C calls
 // them, the CDB's part, the segments' parts. Standard input has the rows as tests/rows/pack packs them. Prints each row that is not right,
 // and how many of each kind are.
+#![tactic(auto)]
+
 mod row;
 
 use libc::{STDIN_FILENO, STDOUT_FILENO};
 
 const INPUT: usize = 262144;
 
-#[derive(Drop)]
+#[derive(Clone, Copy)]
 pub struct Counts {
     pub look: usize,
     pub cut: usize,

@@ -35,7 +35,7 @@ const ROOM: usize = 64;
 const FIELDS: u8 = 10;
 
 // Where the strings of a row end.
-#[derive(Drop)]
+#[derive(Clone, Copy)]
 pub struct Ends {
     pub first: usize,
     pub second: usize,

@@ -15,9 +15,10 @@ use Rattle.srp.specs.Messages.{tag, lun, ucsolnt, scsolnt, out_format, in_format
 use Rattle.srp.specs.Lists.{All}
 use Rattle.srp.specs.Refusals.{Conduct, hangs_up, answered, stays, alters_nothing, conduct_of, Check, first_of_checks}
 use Rattle.srp.specs.Descriptors.{descriptor_size, descriptor_of_lem, fetch_of, given}
-use Rattle.srp.specs.Requests.{out_at, in_at, out_descriptor, in_descriptor, command_of_lem, command_checks, task_of, unless_bad, sized, length_checks, read_message_lem, look_def}
+use Rattle.srp.specs.Requests.{request_of_lem, out_at, in_at, out_descriptor, in_descriptor, command_of_lem, command_checks, task_of, unless_bad, sized, length_checks, read_message_lem, look_def}
 use Rattle.srp.specs.Credit.{Open, Port}
-use Rattle.srp.specs.Take.{leaving, given_in, aborted, later_checks, accepted, request_in, conducted, take_by, take_checks, take_read, take_def}
+use Rattle.srp.specs.Take.{answering, leaving, given_in, task_code, aborted, later_checks, accepted, request_in, conducted, take_by, take_checks, take_read, take_def}
+use Rattle.srp.specs.Writing.{answer, solicited}
 use Rattle.srp.specs.Login.{login_def}
 use Rattle.srp.specs.declared.Settings.{Settings}
 use Rattle.srp.specs.Unread.{also, changed, ChangeOf}
@@ -27,6 +28,7 @@ use Rattle.srp.specs.declared.Descriptor.{Descriptor}
 use Rattle.srp.specs.declared.Command.{Command}
 use Rattle.srp.specs.declared.Message.{Message}
 use Rattle.srp.specs.declared.Message.TheVariants.{Bad, Cmd, TskMgmt, CredRsp, ILogout}
+use Rattle.srp.specs.declared.Reply.TheVariants.{TaskAnswered}
 use Rattle.srp.proofs.FieldLaws.{both, ends, length_put, drop_put}
 use Rattle.srp.proofs.Layouts.{gets_apart}
 
@@ -196,7 +198,11 @@ module _ (p : Port) (s s' : List ℕ) where
       let b : (c : Open) → aborted (task_of s) c ≡ aborted (task_of s') c =
       λ c. cc (managed (eqb (get task_function s') 1) c.request.tag a.0) in
       let w = ap (λ (f : Open → Bool). leaving p (p.announced - 1) f) (fun_ext b) in
-      record { checks = cc; done = cc; request = cc }
+      let q : request_of_lem s ≡ request_of_lem s' = cc in
+      let f : get task_function s ≡ get task_function s' = cc in
+      let done : accepted p s (TskMgmt (task_of s)) ≡ accepted p s' (TskMgmt (task_of s')) =
+      λ j. answering (w j) (TaskAnswered (q j).tag (q j).lun) (answer (solicited (q j) (task_code (f j))) (q j).tag (task_code (f j))) in
+      record { checks = cc; done = done; request = q }
     where
       managed : (b : Bool) (g : ℕ) → cond b (get task_tag s) 0 ≡ cond b (get task_tag s') 0 → (b && eqb (get task_tag s) g) ≡ (b && eqb (get task_tag s') g)
       managed true g e = cc

@@ -1,10 +1,11 @@
 // The types that the definitions of specs/ share with the code: what is refused, what a message says, what a call answers.
 // The papers' numbers and values for each case stand in specs/Refusals.antt and specs/Answers.antt. A field `inn` is data-in's: `in` is a keyword.
+#![tactic(auto)]
 
 pub mod limits;
 
 // Why a call is refused, in the order of the papers' numbers.
-#[derive(Drop)]
+#[derive(Clone, Copy)]
 pub enum Refusal {
     ShortBuffer,
     Setting,
@@ -33,20 +34,20 @@ pub enum Refusal {
 }
 
 // Data-out, which RDMA Reads fetch, and data-in, which RDMA Writes bring.
-#[derive(Drop)]
+#[derive(Clone, Copy)]
 pub enum Direction {
     Out,
     In,
 }
 
-#[derive(Drop)]
+#[derive(Clone, Copy)]
 pub enum Kind {
     Read,
     Write,
 }
 
 // A data buffer descriptor: its format and count, its place in the message; for format 2 the table's length and the total length.
-#[derive(Drop)]
+#[derive(Clone, Copy)]
 pub struct Descriptor {
     pub format: u8,
     pub count: u8,
@@ -56,7 +57,7 @@ pub struct Descriptor {
 }
 
 // What a request, an SRP_CMD or SRP_TSK_MGMT, is known by and how its answer is to be notified.
-#[derive(Drop)]
+#[derive(Clone, Copy)]
 pub struct Request {
     pub tag: u64,
     pub lun: u64,
@@ -65,7 +66,7 @@ pub struct Request {
 }
 
 // What the owner sets before a login: N, M, Q, X, and whether indirect tables and solicited events are supported.
-#[derive(Drop)]
+#[derive(Clone, Copy)]
 pub struct Settings {
     pub buffers: u32,
     pub maximum: u32,
@@ -76,7 +77,7 @@ pub struct Settings {
 }
 
 // What a login settled: M, Q, the agreed length and formats, CRSOLNT and LOSOLNT.
-#[derive(Drop)]
+#[derive(Clone, Copy)]
 pub struct Terms {
     pub maximum: u32,
     pub boundary: u64,
@@ -88,7 +89,7 @@ pub struct Terms {
 
 // What moves of a command's data in a direction: R, which is 0 until it is planned; h, the highest offset handed out + 1, 0 where nothing was; and
 // what is left of the current move, its bytes from `at` up to `end`, and the number of operations handed out for it, all 0 before any move.
-#[derive(Drop)]
+#[derive(Clone, Copy)]
 pub struct Transfer {
     pub required: u32,
     pub highest: u32,
@@ -98,14 +99,14 @@ pub struct Transfer {
 }
 
 // A move in the line of moves with pieces: its command's tag and its direction.
-#[derive(Drop)]
+#[derive(Clone, Copy)]
 pub struct Place {
     pub tag: u64,
     pub direction: Direction,
 }
 
 // An SRP_CMD. Its CDB is the cdb bytes of the message from byte 32 on.
-#[derive(Drop)]
+#[derive(Clone, Copy)]
 pub struct Command {
     pub request: Request,
     pub cdb: usize,
@@ -114,7 +115,7 @@ pub struct Command {
 }
 
 // An SRP_TSK_MGMT. The function 01h is about the command with the tag managed.
-#[derive(Drop)]
+#[derive(Clone, Copy)]
 pub struct TaskRequest {
     pub request: Request,
     pub function: u8,
@@ -122,7 +123,7 @@ pub struct TaskRequest {
 }
 
 // What a message to the port is, or which of the refusals 3 to 8 it draws.
-#[derive(Drop)]
+#[derive(Clone, Copy)]
 pub enum Message {
     Bad(Refusal),
     Cmd(Command),
@@ -132,21 +133,21 @@ pub enum Message {
 }
 
 // A table to fetch; len is 0 where there is none.
-#[derive(Drop)]
+#[derive(Clone, Copy)]
 pub struct Fetch {
     pub address: u64,
     pub handle: u32,
     pub len: u32,
 }
 
-#[derive(Drop)]
+#[derive(Clone, Copy)]
 pub enum Look {
     LookRefused(Refusal),
     Fetches(Fetch, Fetch),
 }
 
 // A part of a segment, with its offset in the buffer that the segments make up.
-#[derive(Drop)]
+#[derive(Clone, Copy)]
 pub struct Piece {
     pub address: u64,
     pub handle: u32,
@@ -154,7 +155,7 @@ pub struct Piece {
     pub offset: u32,
 }
 
-#[derive(Drop)]
+#[derive(Clone, Copy)]
 pub enum Cut {
     CutRefused(Refusal),
     CutPiece(Piece),
@@ -162,7 +163,7 @@ pub enum Cut {
 }
 
 // How a direction's data differ from its buffer: more were required than B; h stayed below B.
-#[derive(Drop)]
+#[derive(Clone, Copy)]
 pub enum Residual {
     Even,
     Over(u32),
@@ -170,7 +171,7 @@ pub enum Residual {
 }
 
 // W, A, H and D of an open channel.
-#[derive(Drop)]
+#[derive(Clone, Copy)]
 pub struct Counters {
     pub wanted: u8,
     pub announced: u8,
@@ -179,7 +180,7 @@ pub struct Counters {
 }
 
 // An open command in a listing, with h each way.
-#[derive(Drop)]
+#[derive(Clone, Copy)]
 pub struct Record {
     pub tag: u64,
     pub lun: u64,
@@ -188,7 +189,7 @@ pub struct Record {
 }
 
 // What a call on the port answers.
-#[derive(Drop)]
+#[derive(Clone, Copy)]
 pub enum Reply {
     Refused(Refusal),
     // tables, a plan, move, add, withdraw, finish, grant or close
@@ -221,7 +222,7 @@ pub enum Reply {
 }
 
 // A reply, and the length of the message in the lent buffer, 0 where none was written.
-#[derive(Drop)]
+#[derive(Clone, Copy)]
 pub struct Answer {
     pub reply: Reply,
     pub wrote: usize,

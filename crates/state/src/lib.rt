@@ -1,5 +1,7 @@
 // What changes an open port: its credit, a credit request unanswered, the commands that end and the moves that leave the line; and the search for a tag.
 // Each change is said of the port that the words show, for every store: none of these touches the store.
+#![tactic(auto)]
+
 pub mod moves;
 
 ghost use Rattle.std.specs.Prelude.{◌≡◌, ◌+◌, ◌-◌, ◌≤◌, ◌<◌, length};
@@ -13,21 +15,21 @@ use srp::{Place, Request, TaskRequest};
 use words::{HEAD, SLOT, commands};
 
 // Where the open command with a tag stands.
-#[derive(Drop)]
+#[derive(Clone, Copy)]
 pub enum Found {
     At(usize),
     Nothing,
 }
 
 // Which open commands end: the one with a tag, or those that a task request aborts.
-#[derive(Drop)]
+#[derive(Clone, Copy)]
 pub enum Ending {
     Finished(u64),
     Aborted(TaskRequest),
 }
 
 // Which moves leave the line: one whose last piece a single step handed out, or those of commands that end.
-#[derive(Drop)]
+#[derive(Clone, Copy)]
 pub enum Leaving {
     Handed(Place),
     Ended(Ending),

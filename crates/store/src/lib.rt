@@ -1,5 +1,7 @@
 // A new command: a slot behind the open ones, and its memory descriptors at a place of the store that no open command uses; and the tables of a command that
 // waited for them, at its place.
+#![tactic(auto)]
+
 mod supply;
 
 ghost use Rattle.std.specs.Prelude.{◌≡◌, Bool, false, ℕ, ◌+◌, ◌≤◌, ◌<◌, length, get_or};

@@ -1,4 +1,6 @@
 // Tables: those of a command that waits for them, brought by its tag. Refusals 9 and 10 of a command with a fetch named, and the answer to 10.
+#![tactic(auto)]
+
 ghost use Rattle.std.specs.Prelude.{◌≡◌, true, ◌+◌, ◌≤◌, length, get_or};
 ghost use Rattle.srp.specs.Limits.{buffer_size, most_copies};
 ghost use Rattle.srp.specs.Descriptors.{fetched, chosen};

@@ -1,5 +1,7 @@
 // Take: a message from the initiator. Document 01's checks in its order, hang_ups, refusal 10, task management,
 // credit responses, the initiator's logout.
+#![tactic(auto)]
+
 mod fresh;
 
 ghost use Rattle.std.specs.Prelude.{◌≡◌, true, List, ℕ, ◌≤◌, length};

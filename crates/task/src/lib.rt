@@ -1,4 +1,6 @@
 // Task management: which open commands a request's function aborts, and the RSP_CODE that answers it.
+#![tactic(auto)]
+
 ghost use Rattle.std.specs.Prelude.{◌≡◌};
 ghost use Rattle.srp.specs.Take.{whole_lun_lem, task_code};
 

@@ -1,4 +1,6 @@
 // Text in a lent buffer. Each function writes behind the first `at` bytes of a text, keeps what stands behind what it wrote, and answers where that ends.
+#![tactic(auto)]
+
 ghost use Rattle.std.specs.Prelude.{◌≡◌, [], ◌∷◌, ◌+◌, ◌≤◌, ◌<◌, length};
 ghost use Rattle.srp.specs.Outside.{hex_digit_lem, hex, decimal};
 ghost use Rattle.text.specs.Appending.{Appends};

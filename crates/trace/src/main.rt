@@ -1,5 +1,7 @@
 // trace: reads messages from standard input, one to a line as hexadecimal digits behind > or <, and prints the line of each. Blank lines and lines that
 // start with # are skipped; of any other line the number and what is wrong are printed. What is printed is `trace_page` of specs/Input.antt.
+#![tactic(auto)]
+
 mod lines;
 mod reader;
 
@@ -8,7 +10,7 @@ use page::MOST_READ;
 use reader::Reader;
 
 // A part of the input was read and its lines were printed, if they could be written.
-#[derive(Drop)]
+#[derive(Clone, Copy)]
 struct Printed {
     reader: Reader,
     written: bool,

@@ -7,14 +7,14 @@ use page::Way;
 use text::NEWLINE;
 
 // A character as a hexadecimal digit.
-#[derive(Drop)]
+#[derive(Clone, Copy)]
 pub enum Digit {
     Value(u8),
     Other,
 }
 
 // What is wrong with a line.
-#[derive(Drop)]
+#[derive(Clone, Copy)]
 pub enum Fault {
     NoSign,
     NoDigit,
@@ -22,7 +22,7 @@ pub enum Fault {
 }
 
 // What a line is, as far as it was read.
-#[derive(Drop)]
+#[derive(Clone, Copy)]
 pub enum Content {
     Nothing,
     Comment,
@@ -31,7 +31,7 @@ pub enum Content {
 }
 
 // The line's number, from 1 on; how many digits it has; of the byte that is read, the value so far.
-#[derive(Drop)]
+#[derive(Clone, Copy)]
 pub struct Reader {
     pub number: u64,
     pub content: Content,
@@ -40,7 +40,7 @@ pub struct Reader {
 }
 
 // A line that was read up to `at`; whether it ended there.
-#[derive(Drop)]
+#[derive(Clone, Copy)]
 pub struct Part {
     pub at: usize,
     pub reader: Reader,

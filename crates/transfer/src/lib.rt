@@ -1,5 +1,7 @@
 // Plan, move, step and turn: what a command requires each way, the moves that its owner names, and their RDMA operations one after the other, of a move
 // that the owner chooses or of all moves by turns.
+#![tactic(auto)]
+
 ghost use Rattle.std.specs.Prelude.{◌≡◌, true, false, ◌≤◌, ◌<◌, ◌+◌, max, length, get_or};
 ghost use Rattle.srp.specs.Limits.{most_copies};
 ghost use Rattle.srp.specs.Calls.{next_in, kind_of};
@@ -19,7 +21,7 @@ use words::{LIST, PLACE, PORT, Part, STORE, commands, waiting};
 
 // What is handed out of a direction's current move: nothing, as it has no piece left; or a piece. Each with the number handed out for the move, and a
 // piece with whether more are left.
-#[derive(Drop)]
+#[derive(Clone, Copy)]
 pub enum Handed {
     Nothing(u32),
     One(Piece, u32, bool),

@@ -1,5 +1,7 @@
 // Numbers and bits in byte slices: the fields of crate srp's layouts, read and written at an offset; whether formats have a bit other than 1 and 2.
 // A field must lie inside the slice. Numbers are big-endian.
+#![tactic(auto)]
+
 pub mod layout;
 
 ghost use Rattle.std.specs.Prelude.{◌≡◌, ◌++◌, ◌+◌, ◌≤◌, ◌<◌, ◌/◌, ◌%◌, ◌^◌, min, length, take, drop};

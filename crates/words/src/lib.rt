@@ -2,6 +2,8 @@
 // oldest first.
 // Any words are a port: each number is read into its range, so that no caller owes anything but enough words. What is behind the words in use of
 // the head and of a slot is cleared by a login and not read.
+#![tactic(auto)]
+
 pub mod commands;
 pub mod waiting;
 
@@ -62,7 +64,7 @@ const SHORTEST_AGREED: u64 = limits::SHORTEST_AGREED as u64;
 const AGREED_LENGTHS: u64 = (limits::LONGEST_AGREED - limits::SHORTEST_AGREED + 1) as u64;
 
 // What a port is but for its commands: whether it is open, H, W, A, whether a credit request is unanswered, what the login settled.
-#[derive(Drop)]
+#[derive(Clone, Copy)]
 pub struct Head {
     pub live: bool,
     pub held: usize,
@@ -73,7 +75,7 @@ pub struct Head {
 }
 
 // One direction of an open command: how many segments stand in the store, B, and what moves.
-#[derive(Drop)]
+#[derive(Clone, Copy)]
 pub struct Part {
     pub segments: u8,
     pub total: u32,
@@ -81,7 +83,7 @@ pub struct Part {
 }
 
 // What an open command keeps of its message while it waits for its tables: each direction's descriptor, which stood at another place there.
-#[derive(Drop)]
+#[derive(Clone, Copy)]
 pub struct Awaited {
     pub waiting: bool,
     pub out: Descriptor,
@@ -89,7 +91,7 @@ pub struct Awaited {
 }
 
 // An open command. At its place in the store stand its segments; while it waits, the memory descriptors that stood in its message.
-#[derive(Drop)]
+#[derive(Clone, Copy)]
 pub struct Slot {
     pub request: Request,
     pub planned: bool,
