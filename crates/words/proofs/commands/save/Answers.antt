@@ -1,0 +1,15 @@
+use Rattle.words.proofs.Slots.{saved}
+use borrow.Author.Rules.{rules}
+use Rattle.words.proofs.commands.save.Reads as reads
+use Rattle.words.proofs.commands.save.Lts as lts
+use Rattle.words.proofs.commands.words_of.Reads as words-of-reads
+use Rattle.words.proofs.put_words.Reads as put-words-reads
+use Rattle.words.proofs.waiting.awaited_words.Reads as awaited-words-reads
+use Rattle.words.proofs.commands.save.Goals as goal
+
+-- src/commands.rt:196:1
+pub returns : goal.returns
+returns c =
+    let a = c.args in
+    rw (c.put_words-2.ensures, c.put_words.ensures, c.words_of-w.ensures, c.awaited_words-a.ensures)
+    (saved a.s.now c.requires.s_len a.i c.requires.i_lt_most_slots a.c _ c.well_formed.1.1.0 c.requires.slot_fits)

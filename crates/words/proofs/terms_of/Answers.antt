@@ -1,0 +1,7 @@
+-- `words::terms_of` meets its contract.
+use borrow.Author.Rules.{rules}
+use Rattle.words.proofs.terms_of.Goals as goal
+
+pub returns : goal.returns
+returns c =
+    rw c.load_boundary.ensures.0
