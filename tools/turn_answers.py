@@ -16,6 +16,10 @@ DECL = re.compile(r"^(?:abbrev |pub |unfoldable )*([^\s:(){}]+) :(?= |$)")
 PATH = re.compile(r"(?<![\w'.-])c((?:\.before)*)\.([\w'+-]+)")
 
 
+with open(os.path.join(os.path.dirname(os.path.abspath(__file__)), "respelled-names"), encoding="utf-8") as names_file:
+    BEFORE = {new: old for old, new in (line.split() for line in names_file)}
+
+
 def plain(name):
     name = name.replace("_", "-")
     for a, b in (("loop-holds", "loop-init"), ("loop-less", "loop-smaller"), ("loop-again", "loop-preserved")):
@@ -92,14 +96,18 @@ def turn(crate, name, folder, entry, out, named):
             at_step.setdefault(plain(old), place)
 
     def arm(step):
-        place = at_step.get(plain(step))
-        while place and not place.startswith("At-match-keys"):
+        place = at_step.get(plain(step)) or at_step.get(plain(BEFORE.get(step, step)))
+        while place and not re.match(r"At-match\d*-keys", place):
             place = above[place][0]
         return above[place][1][1] if place else None
 
     def told(m):
         found = arm(m.group(2))
         return f"c.{found}.is" if found else m.group(0)
+
+    def bound(m):
+        found = arm(m.group(2))
+        return f"c.{found}.{re.sub('[0-9]+$', '', m.group(2))}" if found else m.group(0)
 
     callee = {new: full for _, _, (_, new), full, *_ in entry["places"] if full}
     whole = os.path.basename(crate) + "::" + name.replace("+", "")
@@ -123,9 +131,45 @@ def turn(crate, name, folder, entry, out, named):
         to = parts(names, tail)
         return m.group(0) if to is None else f"c.{step + '.' if step else ''}{kind}{to}"
 
+    def by_param(m):
+        params = entry["params"].get(callee.get(m.group(1), ""), [])
+        return f"c.{m.group(1)}.new.{params[int(m.group(2))]}" if int(m.group(2)) < len(params) else m.group(0)
+
+    def as_record(names, tail):
+        """A last tuple as a record by the names of the clauses."""
+        depth, open_at = 0, None
+        end = len(tail.rstrip())
+        if len(names) < 2 or not tail.rstrip().endswith(")"):
+            return tail
+        for i in range(end - 1, -1, -1):
+            depth += (tail[i] == ")") - (tail[i] == "(")
+            if depth == 0:
+                open_at = i
+                break
+        if open_at is None or not re.search(r"(=|\bin|^)\s*$", tail[:open_at]):
+            return tail
+        fields, inner = [], tail[open_at + 1:end - 1]
+        while True:
+            depth, cut = 0, None
+            for i, ch in enumerate(inner):
+                depth += (ch in "([{") - (ch in ")]}")
+                if ch == "," and depth == 0:
+                    cut = i
+                    break
+            if cut is None:
+                fields.append(inner.strip())
+                break
+            fields.append(inner[:cut].strip())
+            inner = inner[cut + 1:].strip()
+            if len(fields) < len(names) - 1 and inner.startswith("(") and inner.endswith(")") and "," in inner:
+                inner = inner[1:-1]
+        if len(fields) != len(names):
+            return tail
+        return tail[:open_at] + "record { " + "; ".join(f"{n} = {f}" for n, f in zip(names, fields)) + " }"
+
     def path(m):
         step = m.group(2)
-        step = steps.get(step) or steps.get(plain(step)) or step
+        step = steps.get(step) or steps.get(plain(step)) or steps.get(plain(BEFORE.get(step, step))) or step
         return "c." + step
 
     answers, invariants, said = [], [], []
@@ -173,17 +217,24 @@ def turn(crate, name, folder, entry, out, named):
             continue
         if "κs" in tail:
             said.append(f"{name}: κs")
-        others = set(re.findall(r"let ([\w'-]+) = c(?:\.before)+ in", tail))
-        tail = re.sub(r"\s*let ([\w'-]+) = c(?:\.before)+ in(?=\s)", "", tail)
-        for o in others:
-            tail = re.sub(r"(?<![\w'.-])" + re.escape(o) + r"(?=\.[\w'])", "c", tail)
+        while m2 := re.search(r"\s*let ([\w'-]+) = c(?:\.before)+ in(?=\s)", tail):
+            tail = tail[:m2.start()] + re.sub(r"(?<![\w'.-])" + re.escape(m2.group(1)) + r"(?=\.[\w'])", "c", tail[m2.end():])
+        tail = re.sub(r"\((?:not-true|not-false) \S+ (c(?:\.[\w'-]+)+)\)", r"\1", tail)
+        tail = re.sub(r"\b(?:not-true|not-false) \S+ (c(?:\.[\w'-]+)+)", r"\1", tail)
         tail = re.sub(PATH.pattern + r"\.given\.1(?![\w.])", told, tail)
+        tail = re.sub(PATH.pattern + r"\.given\.0\.0(?![\w])", bound, tail)
         tail = PATH.sub(path, tail)
         for o in re.findall(r"let ([\w'-]+) = c\.requires in", tail):
             tail = re.sub(r"\s*let " + re.escape(o) + r" = c\.requires in(?=\s)", "", tail)
             tail = re.sub(r"(?<![\w'.-])" + re.escape(o) + r"(?=\.[01])", "c.requires", tail)
+        tail = re.sub(r"(?<![\w'.-])c\.([\w'-]+)\.new\.(\d)", by_param, tail)
         tail = re.sub(r"(?<![\w'.-])c\.()(requires)((?:\.[01])+)", by_clause, tail)
         tail = re.sub(r"(?<![\w'.-])c\.([\w'-]+)\.(ensures)((?:\.[01])+)", by_clause, tail)
+        if new.startswith("returns"):
+            tail = as_record(named.get(whole, {}).get("ensures", []), tail)
+        elif m2 := re.match(r"(.+)-requires(-.+)?$", new):
+            full = callee.get(m2.group(1) + (m2.group(2) or "")) or next((f for st, f in callee.items() if st.startswith(m2.group(1))), "")
+            tail = as_record(named.get(full, {}).get("requires", []), tail)
         answers += comment + [f"pub {new} : goal.{new}"] + ([unfolding] if unfolding else []) + [f"{new} c ={tail}", ""]
     module = name.replace("::", ".")
     uses = [l for l in head if l.startswith("use ") and ".Tie as tie" not in l and ".Statement.{statement}" not in l]

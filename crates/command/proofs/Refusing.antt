@@ -7,8 +7,6 @@ use mathlib.Core.Option.{Option, none, some}
 use Prim.Native.Nat.{ℕ, ◌+◌, ◌*◌, ◌≤◌, ◌<◌}
 use native.Mathlib.Omega.{arith}
 use borrow.Author.Tests.{eq-eqb, ne_eqb, lt-ltb, le-ltb}
-use denote.Enum.Declared.{tag_of}
-use types.Run.{OneOf, miss}
 use lib.Dec.{ltb, eqb}
 use lib.ListN.{length}
 use Rattle.srp.specs.Limits.{shortest_command}
@@ -24,7 +22,6 @@ use Rattle.srp.specs.declared.Message.{Message}
 use Rattle.srp.specs.declared.Message.TheVariants.{Bad, Cmd}
 use Rattle.srp.specs.declared.Refusal.{Refusal}
 use Rattle.srp.specs.declared.Refusal.TheVariants.{Setting, Length, OtherType, OutFormat, InFormat, OutCount, InCount}
-use Rattle.srp.specs.contracts.Message.{the_type}
 use Rattle.command.specs.Reading.{with_total_lem, LiesIn, FitsIn, Fits, shape_of, shaped_by, FitsShape, FitsShaped}
 use Rattle.command.specs.declared.shape.Shape.{Shape}
 use Rattle.command.specs.declared.shape.Shaped.{Shaped}
@@ -177,14 +174,10 @@ pub when_bad : {A : Type 0} (o : Option Refusal) (m : Command) (x : A) (f : Refu
 when_bad none m x f e = let z : ◌≡◌ {A = ℕ} 0 1 = cc in let q : ⊥ = omega arith in absurd q
 when_bad (some r) m x f e = ap f (cc)
 
--- the messages other than a command, by their place in the enum
-abbrev pub others : List ℕ
-others = 0 ∷ 2 ∷ 3 ∷ 4 ∷ []
-
 -- no command was read, so a check hit
-pub when_other : {A : Type 0} (o : Option Refusal) (m : Command) (x y : A) {r : Message} → r ≡ unless_bad o (Cmd m) → OneOf others (tag_of the_type r)
+pub when_other : {A : Type 0} (o : Option Refusal) (m : Command) (x y : A) {r : Message} → r ≡ unless_bad o (Cmd m) → ((z : Command) → r ≡ Cmd z → ⊥)
     → y ≡ elim o [ none ↦ x | some f ↦ y ]
-when_other none m x y e k = absurd (miss others 1 tt (subst (λ (z : Message). OneOf others (tag_of the_type z)) e k))
+when_other none m x y e k = absurd (k m e)
 when_other (some f) m x y e k = refl
 
 pub when_read : {A : Type 0} (o : Option Refusal) (m : Command) (x : A) (f : Refusal → A) {c : Command} → unless_bad o (Cmd m) ≡ Cmd c

@@ -36,7 +36,7 @@ fn place(buf: &mut [u8], at: usize, src: &[u8])
     requires { at + length src.now ≤ length buf.old }
 {
     let end = at + src.len();
-    bytes::copy(src, &mut buf[at..end]);
+    buf[at..end].copy_from_slice(src);
 }
 
 // An SRP_LOGIN_REQ of 64 bytes.

@@ -95,6 +95,5 @@ module _ (a b x : List ℕ) (n : ℕ) (l : length a ≡ n) (first : x ≡ placed
   byte_behind v h = ap (λ (w : List ℕ). take n x ++ (w ++ drop (n + 4) x)) (low_byte v h) ∙ behind (0 ∷ 0 ∷ 0 ∷ v ∷ [])
 
   -- bytes copied into the part of the buffer that is as long as they are
-  pub copied_behind : (w : List ℕ) (k : ℕ) → k ≡ length w → (y : List ℕ) → y ≡ take (length w) w ++ drop (length w) (take k (drop n x))
-      → put_mid n k x y ≡ placed ((a ++ w) ∷ []) b
+  pub copied_behind : (w : List ℕ) (k : ℕ) → k ≡ length w → (y : List ℕ) → y ≡ w → put_mid n k x y ≡ placed ((a ++ w) ∷ []) b
   copied_behind w k e y q = part_copied x n w k e y q ∙ rw (append_assoc, take-length w) (behind w)

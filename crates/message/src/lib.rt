@@ -153,7 +153,7 @@ pub fn put_response(buf: &mut [u8], h: Header, sense: &[u8])
 {
     put_header(&mut *buf, h, 0, sense.len() as u32);
     let end = RSP_SIZE + sense.len();
-    bytes::copy(sense, &mut buf[RSP_SIZE..end]);
+    buf[RSP_SIZE..end].copy_from_slice(sense);
 }
 
 // An SRP_CRED_REQ or an SRP_T_LOGOUT.

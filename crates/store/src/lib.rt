@@ -69,7 +69,7 @@ fn put_bytes(to: &mut [u8], at: usize, from: &[u8])
     ensures { to.new ≡ paste to.old at from.now (length from.now) }
 {
     let end = at + from.len();
-    bytes::copy(from, &mut to[at..end]);
+    to[at..end].copy_from_slice(from);
 }
 
 // A direction with so many segments, of which nothing was planned, named or handed out.

@@ -38,7 +38,7 @@ fn carry(store: &mut [u8], from: usize, to: usize)
     let at = from * PLACE;
     let end = at + PLACE;
     let mut kept = [0u8; PLACE];
-    bytes::copy(&store[at..end], &mut kept);
+    kept.copy_from_slice(&store[at..end]);
     crate::put_bytes(store, to * PLACE, &kept);
 }
 

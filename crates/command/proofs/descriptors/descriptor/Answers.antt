@@ -1,0 +1,18 @@
+-- `command::descriptors::descriptor` meets its contract.
+use native.Mathlib.Omega.{arith}
+use borrow.Author.Tests.{eq-eqb, ne_eqb}
+use Rattle.command.proofs.Formats.{indirect}
+use borrow.Author.Rules.{rules}
+use Rattle.command.proofs.descriptors.descriptor.Goals as goal
+
+pub read32-requires : goal.read32-requires
+read32-requires c =
+    omega (arith, indirect c.args.at c.args.count c.if-format-eq-INDIRECT.true c.requires)
+
+pub returns-then-format-eq-INDIRECT : goal.returns-then-format-eq-INDIRECT
+returns-then-format-eq-INDIRECT c =
+    rw (c.read32.ensures, eq-eqb _ _ c.if-format-eq-INDIRECT.true)
+
+pub returns : goal.returns
+returns c =
+    rw (ne_eqb _ _ c.if-format-eq-INDIRECT.false)
