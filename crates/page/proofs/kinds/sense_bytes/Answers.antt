@@ -1,0 +1,14 @@
+-- `page::kinds::sense_bytes` meets its contract: by SNSVALID.
+use mathlib.Core.Path.{refl}
+use native.Mathlib.Omega.{arith}
+use borrow.Author.Tests.{eq-eqb, ne_eqb}
+use borrow.Author.Rules.{rules}
+use Rattle.page.proofs.kinds.sense_bytes.Goals as goal
+
+pub returns-then-read_bits-eq1 : goal.returns-then-read_bits-eq1
+returns-then-read_bits-eq1 c =
+    (rw (← c.read_bits.ensures, eq-eqb c.read_bits.result 1 c.if-read_bits-eq1.true) c.read32.ensures, omega arith)
+
+pub returns : goal.returns
+returns c =
+    rw (← c.read_bits.ensures, ne_eqb c.read_bits.result 1 c.if-read_bits-eq1.false) (refl, omega arith)

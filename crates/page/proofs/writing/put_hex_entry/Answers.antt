@@ -1,0 +1,13 @@
+-- `page::writing::put_hex_entry` meets its contract: nothing, or the digits.
+use Rattle.text.proofs.Texts.{whole}
+use Rattle.page.proofs.Lines.{over_nothing}
+use borrow.Author.Rules.{rules}
+use Rattle.page.proofs.writing.put_hex_entry.Goals as goal
+
+pub returns-in-Blank : goal.returns-in-Blank
+returns-in-Blank c =
+    rw c.in-Blank.is (over_nothing c.args.at c.args.buf.now)
+
+pub returns-in-Number : goal.returns-in-Number
+returns-in-Number c =
+    rw c.in-Number.is (whole c.put_hex.ensures)

@@ -1,0 +1,33 @@
+-- `state::find` meets its contract.
+use Prim.Native.Nat.{◌-◌}
+use native.Mathlib.Omega.{arith}
+use borrow.Author.Rules.{rules}
+use Rattle.state.proofs.Held.{Searching, search_start, search_more, search_here, search_end}
+use Rattle.state.proofs.find.Goals as goal
+
+pub loop-i-init : goal.loop-i-init
+loop-i-init c = search_start _ _ _ c.get_head-h.ensures.held
+
+pub overflow_mul-i : goal.overflow_mul-i
+overflow_mul-i c = omega (arith, c.loop-i.invariant.small)
+
+pub overflow_add-i : goal.overflow_add-i
+overflow_add-i c = omega (arith, c.loop-i.invariant.small)
+
+pub offset_bounds-s-i : goal.offset_bounds-s-i
+offset_bounds-s-i c = omega (arith, c.loop-i.invariant.small)
+
+pub bounds-s-i : goal.bounds-s-i
+bounds-s-i c = omega (arith, c.loop-i.invariant.small, c.requires)
+
+pub returns-then-s-i : goal.returns-then-s-i
+returns-then-s-i c =
+    search_here c.args.s.now c.args.tag _ c.loop-i.i c.loop-i.invariant c.loop-i-test.true c.if-s-i.true
+
+pub loop-i-preserved : goal.loop-i-preserved
+loop-i-preserved c =
+    search_more c.args.s.now c.args.tag _ c.loop-i.i c.loop-i.invariant c.loop-i-test.true c.if-s-i.false
+
+pub returns : goal.returns
+returns c =
+    search_end c.args.s.now c.args.tag _ c.loop-i.i c.loop-i.invariant c.loop-i-test.false

@@ -1,0 +1,40 @@
+use mathlib.Core.Path.{refl, sym, ◌∙◌}
+use mathlib.Core.Logic.{⊎_elim}
+use Prim.Native.Nat.{◌-◌}
+use native.Mathlib.Omega.{arith}
+use borrow.Author.Rules.{rules}
+use Rattle.store.specs.Places.{trues}
+use Rattle.store.proofs.Marks.{Marking, mark_more, mark_skip, mark_end}
+use Rattle.store.proofs.places.Reads as reads
+use Rattle.store.proofs.places.Lts as lts
+use Rattle.words.proofs.commands.load_place.Reads as load-place-reads
+use Rattle.words.proofs.get_head.Reads as get-head-reads
+use Rattle.store.proofs.places.Goals as goal
+
+-- src/lib.rt:38:5
+pub loop-i-init : goal.loop-i-init
+unfolding trues
+loop-i-init c =
+    record {
+      count = c.get_head-h.ensures.held;
+      in_count = omega arith;
+      long = refl;
+      few = omega arith;
+      fewer = λ q. let z : ⊥ = omega arith in absurd z;
+      marks = λ j h. let z : ⊥ = omega arith in absurd z;
+    }
+
+-- src/lib.rt:38:5
+pub loop-i-preserved : goal.loop-i-preserved
+loop-i-preserved c =
+    let K = c.loop-i.invariant in
+    let on = c.loop-i-test.true in
+    ⊎_elim
+    (λ w. rw w.2 (mark_more _ _ _ _ _ K on w.0.taken w.1.result w.1.ensures.0 w.1.ensures.1))
+    (λ w. rw w.1 (mark_skip _ _ _ _ _ K on w.0.left))
+    c.if-i-but.branch
+
+-- src/lib.rt:30:1
+pub returns : goal.returns
+returns c =
+    mark_end _ _ _ _ _ c.loop-i.invariant c.loop-i-test.false

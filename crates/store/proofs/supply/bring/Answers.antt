@@ -1,0 +1,34 @@
+use mathlib.Core.Path.{sym, ◌∙◌, ap}
+use native.Mathlib.Omega.{arith}
+use Rattle.words.specs.declared.Slot.{Slot}
+use Rattle.words.specs.Slots.{not_waiting_lem}
+use Rattle.store.specs.Places.{new_slot}
+use Rattle.store.proofs.Supplying.{ready_fits, brought}
+use borrow.Author.Rules.{rules}
+use Rattle.store.proofs.supply.bring.Reads as reads
+use Rattle.store.proofs.supply.bring.Lts as lts
+use Rattle.store.proofs.put_bytes.Reads as put-bytes-reads
+use Rattle.store.proofs.supply.carry.Reads as carry-reads
+use Rattle.store.proofs.supply.not_waiting.Reads as not-waiting-reads
+use Rattle.store.proofs.supply.own_place.Reads as own-place-reads
+use Rattle.words.proofs.commands.load_place.Reads as load-place-reads
+use Rattle.words.proofs.commands.load_request.Reads as load-request-reads
+use Rattle.words.proofs.commands.save.Reads as save-reads
+use Rattle.store.proofs.supply.bring.Goals as goal
+
+-- src/supply.rt:92:5
+pub save-requires : goal.save-requires
+save-requires c =
+    let a = c.args in
+    let k = c.own_place-k in
+    record { s_len = c.requires.s_len; i_lt_most_slots = omega arith; slot_fits = rw c.not_waiting-a.ensures (ready_fits c.load_request-r.result k.result a.o a.n a.out.now a.inn.now k.ensures.small c.requires.holding.0 c.requires.holding.1) }
+
+-- src/supply.rt:70:1
+pub returns : goal.returns
+returns c =
+    let a = c.args in
+    let k = c.own_place-k in
+    rw (c.put_bytes-2.ensures, c.put_bytes.ensures)
+    (brought a.s.now a.store.now a.i c.requires.i_bound c.requires.store_len a.o a.n a.out.now a.inn.now c.requires.holding.0 c.requires.holding.1
+    k.result k.ensures c.carry.new.store (rw c.load_place-place.ensures.0 at c.carry.ensures) c.save.new.s
+    (rw (c.not_waiting-a.ensures, c.load_request-r.ensures) at c.save.ensures))

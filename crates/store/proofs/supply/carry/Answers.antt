@@ -1,0 +1,24 @@
+use mathlib.Core.Path.{refl}
+use Prim.Native.Nat.{◌+◌, ◌-◌, ◌*◌}
+use native.Mathlib.Omega.{arith}
+use lib.ListN.{replicate}
+use Rattle.words.specs.Sizes.{place_size}
+use Rattle.store.proofs.Supplying.{carried_same, carried_by}
+use borrow.Author.Rules.{rules}
+use Rattle.store.proofs.supply.carry.Reads as reads
+use Rattle.store.proofs.supply.carry.Lts as lts
+use Rattle.bytes.proofs.copy.Reads as copy-reads
+use Rattle.store.proofs.put_bytes.Reads as put-bytes-reads
+use Rattle.store.proofs.supply.carry.Goals as goal
+
+-- src/supply.rt:42:9
+pub returns-then-from-to : goal.returns-then-from-to
+returns-then-from-to c =
+    rw c.if-from-to.true (carried_same c.args.store.now c.args.to)
+
+-- src/supply.rt:35:1
+pub returns : goal.returns
+returns c =
+    let a = c.args in
+    rw c.put_bytes.ensures
+    (carried_by a.store.now c.requires.store_len a.from a.to c.requires.from_lt_most_slots c.requires.to_lt_most_slots (replicate place_size 0) _ (a.from * place_size + place_size - a.from * place_size) refl (omega arith) c.copy.ensures.1)
