@@ -26,7 +26,7 @@ use Rattle.division.proofs.Counts.{count_same}
 use Rattle.division.proofs.Formula.{by_formula, in_message}
 use Rattle.division.proofs.Rows.{each_agreement}
 use Rattle.demand.specs.Judgement.{Judgement, short_answer, JudgesFormatCounts}
-use Rattle.demand.specs.Posts.{Slice, FormatCountsPost}
+use Rattle.demand.specs.Posts.{MutSlice, FormatCountsPost}
 use Rattle.demand.specs.Formats.{LengthNeverDecides, CountsLooks, FormatsInC}
 use Rattle.demand.proofs.Judging.{number_for, not_zero}
 use Rattle.demand.proofs.Judges.{judges_look, judges_format_counts}
@@ -65,7 +65,7 @@ returns_of f (some r) = refl
 
 -- ── what is counted
 
-unrefused : (w v : Slice) (formats : ℕ) → FormatCountsPost w v formats 0 → (other_formats_lem both_formats formats ≡ false) × (v.now ≡ division_words (division formats))
+unrefused : (w v : MutSlice) (formats : ℕ) → FormatCountsPost w v formats 0 → (other_formats_lem both_formats formats ≡ false) × (v.now ≡ division_words (division formats))
 unrefused w v formats post =
     let J : JudgesFormatCounts formats 0 v.now = judges_format_counts formats 0 v.now post.1 in
     let none_hits = J.unrefused.0 refl in
@@ -148,7 +148,7 @@ module _ (b : ℕ) where
 
 -- ── an agreement, by its answer
 
-agreed : {formats : ℕ} {r : Divided} → divide_def formats ≡ r → (w v : Slice) (n : ℕ) → FormatCountsPost w v formats n → (n ≡ divided_number r) × (v.now ≡ divided_words r)
+agreed : {formats : ℕ} {r : Divided} → divide_def formats ≡ r → (w v : MutSlice) (n : ℕ) → FormatCountsPost w v formats n → (n ≡ divided_number r) × (v.now ≡ divided_words r)
 agreed e w v n post = (post.1.number ∙ ap divided_number e, post.1.words ∙ ap divided_words e)
 
 pub formats_in_c : FormatsInC

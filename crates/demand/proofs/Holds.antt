@@ -35,7 +35,7 @@ use Rattle.exports.specs.Arguments.{record_size, all_words, settings_in, directi
 use Rattle.exports.specs.Calls.{InC, AnswersInC, RepliesInC, CountersInC, ListInC}
 use Rattle.exports.proofs.Listing.{counters_unwritten, list_unwritten}
 use Rattle.srp.proofs.Listing.{listed_all}
-use Rattle.demand.specs.Posts.{Slice}
+use Rattle.demand.specs.Posts.{MutSlice}
 use Rattle.demand.specs.Replies.{performed, stepped, turned}
 use Rattle.demand.specs.Calls.{Memory, seen, LoggedIn, Took, Brought, WithMessage, Finished, Granted, Ended, WithoutMessage, Planned, Named, Stepped, Turned, Added, Withdrew, Untouched, TookFront, Call}
 use Rattle.demand.specs.Holding.{Holds, Reports, Lists, Demand3InC}
@@ -62,8 +62,8 @@ module _ {s : Memory} {r : Reply} {ss : List (List ℕ)} {s' : Memory} where
       ∙ left_as c.gave.reply c.words' c.store' c.gave.wrote
 
   -- with a lent message buffer: o is the call's definition, by the port and the buffer's length
-  module _ (o : Port → ℕ → Outcome) (one : (p : Port) (room : ℕ) → told.Told performed (o p room)) {Post : (p q b d w v : Slice) (n : ℕ) → Type 0}
-      (promises : (p q b d w v : Slice) (n : ℕ) → Post p q b d w v n → (st : List ℕ) → AnswersInC p.now st b.now q.now st d.now n v.now (o (view p.now st) (length b.now))) where
+  module _ (o : Port → ℕ → Outcome) (one : (p : Port) (room : ℕ) → told.Told performed (o p room)) {Post : (p q b d w v : MutSlice) (n : ℕ) → Type 0}
+      (promises : (p q b d w v : MutSlice) (n : ℕ) → Post p q b d w v n → (st : List ℕ) → AnswersInC p.now st b.now q.now st d.now n v.now (o (view p.now st) (length b.now))) where
     answered : (room : ℕ) → WithMessage s room Post r ss s' → o (seen s) room ≡ record { reply = r; port = seen s'; wrote = ss }
     answered room c =
         rw (← c.words, ← c.gave.room_is, ← c.gave.reply, ← c.gave.wrote, ← c.words', ← c.store')
@@ -81,8 +81,8 @@ module _ {s : Memory} {r : Reply} {ss : List (List ℕ)} {s' : Memory} where
   ended room reason c = answered (λ p n. close_def p n reason) (λ p n. told.close_told p n reason) (λ p q b d w v n post. post.1) room c
 
   -- without one
-  module _ (o : Port → Outcome) (one : (p : Port) → told.Silent (o p)) {Post : (p q : Slice) (n : ℕ) → Type 0}
-      (promises : (p q : Slice) (n : ℕ) → Post p q n → (st : List ℕ) → RepliesInC p.now st q.now n (o (view p.now st))) where
+  module _ (o : Port → Outcome) (one : (p : Port) → told.Silent (o p)) {Post : (p q : MutSlice) (n : ℕ) → Type 0}
+      (promises : (p q : MutSlice) (n : ℕ) → Post p q n → (st : List ℕ) → RepliesInC p.now st q.now n (o (view p.now st))) where
     silently : WithoutMessage s Post r ss s' → o (seen s) ≡ record { reply = r; port = seen s'; wrote = ss }
     silently c =
         rw (← c.words, ← c.reply, ← c.wrote, ← c.words', ← c.store')

@@ -12,7 +12,7 @@ use Rattle.machine.specs.Events.{Event, sends, delivers, takes, brings, plans, n
 use Rattle.words.specs.View.{view}
 use Rattle.tables.specs.Bringing.{tables}
 use Rattle.exports.specs.Arguments.{direction_in}
-use Rattle.demand.specs.Posts.{Slice, LoginPost, TakePost, TablesPost, PlanPost, MovePost, StepPost, TurnPost, FinishPost, AddPost, WithdrawPost, GrantPost, ClosePost}
+use Rattle.demand.specs.Posts.{Slice, MutSlice, LoginPost, TakePost, TablesPost, PlanPost, MovePost, StepPost, TurnPost, FinishPost, AddPost, WithdrawPost, GrantPost, ClosePost}
 use Rattle.demand.specs.Replies.{reply_by, performed, taken, stepped, turned, logged_in, message_in}
 
 -- what the owner keeps of a port: its words and its store
@@ -33,15 +33,15 @@ pub record Gave (said : List ℕ → Reply) (room : ℕ) (b d v : List ℕ) (n :
 -- ── login, with the five settings as numbers, and Q; p are the words that it left, r its reply, ss what it wrote
 
 pub record LoggedIn (settings : List ℕ) (Q : ℕ) (own msg : List ℕ) (room : ℕ) (r : Reply) (ss : List (List ℕ)) (p : List ℕ) : Type 0 where
-  pub before : Slice
-  pub after : Slice
+  pub before : MutSlice
+  pub after : MutSlice
   pub c : Slice
   pub id : Slice
   pub m : Slice
-  pub b : Slice
-  pub d : Slice
-  pub w : Slice
-  pub v : Slice
+  pub b : MutSlice
+  pub d : MutSlice
+  pub w : MutSlice
+  pub v : MutSlice
   pub n : ℕ
   pub settings_are : c.now ≡ settings
   pub own_is : id.now ≡ own
@@ -53,15 +53,15 @@ pub record LoggedIn (settings : List ℕ) (Q : ℕ) (own msg : List ℕ) (room :
 -- ── the calls with a lent message buffer
 
 pub record Took (s : Memory) (room : ℕ) (msg : List ℕ) (r : Reply) (ss : List (List ℕ)) (s' : Memory) : Type 0 where
-  pub p : Slice
-  pub q : Slice
-  pub st : Slice
-  pub st' : Slice
+  pub p : MutSlice
+  pub q : MutSlice
+  pub st : MutSlice
+  pub st' : MutSlice
   pub m : Slice
-  pub b : Slice
-  pub d : Slice
-  pub w : Slice
-  pub v : Slice
+  pub b : MutSlice
+  pub d : MutSlice
+  pub w : MutSlice
+  pub v : MutSlice
   pub n : ℕ
   pub words : p.now ≡ s.words
   pub store : st.now ≡ s.store
@@ -73,16 +73,16 @@ pub record Took (s : Memory) (room : ℕ) (msg : List ℕ) (r : Reply) (ss : Lis
 
 -- the tables t for the command with the tag
 pub record Brought (s : Memory) (room tag : ℕ) (t : Tables) (r : Reply) (ss : List (List ℕ)) (s' : Memory) : Type 0 where
-  pub p : Slice
-  pub q : Slice
-  pub st : Slice
-  pub st' : Slice
+  pub p : MutSlice
+  pub q : MutSlice
+  pub st : MutSlice
+  pub st' : MutSlice
   pub out : Slice
   pub inn : Slice
-  pub b : Slice
-  pub d : Slice
-  pub w : Slice
-  pub v : Slice
+  pub b : MutSlice
+  pub d : MutSlice
+  pub w : MutSlice
+  pub v : MutSlice
   pub n : ℕ
   pub words : p.now ≡ s.words
   pub store : st.now ≡ s.store
@@ -93,13 +93,13 @@ pub record Brought (s : Memory) (room tag : ℕ) (t : Tables) (r : Reply) (ss : 
   pub store' : st'.now ≡ s'.store
 
 -- finish, grant, close: Post is the function's contract
-pub record WithMessage (s : Memory) (room : ℕ) (Post : (p q b d w v : Slice) (n : ℕ) → Type 0) (r : Reply) (ss : List (List ℕ)) (s' : Memory) : Type 0 where
-  pub p : Slice
-  pub q : Slice
-  pub b : Slice
-  pub d : Slice
-  pub w : Slice
-  pub v : Slice
+pub record WithMessage (s : Memory) (room : ℕ) (Post : (p q b d w v : MutSlice) (n : ℕ) → Type 0) (r : Reply) (ss : List (List ℕ)) (s' : Memory) : Type 0 where
+  pub p : MutSlice
+  pub q : MutSlice
+  pub b : MutSlice
+  pub d : MutSlice
+  pub w : MutSlice
+  pub v : MutSlice
   pub n : ℕ
   pub words : p.now ≡ s.words
   pub post : Post p q b d w v n
@@ -119,9 +119,9 @@ Ended s room reason = WithMessage s room λ p q b d w v n. ClosePost p q b d w v
 -- ── the calls without one
 
 -- plan, move, add, withdraw: there are no words either
-pub record WithoutMessage (s : Memory) (Post : (p q : Slice) (n : ℕ) → Type 0) (r : Reply) (ss : List (List ℕ)) (s' : Memory) : Type 0 where
-  pub p : Slice
-  pub q : Slice
+pub record WithoutMessage (s : Memory) (Post : (p q : MutSlice) (n : ℕ) → Type 0) (r : Reply) (ss : List (List ℕ)) (s' : Memory) : Type 0 where
+  pub p : MutSlice
+  pub q : MutSlice
   pub n : ℕ
   pub words : p.now ≡ s.words
   pub post : Post p q n
@@ -144,11 +144,11 @@ abbrev pub Withdrew : Memory → (k : ℕ) → Reply → List (List ℕ) → Mem
 Withdrew s k = WithoutMessage s λ p q n. WithdrawPost p q k n
 
 pub record Stepped (s : Memory) (tag : ℕ) (direction : Direction) (r : Reply) (ss : List (List ℕ)) (s' : Memory) : Type 0 where
-  pub p : Slice
-  pub q : Slice
+  pub p : MutSlice
+  pub q : MutSlice
   pub st : Slice
-  pub w : Slice
-  pub v : Slice
+  pub w : MutSlice
+  pub v : MutSlice
   pub k : ℕ
   pub n : ℕ
   pub words : p.now ≡ s.words
@@ -161,11 +161,11 @@ pub record Stepped (s : Memory) (tag : ℕ) (direction : Direction) (r : Reply) 
   pub store' : s.store ≡ s'.store
 
 pub record Turned (s : Memory) (r : Reply) (ss : List (List ℕ)) (s' : Memory) : Type 0 where
-  pub p : Slice
-  pub q : Slice
+  pub p : MutSlice
+  pub q : MutSlice
   pub st : Slice
-  pub w : Slice
-  pub v : Slice
+  pub w : MutSlice
+  pub v : MutSlice
   pub n : ℕ
   pub words : p.now ≡ s.words
   pub store : st.now ≡ s.store

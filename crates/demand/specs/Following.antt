@@ -29,7 +29,7 @@ use Rattle.page.specs.Page.{trace_line, line_length, OneLine}
 use Rattle.page.specs.Written.{PrintsWritten}
 use Rattle.page.specs.declared.Way.{Way}
 use Rattle.exports.specs.Arguments.{settings_in, way_in}
-use Rattle.demand.specs.Posts.{Slice, LookPost, TracePost}
+use Rattle.demand.specs.Posts.{Slice, MutSlice, LookPost, TracePost}
 use Rattle.demand.specs.Judgement.{read_on}
 use Rattle.demand.specs.Calls.{Memory, seen, LoggedIn, Took, Brought, Finished, Granted, Ended, Planned, Named, Stepped, Turned, Added, Withdrew}
 
@@ -167,6 +167,6 @@ pub record Demand2InC : Type 0 where
   pub calls : (s s' : Memory) (c : PortCall) (r : Reply) (ss : List (List ℕ)) → Led s → (calling_of c).typed → (calling_of c).made s r ss s' → ByLayouts s c r ss s'
   pub login : (settings : List ℕ) (Q : ℕ) (own msg : List ℕ) (room : ℕ) (r : Reply) (ss : List (List ℕ)) (p store : List ℕ) → Bytes msg → LoggedIn settings Q own msg room r ss p
       → LoginByLayouts settings Q own msg room (record { reply = r; port = view p store; wrote = ss })
-  pub look : (m b d : Slice) (agreed formats n : ℕ) → LookPost m b d agreed formats n → LookByLayouts agreed formats m.now b.now d.now n
-  pub trace : (m b d : Slice) (direction n : ℕ) → TracePost m b d direction n → line_length ≤ length b.now
+  pub look : (m : Slice) (b d : MutSlice) (agreed formats n : ℕ) → LookPost m b d agreed formats n → LookByLayouts agreed formats m.now b.now d.now n
+  pub trace : (m : Slice) (b d : MutSlice) (direction n : ℕ) → TracePost m b d direction n → line_length ≤ length b.now
       → TraceByLayouts (way_in direction) m.now b.now d.now n

@@ -10,7 +10,7 @@ use Rattle.srp.specs.Requests.{size_checks, bad_length}
 use Rattle.srp.specs.declared.Refusal.TheVariants.{OutFormat, InFormat}
 use Rattle.division.specs.Dividing.{values, count, divided_number, division_words, divided_words, allowed, formula}
 use Rattle.division.specs.Rows.{agreements}
-use Rattle.demand.specs.Posts.{Slice, LookPost, FormatCountsPost}
+use Rattle.demand.specs.Posts.{Slice, MutSlice, LookPost, FormatCountsPost}
 
 -- "a message whose length never decides": an SRP_CMD with the value b as its byte 5, no longer than agreed, that draws neither 3 for its exact length nor 7 or 8
 pub record LengthNeverDecides (agreed b : ℕ) (s : List ℕ) : Type 0 where
@@ -22,8 +22,8 @@ pub record LengthNeverDecides (agreed b : ℕ) (s : List ℕ) : Type 0 where
 -- such a message was put to look, with room for its answer: n is returned
 pub record LookedAt (agreed formats b n : ℕ) : Type 0 where
   pub m : Slice
-  pub before : Slice
-  pub after : Slice
+  pub before : MutSlice
+  pub after : MutSlice
   pub message : LengthNeverDecides agreed b m.now
   pub room : answer_size ≤ length before.now
   pub post : LookPost m before after agreed formats n
@@ -31,7 +31,7 @@ pub record LookedAt (agreed formats b n : ℕ) : Type 0 where
 -- a message for each value was put to look, which returned `returns b` for the value b: the words are how often 0, 5 and 6 were returned
 abbrev pub CountsLooks : Type 0
 CountsLooks = (agreed formats : ℕ) (returns : ℕ → ℕ) → bad_length agreed ≡ false → ((b : ℕ) → b < values → LookedAt agreed formats b (returns b))
-    → (w v : Slice) → FormatCountsPost w v formats 0
+    → (w v : MutSlice) → FormatCountsPost w v formats 0
     → v.now
     ≡ count (λ b. eqb (returns b) 0) values
     ∷ count (λ b. eqb (returns b) (number_of OutFormat)) values
@@ -43,6 +43,6 @@ pub record FormatsInC : Type 0 where
   -- for each value there is such a message
   pub messages : (b : ℕ) → b < values → (s : List ℕ) × Bytes s × LengthNeverDecides longest_agreed b s
   -- "9, 208, 39 with both agreed, 4, 224, 28 with one, 1, 240, 15 with none": n is returned
-  pub numbers : All (λ a. (w v : Slice) (n : ℕ) → FormatCountsPost w v a.formats n → (n ≡ divided_number a.answer) × (v.now ≡ divided_words a.answer)) agreements
+  pub numbers : All (λ a. (w v : MutSlice) (n : ℕ) → FormatCountsPost w v a.formats n → (n ≡ divided_number a.answer) × (v.now ≡ divided_words a.answer)) agreements
   -- "With f formats allowed .., f times f pass, 16 times (16 - f) draw 5, and f times (16 - f) draw 6"
-  pub by_formula : (w v : Slice) (formats : ℕ) → FormatCountsPost w v formats 0 → v.now ≡ division_words (formula (allowed formats))
+  pub by_formula : (w v : MutSlice) (formats : ℕ) → FormatCountsPost w v formats 0 → v.now ≡ division_words (formula (allowed formats))

@@ -10,7 +10,7 @@ use Rattle.machine.specs.Events.{Event}
 use Rattle.machine.specs.Demand.{counted, Now, Run, Fair, Demand}
 use Rattle.answer.specs.Words.{answer_words}
 use Rattle.exports.specs.Arguments.{record_size, all_words, settings_in}
-use Rattle.demand.specs.Posts.{Slice, CountersPost, ListPost}
+use Rattle.demand.specs.Posts.{Slice, MutSlice, CountersPost, ListPost}
 use Rattle.demand.specs.Calls.{Memory, seen, LoggedIn, Call}
 
 -- what is claimed of every run: the login with these settings, Q and this message was accepted and left the words p, and each call is made on the words and
@@ -42,6 +42,6 @@ Lists m before after n w =
 
 pub record Demand3InC : Type 0 where
   pub holds : (settings : List ℕ) (Q : ℕ) (own msg : List ℕ) (room : ℕ) (ss : List (List ℕ)) (p store : List ℕ) → Holds settings Q own msg room ss p store
-  pub reports : (L : Login) (m : Machine) (s : Memory) → Now L m (seen s) → (p w v : Slice) (n : ℕ) → p.now ≡ s.words → CountersPost p w v n → Reports L m s n v.now
-  pub lists : (L : Login) (m : Machine) (s : Memory) → Now L m (seen s) → (p before after w v : Slice) (n : ℕ) → p.now ≡ s.words → ListPost p before after w v n
+  pub reports : (L : Login) (m : Machine) (s : Memory) → Now L m (seen s) → (p : Slice) (w v : MutSlice) (n : ℕ) → p.now ≡ s.words → CountersPost p w v n → Reports L m s n v.now
+  pub lists : (L : Login) (m : Machine) (s : Memory) → Now L m (seen s) → (p : Slice) (before after w v : MutSlice) (n : ℕ) → p.now ≡ s.words → ListPost p before after w v n
       → Lists m before.now after.now n v.now

@@ -13,7 +13,7 @@ use Rattle.srp.specs.declared.Direction.{Direction}
 use Rattle.srp.specs.declared.Piece.{Piece}
 use Rattle.srp.specs.declared.Place.{Place}
 use Rattle.machine.specs.Demand.{Attended}
-use Rattle.demand.specs.Posts.{Slice, TurnPost}
+use Rattle.demand.specs.Posts.{Slice, MutSlice, TurnPost}
 use Rattle.demand.specs.Calls.{Memory, seen, Call}
 use Rattle.demand.specs.Following.{Led}
 use Rattle.demand.specs.Holding.{OfRuns}
@@ -64,4 +64,4 @@ pub record TurnSays (p : Port) (n : ℕ) (w : List ℕ) : Type 0 where
 pub record TurnsInC : Type 0 where
   pub served : (settings : List ℕ) (Q : ℕ) (own msg : List ℕ) (room : ℕ) (ss : List (List ℕ)) (p store : List ℕ) → ServedInTime settings Q own msg room ss p store
   pub line : (s : Memory) → Led s → InLine (seen s)
-  pub says : (s : Memory) → Led s → (p q st w v : Slice) (n : ℕ) → p.now ≡ s.words → st.now ≡ s.store → TurnPost p q st w v n → TurnSays (seen s) n v.now
+  pub says : (s : Memory) → Led s → (p q : MutSlice) (st : Slice) (w v : MutSlice) (n : ℕ) → p.now ≡ s.words → st.now ≡ s.store → TurnPost p q st w v n → TurnSays (seen s) n v.now
