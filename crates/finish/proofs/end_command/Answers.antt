@@ -28,7 +28,7 @@ drop_commands-requires c =
 
 pub put_response-requires : goal.put_response-requires
 put_response-requires c =
-    record { sense_in_bounds = omega (arith, c.requires.1.1.1); sense_len_bound = c.requires.sense_len_bound }
+    record { sense_in_bounds = omega (arith, c.requires.sense_len_bound, c.requires.buffer_size_in_bounds); sense_len_bound = c.requires.sense_len_bound }
 
 pub overflow_add-result : goal.overflow_add-result
 overflow_add-result c =

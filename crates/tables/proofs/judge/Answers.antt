@@ -123,17 +123,15 @@ overflow_cast-in_total c =
 pub bring-requires : goal.bring-requires
 bring-requires c =
     let ho : length c.args.out.now ≤ list_size = omega (arith, c.if-out-fetched_length.false ∙ c.fetched_length.ensures, fetched_short c.load-c.result.awaits.out) in
-    let hi : length c.args.inn.now ≤ list_size = omega (arith, c.if-inn-fetched_length.false ∙ c.fetched_length-2.ensures, fetched_short c.load-c.result.awaits.inn) in (
-      c.requires.s_len,
-      (
-        c.requires.store_len,
-        (
-          c.requires.found_at.inside,
-          rw (c.new_part-out_part.ensures, c.new_part-in_part.ensures)
-              (record { short = ho; few = c.segment_count.ensures.1; counted = omega arith }, record { short = hi; few = c.segment_count-2.ensures.1; counted = omega arith }),
-        ),
-      ),
-    )
+    let hi : length c.args.inn.now ≤ list_size = omega (arith, c.if-inn-fetched_length.false ∙ c.fetched_length-2.ensures, fetched_short c.load-c.result.awaits.inn) in
+    record {
+      s_len = c.requires.s_len;
+      store_len = c.requires.store_len;
+      i_bound = c.requires.found_at.inside;
+      holding =
+        rw (c.new_part-out_part.ensures, c.new_part-in_part.ensures)
+        (record { short = ho; few = c.segment_count.ensures.1; counted = omega arith }, record { short = hi; few = c.segment_count-2.ensures.1; counted = omega arith });
+    }
 
 -- src/lib.rt:75:1
 pub returns : goal.returns
