@@ -1,13 +1,11 @@
 -- What a command comes to, check by check, and what is then known of its buffers.
 -- Assumes nothing.
-use mathlib.Core.Path.{◌≡◌, refl, sym, ap, subst, ◌∙◌}
+use mathlib.Core.Path.{◌≡◌, refl, sym, ap, ◌∙◌}
 use mathlib.Core.Bool.{Bool, true, false, cond, not, ◌&&◌}
-use mathlib.Core.List.{List, [], ◌∷◌}
+use mathlib.Core.List.{List, []}
 use mathlib.Core.Option.{Option, none, some}
 use Prim.Native.Nat.{ℕ}
 use native.Mathlib.Omega.{arith}
-use denote.Enum.Declared.{tag_of}
-use types.Run.{OneOf, miss}
 use Rattle.srp.specs.Descriptors.{standing, Given, giving, given, segments, sum_of, reachable, good_format, good_fields}
 use Rattle.srp.specs.Requests.{unless_bad}
 use Rattle.srp.specs.Take.{waits}
@@ -17,7 +15,6 @@ use Rattle.srp.specs.declared.Command.{Command}
 use Rattle.srp.specs.declared.Descriptor.{Descriptor}
 use Rattle.srp.specs.declared.Message.{Message}
 use Rattle.srp.specs.declared.Message.TheVariants.{Bad, Cmd}
-use Rattle.srp.specs.contracts.Message.{the_type}
 use Rattle.srp.proofs.FieldLaws.{both}
 use Rattle.cut.specs.declared.Total.{Total}
 use Rattle.cut.specs.declared.Total.TheVariants.{Sum, Wrong}
@@ -43,12 +40,9 @@ taken none c s {d} e = let z : d ≡ c = cc in ap (λ (x : Command). operations_
 taken (some q) c s {d} e = let z : ◌≡◌ {A = ℕ} 0 1 = cc in absurd (omega arith)
 
 -- look reads no message of the other types
-abbrev others : List ℕ
-others = 2 ∷ 3 ∷ 4 ∷ []
-
-pub no_other : (v : Option Refusal) (c : Command) {m : Message} → m ≡ unless_bad v (Cmd c) → OneOf others (tag_of the_type m) → ⊥
-no_other none c e k = miss others 1 tt (subst (λ (x : Message). OneOf others (tag_of the_type x)) e k)
-no_other (some r) c e k = miss others 0 tt (subst (λ (x : Message). OneOf others (tag_of the_type x)) e k)
+pub no_other : (v : Option Refusal) (c : Command) {m : Message} → m ≡ unless_bad v (Cmd c) → ((z : Command) → m ≡ Cmd z → ⊥) → ((z : Refusal) → m ≡ Bad z → ⊥) → ⊥
+no_other none c e cmd bad = cmd c e
+no_other (some r) c e cmd bad = bad r e
 
 -- ── a command
 

@@ -4,14 +4,14 @@
 
 mod lines;
 
-use libc::STDOUT_FILENO;
 use lines::LINE;
+use std::io;
 
 // the head and four agreements
 const TABLE: usize = 5 * LINE;
 
-fn main() {
+fn main(rt: HostRuntime) -> io::Result<()> {
     let mut text = [0u8; TABLE];
     let n = lines::put_table(&mut text);
-    io::write_all(STDOUT_FILENO, &text[..n]);
+    rt.write_all(&text[..n])
 }

@@ -5,7 +5,9 @@
 
 mod row;
 
-use libc::{STDIN_FILENO, STDOUT_FILENO};
+ghost use Rattle.std.specs.Prelude.{◌≤◌, length, IfOk};
+
+use std::io::{self, Read};
 
 const INPUT: usize = 262144;
 
@@ -17,13 +19,28 @@ pub struct Counts {
     pub segments: usize,
 }
 
-fn main() {
+fn main(rt: HostRuntime) -> io::Result<()> {
     let mut input = [0u8; INPUT];
-    let n = io::read_full(STDIN_FILENO, &mut input);
-    run(&input[..n]);
+    let n = read_full(&mut rt.stdin(), &mut input)?;
+    run(&rt, &input[..n])
 }
 
-fn run(s: &[u8]) {
+// Reads until the buffer is full or the input ends.
+fn read_full<R: Read>(input: &mut R, buf: &mut [u8]) -> io::Result<usize>
+    ensures { IfOk result (λ n. n ≤ length buf.new) }
+{
+    let mut n: usize = 0;
+    while n < buf.len() {
+        let got = input.read(&mut buf[n..])?;
+        if got == 0 {
+            break;
+        }
+        n += got;
+    }
+    Ok(n)
+}
+
+fn run(rt: &impl Print, s: &[u8]) -> io::Result<()> {
     let mut right = Counts {
         look: 0,
         cut: 0,
@@ -34,26 +51,24 @@ fn run(s: &[u8]) {
     while at < s.len() {
         let rest = &s[at..];
         if rest.len() < row::HEADER {
-            print(b"cut off at byte ", at);
-            return;
+            return print(rt, b"cut off at byte ", at);
         }
         let e = row::ends_of(rest);
         let n = e.fifth;
         if rest.len() < n {
-            print(b"cut off at byte ", at);
-            return;
+            return print(rt, b"cut off at byte ", at);
         }
         if row::right(&rest[0..n], e) {
             right = counted(right, rest[0]);
         } else {
-            print(b"wrong at byte ", at);
+            print(rt, b"wrong at byte ", at)?;
         }
         at = at + n;
     }
-    print(b"look ", right.look);
-    print(b"cut ", right.cut);
-    print(b"cdb ", right.cdb);
-    print(b"segments ", right.segments);
+    print(rt, b"look ", right.look)?;
+    print(rt, b"cut ", right.cut)?;
+    print(rt, b"cdb ", right.cdb)?;
+    print(rt, b"segments ", right.segments)
 }
 
 // One more of its kind; there are fewer rows than bytes.
@@ -86,8 +101,7 @@ fn counted(c: Counts, kind: u8) -> Counts {
     }
 }
 
-fn print(words: &[u8], n: usize) {
-    io::write_all(STDOUT_FILENO, words);
-    io::print_decimal(STDOUT_FILENO, n as u64);
-    io::write_all(STDOUT_FILENO, b"\n");
+fn print(rt: &impl Print, words: &[u8], n: usize) -> io::Result<()> {
+    rt.write_all(words)?;
+    rt.println(n)
 }

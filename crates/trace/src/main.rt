@@ -5,9 +5,12 @@
 mod lines;
 mod reader;
 
-use libc::{STDERR_FILENO, STDIN_FILENO, STDOUT_FILENO};
 use page::MOST_READ;
 use reader::Reader;
+use std::io::{self, Read};
+
+// how many bytes are read at a time
+const PART: usize = 65536;
 
 // A part of the input was read and its lines were printed, if they could be written.
 #[derive(Clone, Copy)]
@@ -16,35 +19,36 @@ struct Printed {
     written: bool,
 }
 
-fn main() {
-    let mut input = io::large_buffer();
+fn main(rt: HostRuntime) -> io::Result<()> {
+    let mut input = [0u8; PART];
     let mut start = [0u8; MOST_READ];
     let mut r = reader::first();
     // more turns than any input has bytes: a proved loop ends
-    let mut turns = u64::MAX;
-    while turns > 0 {
-        let got = libc::read(STDIN_FILENO, &mut input);
-        if got < 0 {
-            io::write_all(STDERR_FILENO, b"trace: cannot read\n");
-            return;
-        }
-        let n = io::count(got, &input);
+    for _ in 0..u64::MAX {
+        let Ok(n) = rt.stdin().read(&mut input) else {
+            return rt.eprint("trace: cannot read\n");
+        };
         if n == 0 {
             break;
         }
-        let printed = print_lines(&input[..n], r, &mut start);
+        let printed = print_lines(&rt, &input[..n], r, &mut start);
         if !printed.written {
-            return;
+            return Ok(());
         }
         r = printed.reader;
-        turns -= 1;
     }
     // the last line may have no line feed
-    print_line(r, &start);
+    print_line(&rt, r, &start);
+    Ok(())
 }
 
 // Prints the lines that end in a part of the input.
-fn print_lines(input: &[u8], before: Reader, start: &mut [u8; MOST_READ]) -> Printed {
+fn print_lines(
+    rt: &(impl Print + Eprint),
+    input: &[u8],
+    before: Reader,
+    start: &mut [u8; MOST_READ],
+) -> Printed {
     let mut r = before;
     let mut at: usize = 0;
     while at < input.len() {
@@ -52,7 +56,7 @@ fn print_lines(input: &[u8], before: Reader, start: &mut [u8; MOST_READ]) -> Pri
         at = part.at;
         r = part.reader;
         if part.ended {
-            if !print_line(r, start) {
+            if !print_line(rt, r, start) {
                 return Printed {
                     reader: r,
                     written: false,
@@ -67,12 +71,12 @@ fn print_lines(input: &[u8], before: Reader, start: &mut [u8; MOST_READ]) -> Pri
     }
 }
 
-fn print_line(r: Reader, start: &[u8; MOST_READ]) -> bool {
+fn print_line(rt: &(impl Print + Eprint), r: Reader, start: &[u8; MOST_READ]) -> bool {
     let mut line = [0u8; lines::LONGEST];
     let n = lines::put_end(&mut line, r, start);
-    if io::write_all(STDOUT_FILENO, &line[..n]) {
+    if rt.write_all(&line[..n]).is_ok() {
         return true;
     }
-    io::write_all(STDERR_FILENO, b"trace: cannot write\n");
+    let _ = rt.eprint("trace: cannot write\n");
     false
 }

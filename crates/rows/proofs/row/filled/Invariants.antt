@@ -1,0 +1,11 @@
+-- `rows::row::filled` meets its contract.
+use Rattle.std.proofs.Common.{◌-◌, ◌≤◌, length}
+use Rattle.rows.proofs.row.filled.Given as goal
+
+abbrev pub invariant-loop-i : goal.invariant-loop-i
+invariant-loop-i l =
+    l.i ≤ length l.buf
+
+abbrev pub decreases-loop-i : goal.decreases-loop-i
+decreases-loop-i l =
+    length l.buf - l.i

@@ -1,0 +1,11 @@
+-- `rows::run` meets its contract. The measure is what is left of the input.
+use Rattle.std.proofs.Common.{◌-◌, ◌≤◌, length}
+use Rattle.rows.proofs.run.Given as goal
+
+abbrev pub invariant-loop-at : goal.invariant-loop-at
+invariant-loop-at g l =
+    l.at ≤ length l.s
+
+abbrev pub decreases-loop-at : goal.decreases-loop-at
+decreases-loop-at g l =
+    length l.s - l.at
