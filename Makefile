@@ -2,20 +2,17 @@
 
 # build exchange, proved, and run it: an initiator and the port, each message and each RDMA operation a line
 run:
-	@mkdir -p target
-	@rt check exchange >target/run.log 2>&1 || { cat target/run.log; exit 1; }
+	@tools/build exchange
 	@target/bin/exchange
 
 # build trace, proved, and run it on standard input, one message to a line as hexadecimal digits behind > or <: make -s trace <messages
 trace:
-	@mkdir -p target
-	@rt check trace >target/trace.log 2>&1 </dev/null || { cat target/trace.log; exit 1; }
+	@tools/build trace
 	@target/bin/trace
 
 # build formats, proved, and run it: how the values of an SRP_CMD's byte 5 divide, for every agreement
 formats:
-	@mkdir -p target
-	@rt check formats >target/formats.log 2>&1 || { cat target/formats.log; exit 1; }
+	@tools/build formats
 	@target/bin/formats
 
 # the gate
@@ -24,7 +21,7 @@ test:
 
 # target/staticlib/libexports.a, for C and Rust to link
 lib:
-	@rt staticlib exports
+	@tools/build exports
 
 # time the calls in C beside a port in plain Rust, then, with valgrind, count the instructions of both and print one
 # table, and one of the last byte beside the yardstick: make bench [CASE="step, last"], cases by a part of their name

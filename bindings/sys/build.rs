@@ -1,5 +1,5 @@
 //! Links libexports.a from $SRP_LIB_DIR, by default target/staticlib of the project two folders above, where
-//! `rt staticlib exports` writes it. A relative SRP_LIB_DIR is taken from there too. A copy of this package elsewhere
+//! `tools/build exports` writes it. A relative SRP_LIB_DIR is taken from there too. A copy of this package elsewhere
 //! needs an absolute one.
 
 use std::env;
@@ -13,7 +13,7 @@ fn main() {
     let library = folder.join("libexports.a");
     println!("cargo:rerun-if-changed={}", library.display());
     if !library.exists() {
-        eprintln!("{} is missing: `rt staticlib exports` makes it, SRP_LIB_DIR names its folder", library.display());
+        eprintln!("{} is missing: `tools/build exports` makes it, SRP_LIB_DIR names its folder", library.display());
         std::process::exit(1);
     }
     println!("cargo:rustc-link-search=native={}", folder.display());

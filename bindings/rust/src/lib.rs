@@ -98,7 +98,7 @@
 //! # Linking
 //!
 //! Crate srp_target_sys, beside this one and its only dependency, declares the C interface. Its build script looks for
-//! libexports.a in `SRP_LIB_DIR`, by default target/staticlib of the project, where `rt staticlib exports` writes it.
+//! libexports.a in `SRP_LIB_DIR`, by default target/staticlib of the project, where `tools/build exports` writes it.
 //! The library is for x86-64; of the C library it needs memcpy, memmove, memset and memcmp at most.
 
 #![no_std]
