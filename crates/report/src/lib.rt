@@ -1,6 +1,5 @@
 // What the owner reads of a port: its counters and its open commands. A listing is made by value, and what is to be written to a lent list of records
-// decided by value; list_into only copies it. No `&mut [Record]` is covered by the borrow checker: the proofs of list_into and of lend, which makes one, are
-// walks of their code by hand.
+// decided by value; list_into only copies it.
 #![tactic(auto)]
 
 ghost use Rattle.std.specs.Prelude.{◌≡◌, ◌<◌, length, get_or};
@@ -169,7 +168,7 @@ pub fn list_into(s: &[u64; PORT], records: &mut [Record]) -> Reply
     listing.reply
 }
 
-// The open commands, listed into a list that the caller has by value, which is lent to list_into and handed back: its callers are covered. Refused 21.
+// The open commands, listed into a list that the caller has by value, which is lent to list_into and handed back. Refused 21.
 pub fn lend(s: &[u64; PORT], mut records: [Record; SLOTS]) -> Lent
     ensures { WritesListing s.now records result.records result.reply }
 {
