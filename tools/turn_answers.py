@@ -133,7 +133,7 @@ def turn(crate, name, folder, entry, out, named):
 
     def by_param(m):
         params = entry["params"].get(callee.get(m.group(1), ""), [])
-        return f"c.{m.group(1)}.new.{params[int(m.group(2))]}" if int(m.group(2)) < len(params) else m.group(0)
+        return f"c.{m.group(1)}.{m.group(2)}.{params[int(m.group(3))]}" if int(m.group(3)) < len(params) else m.group(0)
 
     def as_record(names, tail):
         """A last tuple as a record by the names of the clauses."""
@@ -169,7 +169,7 @@ def turn(crate, name, folder, entry, out, named):
 
     def path(m):
         step = m.group(2)
-        step = steps.get(step) or steps.get(plain(step)) or steps.get(plain(BEFORE.get(step, step))) or step
+        step = steps.get(step) or steps.get(plain(step)) or steps.get(plain(BEFORE.get(step, step))) or steps.get(plain(re.sub("_lem$", "", step).lower())) or step
         return "c." + step
 
     answers, invariants, said = [], [], []
@@ -227,7 +227,7 @@ def turn(crate, name, folder, entry, out, named):
         for o in re.findall(r"let ([\w'-]+) = c\.requires in", tail):
             tail = re.sub(r"\s*let " + re.escape(o) + r" = c\.requires in(?=\s)", "", tail)
             tail = re.sub(r"(?<![\w'.-])" + re.escape(o) + r"(?=\.[01])", "c.requires", tail)
-        tail = re.sub(r"(?<![\w'.-])c\.([\w'-]+)\.new\.(\d)", by_param, tail)
+        tail = re.sub(r"(?<![\w'.-])c\.([\w'-]+)\.(new|auto)\.(\d)", by_param, tail)
         tail = re.sub(r"(?<![\w'.-])c\.()(requires)((?:\.[01])+)", by_clause, tail)
         tail = re.sub(r"(?<![\w'.-])c\.([\w'-]+)\.(ensures)((?:\.[01])+)", by_clause, tail)
         if new.startswith("returns"):

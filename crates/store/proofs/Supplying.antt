@@ -72,12 +72,9 @@ module _ (st : List ℕ) (long : length st ≡ store_size) (p k : ℕ) (hp : p <
           rw (e, f) (part list_size n (omega arith))
 
   -- as `bytes::copy` brings them to a list z of that length
-  pub carried_by : (z x : List ℕ) (m : ℕ) → length z ≡ place_size → m ≡ place_size
-      → x ≡ take (length (take m (drop (p * place_size) st))) (take m (drop (p * place_size) st)) ++ drop (length (take m (drop (p * place_size) st))) z
-      → Carried st (paste st (k * place_size) x (length x)) p k
-  carried_by z x m hz e q =
-      let all : x ≡ kept =
-      (rw e at q) ∙ rw (take-length kept, kept_long, drop_of_length-le z {i = place_size} (omega arith)) (append-nil kept) in
+  pub carried_by : (x : List ℕ) (m : ℕ) → m ≡ place_size → x ≡ take m (drop (p * place_size) st) → Carried st (paste st (k * place_size) x (length x)) p k
+  carried_by x m e q =
+      let all : x ≡ kept = rw e at q in
       rw all carried
 
 -- ── the command changed

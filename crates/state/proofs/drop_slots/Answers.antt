@@ -7,6 +7,7 @@ use borrow.Author.Rules.{rules}
 use borrow.Author.Tests.{not-true, not-false}
 use Rattle.state.proofs.Held.{Dropping, drop_start, drop_ended, drop_kept, drop_unmoved, dropped}
 use Rattle.state.proofs.drop_slots.Goals as goal
+use Rattle.state.proofs.drop_slots.Goals.{then-not-ended, then-kept-i, else-kept-i, else-not-ended}
 
 pub loop-i-init : goal.loop-i-init
 loop-i-init c =
@@ -17,16 +18,15 @@ loop-i-preserved c =
     let D = c.loop-i.invariant in
     let on = c.loop-i-test.true in
     let r = c.load_request-r in
-    ⊎_elim
-    (λ w.
-    let stays = sym c.ended.ensures ∙ not-true _ w.0.taken in
-    rw (w.2, w.3)
-    (⊎_elim
-    (λ v. rw v.5 (drop_kept _ _ _ _ _ _ D on _ r.ensures stays v.2.last.0 v.2.kept.0 v.2.ensures))
-    (λ v. rw v.1 (drop_unmoved _ _ _ _ _ _ D on _ r.ensures stays v.0.left))
-    w.1.came))
-    (λ w. rw (w.1, w.2) (drop_ended _ _ _ _ _ _ D on _ r.ensures (sym c.ended.ensures ∙ not-false _ w.0.left)))
-    c.if-not-ended.branch
+    elim c.if-not-ended.branch [
+      then-not-ended w ↦
+        let stays = sym c.ended.ensures ∙ w.if-not-ended.true in
+        rw (w.s-is, w.kept-is)
+        (elim w.if-kept-i.branch [
+          then-kept-i v ↦ rw v.s-is (drop_kept _ _ _ _ _ _ D on _ r.ensures stays v.shift_slot.new.s v.shift_slot.auto.s v.shift_slot.ensures)
+          | else-kept-i v ↦ rw v.s-is (drop_unmoved _ _ _ _ _ _ D on _ r.ensures stays v.if-kept-i.false) ])
+      | else-not-ended w ↦
+        rw (w.s-is, w.kept-is) (drop_ended _ _ _ _ _ _ D on _ r.ensures (sym c.ended.ensures ∙ w.if-not-ended.false)) ]
 
 pub returns : goal.returns
 returns c =

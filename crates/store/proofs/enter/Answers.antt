@@ -31,7 +31,7 @@ overflow_sub-h c =
 -- src/lib.rt:133:5
 pub set_counts-requires : goal.set_counts-requires
 set_counts-requires c =
-    record { s_len = c.save.auto.0 ∙ c.requires.s_len; counts_fit = counts_fit c.args.s.now _ c.get_head-h.ensures c.requires.announced_nonzero }
+    record { s_len = c.save.auto.s ∙ c.requires.s_len; counts_fit = counts_fit c.args.s.now _ c.get_head-h.ensures c.requires.announced_nonzero }
 
 -- src/lib.rt:102:1
 pub returns : goal.returns

@@ -10,6 +10,7 @@ use Rattle.store.proofs.places.Lts as lts
 use Rattle.words.proofs.commands.load_place.Reads as load-place-reads
 use Rattle.words.proofs.get_head.Reads as get-head-reads
 use Rattle.store.proofs.places.Goals as goal
+use Rattle.store.proofs.places.Goals.{then-i-but, else-i-but}
 
 -- src/lib.rt:38:5
 pub loop-i-init : goal.loop-i-init
@@ -29,10 +30,9 @@ pub loop-i-preserved : goal.loop-i-preserved
 loop-i-preserved c =
     let K = c.loop-i.invariant in
     let on = c.loop-i-test.true in
-    ⊎_elim
-    (λ w. rw w.2 (mark_more _ _ _ _ _ K on w.0.taken w.1.result w.1.ensures.0 w.1.ensures.1))
-    (λ w. rw w.1 (mark_skip _ _ _ _ _ K on w.0.left))
-    c.if-i-but.branch
+    elim c.if-i-but.branch [
+      then-i-but w ↦ rw w.used-is (mark_more _ _ _ _ _ K on w.if-i-but.true w.load_place-k.result w.load_place-k.ensures.0 w.load_place-k.ensures.1)
+      | else-i-but w ↦ rw w.used-is (mark_skip _ _ _ _ _ K on w.if-i-but.false) ]
 
 -- src/lib.rt:30:1
 pub returns : goal.returns

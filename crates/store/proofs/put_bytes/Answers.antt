@@ -6,7 +6,6 @@ use Rattle.wire.proofs.Stores.{part_copied}
 use borrow.Author.Rules.{rules}
 use Rattle.store.proofs.put_bytes.Reads as reads
 use Rattle.store.proofs.put_bytes.Lts as lts
-use Rattle.bytes.proofs.copy.Reads as copy-reads
 use Rattle.store.proofs.put_bytes.Goals as goal
 
 -- src/lib.rt:65:1
@@ -14,4 +13,4 @@ pub returns : goal.returns
 returns c =
     let a = c.args in
     let n : a.at + length a.from.now - a.at ≡ length a.from.now = omega arith in
-    part_copied a.to.now a.at a.from.now _ n _ c.copy.ensures.1
+    part_copied a.to.now a.at a.from.now _ n _ c.copy_from_slice.ensures.after

@@ -106,7 +106,7 @@ returns-in-LoginRej c =
 
 pub returns-in-Rsp : goal.returns-in-Rsp
 returns-in-Rsp c =
-    c.tagged-in-Rsp.ensures ∙ rw (c.in-Rsp.is, c.delta_of-in-Rsp.ensures, c.code_of_lem.ensures)
+    c.tagged-in-Rsp.ensures ∙ rw (c.in-Rsp.is, c.delta_of-in-Rsp.ensures, c.code_of.ensures)
 
 pub returns-in-CredReq : goal.returns-in-CredReq
 returns-in-CredReq c =

@@ -7,6 +7,7 @@ use borrow.Author.Rules.{rules}
 use borrow.Author.Tests.{not-true, not-false}
 use Rattle.state.proofs.Parting.{Parting, part_start, part_left, part_kept, part_unmoved, parted}
 use Rattle.state.proofs.moves.leave.Goals as goal
+use Rattle.state.proofs.moves.leave.Goals.{then-not-move_leaves, then-kept-i, else-kept-i, else-not-move_leaves}
 
 pub loop-i-init : goal.loop-i-init
 loop-i-init c =
@@ -18,15 +19,14 @@ loop-i-preserved c =
     let on = c.loop-i-test.true in
     let x = c.at-x in
     let t = c.move_leaves in
-    ⊎_elim
-    (λ w.
-    rw (w.2, w.3)
-    (⊎_elim
-    (λ v. rw v.5 (part_kept _ _ _ _ _ _ D on _ x.ensures (λ st. sym (not-true _ w.0.taken) ∙ t.ensures st) v.2.last.0 v.2.kept.0 v.2.ensures))
-    (λ v. rw v.1 (part_unmoved _ _ _ _ _ _ D on _ x.ensures (λ st. sym (not-true _ w.0.taken) ∙ t.ensures st) v.0.left))
-    w.1.came))
-    (λ w. rw (w.1, w.2) (part_left _ _ _ _ _ _ D on _ x.ensures (λ st. sym (not-false _ w.0.left) ∙ t.ensures st)))
-    c.if-not-move_leaves.branch
+    elim c.if-not-move_leaves.branch [
+      then-not-move_leaves w ↦
+        rw (w.s-is, w.kept-is)
+        (elim w.if-kept-i.branch [
+          then-kept-i v ↦ rw v.s-is (part_kept _ _ _ _ _ _ D on _ x.ensures (λ st. sym w.if-not-move_leaves.true ∙ t.ensures st) v.put.new.s v.put.auto.s v.put.ensures)
+          | else-kept-i v ↦ rw v.s-is (part_unmoved _ _ _ _ _ _ D on _ x.ensures (λ st. sym w.if-not-move_leaves.true ∙ t.ensures st) v.if-kept-i.false) ])
+      | else-not-move_leaves w ↦
+        rw (w.s-is, w.kept-is) (part_left _ _ _ _ _ _ D on _ x.ensures (λ st. sym w.if-not-move_leaves.false ∙ t.ensures st)) ]
 
 pub returns : goal.returns
 returns c =

@@ -7,7 +7,6 @@ use Rattle.store.proofs.Supplying.{carried_same, carried_by}
 use borrow.Author.Rules.{rules}
 use Rattle.store.proofs.supply.carry.Reads as reads
 use Rattle.store.proofs.supply.carry.Lts as lts
-use Rattle.bytes.proofs.copy.Reads as copy-reads
 use Rattle.store.proofs.put_bytes.Reads as put-bytes-reads
 use Rattle.store.proofs.supply.carry.Goals as goal
 
@@ -21,4 +20,4 @@ pub returns : goal.returns
 returns c =
     let a = c.args in
     rw c.put_bytes.ensures
-    (carried_by a.store.now c.requires.store_len a.from a.to c.requires.from_lt_most_slots c.requires.to_lt_most_slots (replicate place_size 0) _ (a.from * place_size + place_size - a.from * place_size) refl (omega arith) c.copy.ensures.1)
+    (carried_by a.store.now c.requires.store_len a.from a.to c.requires.from_lt_most_slots c.requires.to_lt_most_slots _ (a.from * place_size + place_size - a.from * place_size) (omega arith) c.copy_from_slice.ensures.after)
