@@ -4,7 +4,7 @@
 // which the owner ends. Each message, each call and each RDMA operation is a line.
 #![tactic(auto)]
 
-mod boundary;
+mod boundaries;
 mod moves;
 mod order;
 mod turns;
@@ -46,7 +46,7 @@ fn main(rt: HostRuntime) -> io::Result<()> {
     let l = turns::three_moves(rt, port, store, to_port, to_initiator, k)?;
     let m = change_buffers(rt, port, store, to_port, to_initiator, l)?;
     log_out(rt, port, store, to_port, to_initiator, m)?;
-    let n = boundary::data_in(rt, port, store, to_port, to_initiator)?;
+    let n = boundaries::data_in(rt, port, store, to_port, to_initiator)?;
     close(rt, port, to_initiator, n)
 }
 
