@@ -148,7 +148,7 @@ def turn(crate, name, folder, entry, out, named):
                 break
         if open_at is None or not re.search(r"(=|\bin|^)\s*$", tail[:open_at]):
             return tail
-        fields, inner = [], tail[open_at + 1:end - 1]
+        fields, inner = [], tail[open_at + 1:end - 1].strip().rstrip(",")
         while True:
             depth, cut = 0, None
             for i, ch in enumerate(inner):
@@ -160,9 +160,9 @@ def turn(crate, name, folder, entry, out, named):
                 fields.append(inner.strip())
                 break
             fields.append(inner[:cut].strip())
-            inner = inner[cut + 1:].strip()
+            inner = inner[cut + 1:].strip().rstrip(",")
             if len(fields) < len(names) - 1 and inner.startswith("(") and inner.endswith(")") and "," in inner:
-                inner = inner[1:-1]
+                inner = inner[1:-1].strip().rstrip(",")
         if len(fields) != len(names):
             return tail
         return tail[:open_at] + "record { " + "; ".join(f"{n} = {f}" for n, f in zip(names, fields)) + " }"
@@ -219,11 +219,13 @@ def turn(crate, name, folder, entry, out, named):
             said.append(f"{name}: κs")
         while m2 := re.search(r"\s*let ([\w'-]+) = c(?:\.before)+ in(?=\s)", tail):
             tail = tail[:m2.start()] + re.sub(r"(?<![\w'.-])" + re.escape(m2.group(1)) + r"(?=\.[\w'])", "c", tail[m2.end():])
-        tail = re.sub(r"\((?:not-true|not-false) \S+ (c(?:\.[\w'-]+)+)\)", r"\1", tail)
-        tail = re.sub(r"\b(?:not-true|not-false) \S+ (c(?:\.[\w'-]+)+)", r"\1", tail)
+        tail = re.sub(r"\((?:not-true|not-false) \S+ (c(?:\.[\w'-]+)+)\)", r"⟦\1⟧", tail)
+        tail = re.sub(r"\b(?:not-true|not-false) \S+ (c(?:\.[\w'-]+)+)", r"⟦\1⟧", tail)
         tail = re.sub(PATH.pattern + r"\.given\.1(?![\w.])", told, tail)
         tail = re.sub(PATH.pattern + r"\.given\.0\.0(?![\w])", bound, tail)
         tail = PATH.sub(path, tail)
+        tail = re.sub(r"(?<![⟦\w'.-])c\.if-not-([\w'-]+)\.(true|false)(?![\w'])", r"(ap not c.if-not-\1.\2)", tail)
+        tail = tail.replace("⟦", "").replace("⟧", "")
         for o in re.findall(r"let ([\w'-]+) = c\.requires in", tail):
             tail = re.sub(r"\s*let " + re.escape(o) + r" = c\.requires in(?=\s)", "", tail)
             tail = re.sub(r"(?<![\w'.-])" + re.escape(o) + r"(?=\.[01])", "c.requires", tail)
@@ -235,7 +237,8 @@ def turn(crate, name, folder, entry, out, named):
         elif m2 := re.match(r"(.+)-requires(-.+)?$", new):
             full = callee.get(m2.group(1) + (m2.group(2) or "")) or next((f for st, f in callee.items() if st.startswith(m2.group(1))), "")
             tail = as_record(named.get(full, {}).get("requires", []), tail)
-        answers += comment + [f"pub {new} : goal.{new}"] + ([unfolding] if unfolding else []) + [f"{new} c ={tail}", ""]
+        tail = re.sub(r"(?<![\w'.-])(c\.args|a)\.([a-z]+(?:-[a-z0-9]+)+)", lambda m: m.group(1) + "." + m.group(2).replace("-", "_"), tail)
+        answers += comment + [f"pub {new} : goal.{new}"] + ([unfolding] if unfolding else []) + [f"{new} {' '.join(p for p in params if p != 'κs')} ={tail}", ""]
     module = name.replace("::", ".")
     uses = [l for l in head if l.startswith("use ") and ".Tie as tie" not in l and ".Statement.{statement}" not in l]
     notes = [re.sub(r" Assumes nothing\.$", "", l) for l in head if l.startswith("--")]
@@ -245,6 +248,9 @@ def turn(crate, name, folder, entry, out, named):
     if any("goal." in l for l in invariants):
         with open(os.path.join(to, "Invariants.antt"), "w", encoding="utf-8") as f:
             f.write("\n".join(notes + uses + [f"use Rattle.{c}.proofs.{module}.Given as goal", ""] + invariants))
+    for word, module_of in (("ap", "mathlib.Core.Path"), ("not", "mathlib.Core.Bool")):
+        if any("(ap not c." in l for l in answers) and not any(re.search(r"[{ ]" + word + r"[,}]", l) for l in uses):
+            uses.append(f"use {module_of}.{{{word}}}")
     if any("goal." in l for l in answers):
         with open(os.path.join(to, "Answers.antt"), "w", encoding="utf-8") as f:
             f.write("\n".join(notes + uses + [f"use Rattle.{c}.proofs.{module}.Goals as goal", ""] + answers))

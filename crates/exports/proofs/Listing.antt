@@ -17,16 +17,13 @@ use Rattle.srp.specs.declared.Refusal.{Refusal}
 use Rattle.srp.specs.declared.Record.{Record}
 use Rattle.srp.specs.declared.Reply.TheVariants.{Listed}
 use Rattle.srp.specs.declared.Reply.{Reply}
-use Rattle.srp.proofs.Listing.{unlisted, listed_all, refused_none}
+use Rattle.srp.proofs.Listing.{listed_all, refused_none}
 use Rattle.answer.specs.Words.{answer_words}
 use Rattle.words.specs.View.{view}
 use Rattle.report.specs.Reports.{slot_records, CountFor}
 use Rattle.exports.specs.Arguments.{record_size, record_words, all_words}
 use Rattle.exports.specs.Calls.{Gives, InC, Wordless, ListsInC}
 use Rattle.exports.proofs.InC.{in_numbers, silently}
-use denote.Enum.Declared.{tag_of}
-use types.Run.{OneOf, miss}
-use Rattle.srp.specs.contracts.Reply.{the_type}
 
 -- a call that writes no message where none of its checks hits writes none
 unwritten : (x : Option Refusal) (p : Port) (o : Outcome) → o.wrote ≡ [] → (unless x p o).wrote ≡ []
@@ -110,14 +107,14 @@ module _ (l before : List ℕ) (r : Reply) (C : CountFor l (length before / reco
       in_numbers (silently (list_def (view l st) (length before / record_size)) (C.reply st) (list_unwritten (view l st) (length before / record_size))) g
 
   -- a listing that is refused
-  pub list_wordless : OneOf unlisted (tag_of the_type r) → Wordless r
+  pub list_wordless : ((n : ℕ) → r ≡ Listed n → ⊥) → Wordless r
   list_wordless k = go (first_of_checks (list_checks (view l st) (length before / record_size))) (C.reply st)
     where
       go : (x : Option Refusal) → r ≡ (unless x (view l st) (list_outcome (view l st))).reply → Wordless r
-      go none q = absurd (miss unlisted 13 tt (subst (λ (y : Reply). OneOf unlisted (tag_of the_type y)) q k))
+      go none q = absurd (k (length (view l st).held) q)
       go (some f) q = sym (ap (λ (y : Reply). answer_words (record { reply = y; wrote = 0 })) q)
 
-  pub list_refused : {n : ℕ} {w : List ℕ} → Gives n w (record { reply = r; wrote = 0 }) → OneOf unlisted (tag_of the_type r) → ListsInC (view l st) before before n w
+  pub list_refused : {n : ℕ} {w : List ℕ} → Gives n w (record { reply = r; wrote = 0 }) → ((n : ℕ) → r ≡ Listed n → ⊥) → ListsInC (view l st) before before n w
   list_refused g k =
       let e : records_for (view l st) (length before / record_size) ≡ [] = refused_none (view l st) (length before / record_size) r (C.reply st) k in
       record { numbers = numbered g; records = ap (λ (rs : List Record). over (all_words rs) before) (sym e) }

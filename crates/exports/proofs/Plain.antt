@@ -4,12 +4,8 @@ use mathlib.Core.Logic.{inl, inr, ⊎_elim}
 use mathlib.Core.List.{List, [], ◌∷◌, ◌++◌}
 use mathlib.Core.Option.{Option, none, some}
 use Prim.Native.Nat.{ℕ}
-use lib.Dec.{eqb}
-use denote.Enum.Declared.{tag_of}
-use types.Run.{OneOf, miss}
-use Rattle.srp.specs.contracts.Reply.{the_type}
 use Rattle.srp.specs.Refusals.{first_of_checks}
-use Rattle.srp.specs.Lists.{find, without}
+use Rattle.srp.specs.Lists.{find}
 use Rattle.srp.specs.Credit.{Port, has_tag}
 use Rattle.srp.specs.Take.{Outcome, Tables}
 use Rattle.srp.specs.Tables.{tables_checks, tables_by, tables_def}
@@ -20,9 +16,11 @@ use Rattle.srp.specs.declared.Refusal.{Refusal}
 use Rattle.srp.specs.declared.Direction.{Direction}
 use Rattle.srp.specs.declared.Piece.{Piece}
 use Rattle.srp.specs.declared.Place.{Place}
+use Rattle.srp.specs.declared.Kind.{Kind}
+use Rattle.srp.specs.declared.Counters.{Counters}
 use Rattle.srp.specs.declared.Answer.{Answer}
 use Rattle.srp.specs.declared.Reply.{Reply}
-use Rattle.srp.specs.declared.Reply.TheVariants.{Refused, Performed, Done}
+use Rattle.srp.specs.declared.Reply.TheVariants.{Refused, Performed, Operation, Done, Served, Counts}
 use Rattle.answer.specs.Words.{leading}
 use Rattle.exports.specs.Calls.{Plain, Wordless, Ends}
 
@@ -52,55 +50,42 @@ pub close_plain : (p : Port) (room reason : ℕ) → Plain (close_def p room rea
 close_plain p room reason =
     plain_unless (first_of_checks (close_checks p room)) p (close_outcome p reason) refl
 
--- the replies but one, by their place in the enum
-abbrev pub but : ℕ → List ℕ
-but k = without (eqb k) (0 ∷ 1 ∷ 2 ∷ 3 ∷ 4 ∷ 5 ∷ 6 ∷ 7 ∷ 8 ∷ 9 ∷ 10 ∷ 11 ∷ 12 ∷ 13 ∷ [])
-
 -- a step that gives no operation says done, or refuses
-pub step_ends : (p : Port) (tag : ℕ) (d : Direction) (r : Reply) → r ≡ (step_def p tag d).reply → OneOf (but 6) (tag_of the_type r) → Ends r
-step_ends p tag d r e k =
-    subst Ends (sym e)
-    (go (first_of_checks (step_checks p tag)) (next_of p.terms d (find (has_tag tag) p.held)) (subst (λ (x : Reply). OneOf (but 6) (tag_of the_type x)) e k))
+pub step_ends : (p : Port) (tag : ℕ) (d : Direction) (r : Reply) → r ≡ (step_def p tag d).reply → ((k : Kind) (o : Piece) (n : ℕ) → r ≡ Operation k o n → ⊥) → Ends r
+step_ends p tag d r e k = go (first_of_checks (step_checks p tag)) (next_of p.terms d (find (has_tag tag) p.held)) e
   where
     number : ℕ
     number = number_in d (find (has_tag tag) p.held)
 
-    go : (x : Option Refusal) (y : Option Piece) → OneOf (but 6) (tag_of the_type (unless x p (hand_out_lem p tag d number y)).reply)
-        → Ends (unless x p (hand_out_lem p tag d number y)).reply
-    go (some f) y k = inr (f, refl)
-    go none none k = inl (number, refl)
-    go none (some o) k = absurd (miss (but 6) 6 tt k)
+    go : (x : Option Refusal) (y : Option Piece) → r ≡ (unless x p (hand_out_lem p tag d number y)).reply → Ends r
+    go (some f) y q = inr (f, q)
+    go none none q = inl (number, q)
+    go none (some o) q = absurd (k _ _ _ q)
 
 -- a refusal among these has no word
-pub end_wordless : (r : Reply) → Ends r → OneOf (but 7) (tag_of the_type r) → Wordless r
+pub end_wordless : (r : Reply) → Ends r → ((n : ℕ) → r ≡ Done n → ⊥) → Wordless r
 end_wordless r e k =
-    ⊎_elim
-    (λ (d : (n : ℕ) × (r ≡ Done n)). absurd (miss (but 7) 7 tt (subst (λ (x : Reply). OneOf (but 7) (tag_of the_type x)) d.1 k)))
-    (λ (f : (f : Refusal) × (r ≡ Refused f)). subst Wordless (sym f.1) refl)
-    e
+    ⊎_elim (λ (d : (n : ℕ) × (r ≡ Done n)). absurd (k d.0 d.1)) (λ (f : (f : Refusal) × (r ≡ Refused f)). subst Wordless (sym f.1) refl) e
 
 -- a turn that serves no move
-pub turn_wordless : (p : Port) (r : Reply) → r ≡ (turn_def p).reply → OneOf (but 8) (tag_of the_type r) → Wordless r
-turn_wordless p r e k =
-    subst Wordless (sym e) (go (first_of_checks (turn_checks p)) p.line (subst (λ (x : Reply). OneOf (but 8) (tag_of the_type x)) e k))
+pub turn_wordless : (p : Port) (r : Reply) → r ≡ (turn_def p).reply → ((tag : ℕ) (d : Direction) (o : Piece) (n : ℕ) → r ≡ Served tag d o n → ⊥) → Wordless r
+turn_wordless p r e k = go (first_of_checks (turn_checks p)) p.line e
   where
-    piece : (x : Place) (others : List Place) (n : ℕ) (y : Option Piece) → OneOf (but 8) (tag_of the_type (serve p x others n y).reply) → Wordless (serve p x others n y).reply
-    piece x others n none k = refl
-    piece x others n (some o) k = absurd (miss (but 8) 8 tt k)
+    piece : (x : Place) (others : List Place) (n : ℕ) (y : Option Piece) → r ≡ (serve p x others n y).reply → Wordless r
+    piece x others n none q = subst Wordless (sym q) refl
+    piece x others n (some o) q = absurd (k _ _ _ _ q)
 
-    go : (x : Option Refusal) (line : List Place) → OneOf (but 8) (tag_of the_type (unless x p (serve_first p line)).reply) → Wordless (unless x p (serve_first p line)).reply
-    go (some f) line k = refl
-    go none [] k = refl
-    go none (x ∷ others) k =
+    go : (x : Option Refusal) (line : List Place) → r ≡ (unless x p (serve_first p line)).reply → Wordless r
+    go (some f) line q = subst Wordless (sym q) refl
+    go none [] q = subst Wordless (sym q) refl
+    go none (x ∷ others) q =
         let c = find (has_tag x.tag) p.held in
-        piece x others (number_in x.direction c) (next_of p.terms x.direction c) k
+        piece x others (number_in x.direction c) (next_of p.terms x.direction c) q
 
 -- counters that are refused
-pub counters_wordless : (p : Port) (r : Reply) → r ≡ (counters_def p).reply → OneOf (but 12) (tag_of the_type r) → Wordless r
-counters_wordless p r e k =
-    subst Wordless (sym e) (go (first_of_checks (counters_checks p)) (subst (λ (x : Reply). OneOf (but 12) (tag_of the_type x)) e k))
+pub counters_wordless : (p : Port) (r : Reply) → r ≡ (counters_def p).reply → ((c : Counters) → r ≡ Counts c → ⊥) → Wordless r
+counters_wordless p r e k = go (first_of_checks (counters_checks p)) e
   where
-    go : (x : Option Refusal) → OneOf (but 12) (tag_of the_type (unless x p (counters_outcome p)).reply)
-        → Wordless (unless x p (counters_outcome p)).reply
-    go (some f) k = refl
-    go none k = absurd (miss (but 12) 12 tt k)
+    go : (x : Option Refusal) → r ≡ (unless x p (counters_outcome p)).reply → Wordless r
+    go (some f) q = subst Wordless (sym q) refl
+    go none q = absurd (k _ q)

@@ -66,8 +66,7 @@ fn put_piece(buf: &mut [u8], p: Piece)
     put_descriptor(buf, 0, p.address, p.handle, p.len);
 }
 
-#[unsafe(no_mangle)]
-pub extern "C" fn srp_look(msg: &[u8], agreed: u32, formats: u32, buf: &mut [u8]) -> u32
+pub fn srp_look(msg: &[u8], agreed: u32, formats: u32, buf: &mut [u8]) -> u32
     ensures { Answered result buf.old buf.new (look_in_c agreed formats msg.now (length buf.old)) }
 {
     if buf.len() < ANSWER {
@@ -82,8 +81,7 @@ pub extern "C" fn srp_look(msg: &[u8], agreed: u32, formats: u32, buf: &mut [u8]
     }
 }
 
-#[unsafe(no_mangle)]
-pub extern "C" fn srp_cut(list: &[u8], m: u32, q: u64, r: u32, handed: u32, buf: &mut [u8]) -> u32
+pub fn srp_cut(list: &[u8], m: u32, q: u64, r: u32, handed: u32, buf: &mut [u8]) -> u32
     ensures { Answered result buf.old buf.new (cut_in_c list.now m q r handed (length buf.old)) }
 {
     if buf.len() < ANSWER {
@@ -108,16 +106,14 @@ fn way_of(n: u32) -> Way
     if n == 0 { Way::Towards } else { Way::From }
 }
 
-#[unsafe(no_mangle)]
-pub extern "C" fn srp_trace(msg: &[u8], direction: u32, buf: &mut [u8]) -> u32
+pub fn srp_trace(msg: &[u8], direction: u32, buf: &mut [u8]) -> u32
     ensures { Answered result buf.old buf.new (trace_in_c (way_in direction) msg.now (length buf.old)) }
 {
     let reply = page::trace(msg, way_of(direction), buf);
     answer::returned(reply)
 }
 
-#[unsafe(no_mangle)]
-pub extern "C" fn srp_format_counts(formats: u32, answer: &mut [u64; 8]) -> u32
+pub fn srp_format_counts(formats: u32, answer: &mut [u64; 8]) -> u32
     ensures { FormatCountsInC formats result answer.new }
 {
     match division::divide(formats) {

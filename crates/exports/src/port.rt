@@ -79,15 +79,13 @@ fn direction_of(n: u32) -> Direction
 }
 
 // Words of a port.
-#[unsafe(no_mangle)]
-pub extern "C" fn srp_target_words() -> u64
+pub fn srp_target_words() -> u64
     ensures { result ≡ port_words }
 {
     PORT as u64
 }
 
-#[unsafe(no_mangle)]
-pub extern "C" fn srp_target_login(
+pub fn srp_target_login(
     port: &mut [u64; PORT],
     settings: &[u32; 5],
     boundary: u64,
@@ -104,16 +102,14 @@ pub extern "C" fn srp_target_login(
     give(answer, a)
 }
 
-#[unsafe(no_mangle)]
-pub extern "C" fn srp_target_plan(port: &mut [u64; PORT], tag: u64, out: u32, inn: u32) -> u32
+pub fn srp_target_plan(port: &mut [u64; PORT], tag: u64, out: u32, inn: u32) -> u32
     ensures { PlanInC port.old port.new tag out inn result }
 {
     let r = transfer::plan(port, tag, out, inn);
     answer::returned(r)
 }
 
-#[unsafe(no_mangle)]
-pub extern "C" fn srp_target_move(
+pub fn srp_target_move(
     port: &mut [u64; PORT],
     tag: u64,
     direction: u32,
@@ -127,8 +123,7 @@ pub extern "C" fn srp_target_move(
     answer::returned(r)
 }
 
-#[unsafe(no_mangle)]
-pub extern "C" fn srp_target_step(
+pub fn srp_target_step(
     port: &mut [u64; PORT],
     store: &[u8; STORE],
     tag: u64,
@@ -146,12 +141,7 @@ pub extern "C" fn srp_target_step(
     0
 }
 
-#[unsafe(no_mangle)]
-pub extern "C" fn srp_target_turn(
-    port: &mut [u64; PORT],
-    store: &[u8; STORE],
-    answer: &mut [u64; 8],
-) -> u32
+pub fn srp_target_turn(port: &mut [u64; PORT], store: &[u8; STORE], answer: &mut [u64; 8]) -> u32
     ensures { TurnInC port.old port.new store.now result answer.new }
 {
     let r = transfer::turn(port, store);
@@ -162,8 +152,7 @@ pub extern "C" fn srp_target_turn(
     0
 }
 
-#[unsafe(no_mangle)]
-pub extern "C" fn srp_target_finish(
+pub fn srp_target_finish(
     port: &mut [u64; PORT],
     tag: u64,
     status: u8,
@@ -178,36 +167,28 @@ pub extern "C" fn srp_target_finish(
     give_length(answer, a)
 }
 
-#[unsafe(no_mangle)]
-pub extern "C" fn srp_target_add(port: &mut [u64; PORT], k: u32) -> u32
+pub fn srp_target_add(port: &mut [u64; PORT], k: u32) -> u32
     ensures { AddInC port.old port.new k result }
 {
     let r = credit::add(port, k);
     answer::returned(r)
 }
 
-#[unsafe(no_mangle)]
-pub extern "C" fn srp_target_withdraw(port: &mut [u64; PORT], k: u32) -> u32
+pub fn srp_target_withdraw(port: &mut [u64; PORT], k: u32) -> u32
     ensures { WithdrawInC port.old port.new k result }
 {
     let r = credit::withdraw(port, k);
     answer::returned(r)
 }
 
-#[unsafe(no_mangle)]
-pub extern "C" fn srp_target_grant(
-    port: &mut [u64; PORT],
-    buf: &mut [u8],
-    answer: &mut [u64; 8],
-) -> u32
+pub fn srp_target_grant(port: &mut [u64; PORT], buf: &mut [u8], answer: &mut [u64; 8]) -> u32
     ensures { GrantInC port.old buf.old port.new buf.new result answer.new }
 {
     let a = credit::grant(port, buf);
     give_length(answer, a)
 }
 
-#[unsafe(no_mangle)]
-pub extern "C" fn srp_target_close(
+pub fn srp_target_close(
     port: &mut [u64; PORT],
     reason: u32,
     buf: &mut [u8],
@@ -219,8 +200,7 @@ pub extern "C" fn srp_target_close(
     give_length(answer, a)
 }
 
-#[unsafe(no_mangle)]
-pub extern "C" fn srp_target_counters(port: &[u64; PORT], answer: &mut [u64; 8]) -> u32
+pub fn srp_target_counters(port: &[u64; PORT], answer: &mut [u64; 8]) -> u32
     ensures { CountersInC port.now result answer.new }
 {
     let r = report::counters(port);
@@ -255,12 +235,7 @@ fn put_records(records: &mut [u64], port: &[u64], n: usize)
     }
 }
 
-#[unsafe(no_mangle)]
-pub extern "C" fn srp_target_list(
-    port: &[u64; PORT],
-    records: &mut [u64],
-    answer: &mut [u64; 8],
-) -> u32
+pub fn srp_target_list(port: &[u64; PORT], records: &mut [u64], answer: &mut [u64; 8]) -> u32
     ensures { ListInC port.now records.old records.new result answer.new }
 {
     let reply = report::count_for(port, records.len() / RECORD);

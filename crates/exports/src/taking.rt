@@ -6,8 +6,7 @@ use crate::port;
 use srp::Reply;
 use words::{PORT, STORE};
 
-#[unsafe(no_mangle)]
-pub extern "C" fn srp_target_take(
+pub fn srp_target_take(
     port: &mut [u64; PORT],
     store: &mut [u8; STORE],
     msg: &[u8],
@@ -33,8 +32,7 @@ pub extern "C" fn srp_target_take(
     0
 }
 
-#[unsafe(no_mangle)]
-pub extern "C" fn srp_target_tables(
+pub fn srp_target_tables(
     port: &mut [u64; PORT],
     store: &mut [u8; STORE],
     tag: u64,

@@ -6,15 +6,12 @@ use Prim.Native.Nat.{ℕ}
 use native.Mathlib.Omega.{arith}
 use lib.ListN.{length}
 use lib.Seq.{take_at}
-use denote.Enum.Declared.{tag_of}
-use types.Run.{OneOf}
 use Rattle.srp.specs.Limits.{most_buffers}
 use Rattle.srp.specs.Credit.{Port}
 use Rattle.srp.specs.Calls.{listing, records_for}
 use Rattle.srp.specs.declared.Reply.{Reply}
 use Rattle.srp.specs.declared.Reply.TheVariants.{Listed}
-use Rattle.srp.proofs.Listing.{unlisted, listed_all, refused_none, room_for_all, as_many}
-use Rattle.srp.specs.contracts.Reply.{the_type}
+use Rattle.srp.proofs.Listing.{listed_all, refused_none, room_for_all, as_many}
 use Rattle.words.specs.View.{view}
 use Rattle.report.specs.Reports.{ListingIs, ListingFor, CountFor}
 use Rattle.report.specs.declared.Listing.{Listing}
@@ -24,7 +21,7 @@ module _ (w : List ℕ) (room : ℕ) (r : Reply) (C : CountFor w room r) (st : L
   p = view w st
 
   -- a refusal writes nothing
-  pub for_refused : OneOf unlisted (tag_of the_type r) → (l : Listing) → ListingIs p l → ListingFor p room (record { reply = r; count = 0; records = l.records })
+  pub for_refused : ((n : ℕ) → r ≡ Listed n → ⊥) → (l : Listing) → ListingIs p l → ListingFor p room (record { reply = r; count = 0; records = l.records })
   for_refused k l K =
       let e : records_for p room ≡ [] = refused_none p room r (C.reply st) k in
       record { reply = C.reply st; fits = omega arith; small = omega arith; count = ap length (sym e); written = sym e; records = K.records }

@@ -3,4 +3,3 @@ pub mod Signs
 pub mod Filling
 pub mod Fitting
 pub mod Into
-pub mod Rows

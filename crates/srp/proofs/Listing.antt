@@ -1,6 +1,6 @@
 -- The listing: what its reply says of its records; they stand first in the lent list, and the rest of the list is untouched.
 -- Assumes nothing.
-use mathlib.Core.Path.{◌≡◌, refl, sym, ap, ◌∙◌, subst}
+use mathlib.Core.Path.{◌≡◌, refl, sym, ap, ◌∙◌}
 use mathlib.Core.Bool.{Bool, true, false}
 use mathlib.Core.List.{List, [], ◌∷◌}
 use mathlib.Core.Option.{Option, none, some}
@@ -8,8 +8,6 @@ use Prim.Native.Nat.{ℕ, ◌+◌, ◌≤◌}
 use native.Mathlib.Omega.{arith}
 use lib.ListN.{length, take, drop, get_or, length-append, length-drop, length-map}
 use lib.Seq.{take_at, drop_at, get_or-drop}
-use denote.Enum.Declared.{tag_of}
-use types.Run.{OneOf, miss}
 use Rattle.srp.specs.Limits.{most_buffers}
 use Rattle.srp.specs.Refusals.{first_of_checks}
 use Rattle.srp.specs.Lists.{over}
@@ -18,11 +16,6 @@ use Rattle.srp.specs.Calls.{unless, record_of_lem, listing, list_checks, list_ou
 use Rattle.srp.specs.declared.Refusal.{Refusal}
 use Rattle.srp.specs.declared.Reply.{Reply}
 use Rattle.srp.specs.declared.Reply.TheVariants.{Listed}
-use Rattle.srp.specs.contracts.Reply.{the_type}
-
--- the replies other than `Listed`, by their place in the enum
-abbrev pub unlisted : List ℕ
-unlisted = 0 ∷ 1 ∷ 2 ∷ 3 ∷ 4 ∷ 5 ∷ 6 ∷ 7 ∷ 8 ∷ 9 ∷ 10 ∷ 11 ∷ 12 ∷ []
 
 module _ (p : Port) (room : ℕ) where
   -- an unrefused listing says how many commands are open, and writes the record of each
@@ -34,11 +27,11 @@ module _ (p : Port) (room : ℕ) where
       go (some f) q = let z : ◌≡◌ {A = ℕ} 0 1 = cc in absurd (omega arith)
 
   -- a refused one writes none
-  pub refused_none : (r : Reply) → r ≡ (list_def p room).reply → OneOf unlisted (tag_of the_type r) → records_for p room ≡ []
+  pub refused_none : (r : Reply) → r ≡ (list_def p room).reply → ((n : ℕ) → r ≡ Listed n → ⊥) → records_for p room ≡ []
   refused_none r q k = go (first_of_checks (list_checks p room)) q
     where
       go : (x : Option Refusal) → r ≡ (unless x p (list_outcome p)).reply → records_by x p ≡ []
-      go none q = absurd (miss unlisted 13 tt (subst (λ (y : Reply). OneOf unlisted (tag_of the_type y)) q k))
+      go none q = absurd (k (length p.held) q)
       go (some f) q = refl
 
 module _ (p : Port) where

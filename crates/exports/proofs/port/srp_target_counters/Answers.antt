@@ -1,0 +1,38 @@
+use mathlib.Core.Path.{sym, ◌∙◌, ap}
+use mathlib.Core.List.{[]}
+use Rattle.srp.specs.declared.Reply.{Reply}
+use Rattle.srp.specs.Answers as def
+use Rattle.srp.specs.Calls.{counters_def}
+use Rattle.answer.specs.Words.{answer_words}
+use Rattle.words.specs.View.{view}
+use Rattle.exports.proofs.InC.{in_numbers, silently}
+use Rattle.exports.proofs.Listing.{counters_unwritten}
+use Rattle.exports.proofs.Plain.{counters_wordless}
+use borrow.Author.Rules.{rules}
+use Rattle.exports.proofs.port.srp_target_counters.Reads as reads
+use Rattle.exports.proofs.port.srp_target_counters.Lts as lts
+use Rattle.answer.proofs.counter_words.Reads as counter-words-reads
+use Rattle.exports.proofs.port.give_nothing.Reads as give-nothing-reads
+use Rattle.report.proofs.counters.Reads as counters-reads
+use Rattle.exports.proofs.port.srp_target_counters.Goals as goal
+
+-- src/port.rt:214:9
+pub give_nothing-requires : goal.give_nothing-requires
+give_nothing-requires c =
+    counters_wordless (view c.args.port.now []) c.counters-r.result (c.counters-r.ensures []) c.in_default.not-Counts
+
+-- src/port.rt:214:9
+pub returns-in_default : goal.returns-in_default
+returns-in_default c =
+    λ st.
+    let p = view c.args.port.now st in
+    in_numbers (silently (counters_def p) (c.counters-r.ensures st) (counters_unwritten p)) c.give_nothing.ensures
+
+-- src/port.rt:208:1
+pub returns : goal.returns
+returns c =
+    λ st.
+    let p = view c.args.port.now st in
+    let e = c.in-Counts.is in
+    in_numbers (silently (counters_def p) (c.counters-r.ensures st) (counters_unwritten p))
+    (sym (ap (λ (x : Reply). def.returned x) e), c.counter_words.ensures 0 ∙ sym (ap (λ (x : Reply). answer_words (record { reply = x; wrote = 0 })) e))

@@ -1,0 +1,12 @@
+-- `exports::way_of` meets its contract.
+use mathlib.Core.Path.{refl}
+use borrow.Author.Tests.{eq-eqb, ne_eqb}
+use Rattle.exports.proofs.way_of.Goals as goal
+
+pub returns-then-n-eq0 : goal.returns-then-n-eq0
+returns-then-n-eq0 c =
+    rw (eq-eqb c.args.n 0 c.if-n-eq0.true) refl
+
+pub returns-else-n-eq0 : goal.returns-else-n-eq0
+returns-else-n-eq0 c =
+    rw (ne_eqb c.args.n 0 c.if-n-eq0.false) refl

@@ -1,0 +1,45 @@
+use mathlib.Core.Path.{◌≡◌, refl, sym, ◌∙◌, ap}
+use mathlib.Core.Bool.{true}
+use mathlib.Core.List.{List, [], ◌∷◌}
+use mathlib.Core.Option.{Option, some}
+use Prim.Native.Nat.{ℕ}
+use native.Mathlib.Omega.{arith}
+use lib.ListN.{get_or}
+use Rattle.srp.specs.Credit.{Open, Port, due}
+use Rattle.srp.specs.Writing.{answer, placed}
+use Rattle.srp.specs.Take.{answering}
+use Rattle.srp.specs.Tables.{bad_response}
+use Rattle.srp.specs.declared.Refusal.TheVariants.{Fields}
+use Rattle.srp.specs.declared.Request.{Request}
+use Rattle.srp.specs.declared.Reply.TheVariants.{Refused}
+use Rattle.words.specs.Slots.{slots, no_slot}
+use Rattle.words.specs.Head.{head_of}
+use Rattle.words.specs.View.{open_of, view}
+use Rattle.message.proofs.Answers.{answer_long}
+use Rattle.state.specs.Changes.{without_ended}
+use Rattle.state.specs.declared.Ending.TheVariants.{Finished}
+use Rattle.state.proofs.Promises.{answers_by, altered_view, found_first}
+use Rattle.state.proofs.Answering.{unused, answered}
+use borrow.Author.Rules.{rules}
+use Rattle.tables.proofs.end_bad.Reads as reads
+use Rattle.tables.proofs.end_bad.Lts as lts
+use Rattle.message.proofs.put_answer.Reads as put-answer-reads
+use Rattle.state.proofs.drop_commands.Reads as drop-commands-reads
+use Rattle.state.proofs.settle.Reads as settle-reads
+use Rattle.tables.proofs.end_bad.Goals as goal
+
+-- src/lib.rt:33:1
+pub returns : goal.returns
+returns c =
+    λ st.
+    let a = c.args in
+    let l = a.s.now in
+    let x = open_of st (get_or (slots l) a.i no_slot) in
+    let p : Port = without_ended (Finished a.q.tag) (view l st) in
+    let live : (head_of l).live ≡ true = c.requires.s_value in
+    let A = c.drop_commands.ensures in
+    answers_by (ap (λ (o : Option Open). answering p (Refused Fields) (bad_response o)) (found_first c.requires.found_at live st))
+    (answered {p = p} (Refused Fields) (bad_response (some x)) (altered_view l c.drop_commands.new.s st live A) (unused p) refl (A.live ∙ live) c.settle-delta.ensures
+    (c.put_answer.ensures ∙ ap (λ (r : Request). placed (answer r.ucsolnt r.tag 0x02 c.settle-delta.result ∷ []) a.buf.now) c.requires.q_value)
+    (ap (λ (n : ℕ). record { reply = Refused Fields; wrote = n }) (sym (answer_long x.request.ucsolnt x.request.tag 0x02 (due p))))
+    (rw (answer_long x.request.ucsolnt x.request.tag 0x02 (due p)) (omega arith)))

@@ -1,0 +1,16 @@
+use mathlib.Core.Path.{refl}
+use Rattle.srp.specs.declared.Refusal.TheVariants.{Fields}
+use Rattle.srp.specs.declared.Reply.TheVariants.{Refused}
+use Rattle.take.proofs.Endings.{answered}
+use borrow.Author.Rules.{rules}
+use Rattle.take.proofs.answer_bad.Reads as reads
+use Rattle.take.proofs.answer_bad.Lts as lts
+use Rattle.message.proofs.put_answer.Reads as put-answer-reads
+use Rattle.state.proofs.settle.Reads as settle-reads
+use Rattle.take.proofs.answer_bad.Goals as goal
+
+-- src/lib.rt:39:1
+pub returns : goal.returns
+returns c st =
+    let a = c.args in
+    answered a.s.now a.s.now st a.buf.now _ _ a.q.ucsolnt a.q.tag 2 c.settle-delta.result (Refused Fields) refl c.requires.s_value c.settle-delta.ensures c.put_answer.ensures
