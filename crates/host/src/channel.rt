@@ -3,6 +3,7 @@ use crate::paper::{COMMAND, CRED_REQ, DELTA, LOGIN_RSP, RSP, SHORTEST, TSK_MGMT}
 use crate::queue::QUEUE;
 use crate::{queue, show};
 use page::Way;
+use std::io;
 
 // A request takes one off the limit.
 fn costs(msg: &[u8]) -> bool {
@@ -17,20 +18,25 @@ fn costs(msg: &[u8]) -> bool {
 }
 
 // A message is sent: it joins the queue to the port, and the limit after that is answered.
-pub fn submit(to_port: &mut [u8; QUEUE], msg: &[u8], limit: u64) -> u64 {
-    show::message(Way::Towards, msg);
+pub fn submit(
+    rt: &impl Print,
+    to_port: &mut [u8; QUEUE],
+    msg: &[u8],
+    limit: u64,
+) -> io::Result<u64> {
+    show::message(rt, Way::Towards, msg)?;
     if !queue::push(to_port, msg) {
-        show::text(b"a message that the queue cannot take\n");
-        return limit;
+        show::text(rt, b"a message that the queue cannot take\n")?;
+        return Ok(limit);
     }
     if !costs(msg) {
-        return limit;
+        return Ok(limit);
     }
     if limit == 0 {
-        show::text(b"a request without credit\n");
-        return limit;
+        show::text(rt, b"a request without credit\n")?;
+        return Ok(limit);
     }
-    limit - 1
+    Ok(limit - 1)
 }
 
 // What a message adds to the limit.
@@ -53,13 +59,13 @@ fn lift(msg: &[u8]) -> u64 {
 }
 
 // The oldest message in the queue to the initiator is delivered; the limit after that is answered.
-pub fn deliver(to_initiator: &mut [u8; QUEUE], limit: u64) -> u64 {
+pub fn deliver(rt: &impl Print, to_initiator: &mut [u8; QUEUE], limit: u64) -> io::Result<u64> {
     if queue::is_empty(to_initiator) {
-        return limit;
+        return Ok(limit);
     }
     let msg = queue::front(to_initiator);
-    show::message(Way::From, msg);
+    show::message(rt, Way::From, msg)?;
     let now = std::num::wrapping_add_u64(limit, lift(msg));
     queue::pop(to_initiator);
-    now
+    Ok(now)
 }

@@ -3,6 +3,7 @@ use crate::{WRITTEN, conclude};
 use host::queue::QUEUE;
 use host::{channel, show};
 use srp::{Record, Reply, limits};
+use std::io;
 use words::PORT;
 
 // as many commands as can be open
@@ -11,50 +12,60 @@ const RECORDS: usize = limits::MOST_BUFFERS as usize;
 // every number in the owner's list of records before a listing; no command of the programs has such a record
 const MARK: u32 = 0xffffffff;
 
-pub fn add(port: &mut [u64; PORT], k: u32) {
-    show::number(b"   add ", k as u64);
-    show::end();
-    show::refusal(b"   ", credit::add(port, k));
+pub fn add(rt: &impl Print, port: &mut [u64; PORT], k: u32) -> io::Result<()> {
+    show::number(rt, b"   add ", k as u64)?;
+    show::end(rt)?;
+    show::refusal(rt, b"   ", credit::add(port, k))
 }
 
-pub fn withdraw(port: &mut [u64; PORT], k: u32) {
-    show::number(b"   withdraw ", k as u64);
-    show::end();
-    show::refusal(b"   ", credit::withdraw(port, k));
+pub fn withdraw(rt: &impl Print, port: &mut [u64; PORT], k: u32) -> io::Result<()> {
+    show::number(rt, b"   withdraw ", k as u64)?;
+    show::end(rt)?;
+    show::refusal(rt, b"   ", credit::withdraw(port, k))
 }
 
-pub fn grant(port: &mut [u64; PORT], to_initiator: &mut [u8; QUEUE]) {
+pub fn grant(
+    rt: &impl Print,
+    port: &mut [u64; PORT],
+    to_initiator: &mut [u8; QUEUE],
+) -> io::Result<()> {
     let mut buf = [0u8; WRITTEN];
-    show::text(b"   grant\n");
+    show::text(rt, b"   grant\n")?;
     let a = credit::grant(port, &mut buf);
-    conclude(to_initiator, &buf, a);
+    conclude(rt, to_initiator, &buf, a)
 }
 
 // W, A, H and D, and the initiator's limit.
-pub fn show_counts(port: &[u64; PORT], limit: u64) {
-    show::text(b"   counters: ");
+pub fn show_counts(rt: &impl Print, port: &[u64; PORT], limit: u64) -> io::Result<()> {
+    show::text(rt, b"   counters: ")?;
     match report::counters(port) {
-        Reply::Counts(c) => show::counts(c, limit),
-        r => show::refusal(b"", r),
+        Reply::Counts(c) => show::counts(rt, c, limit),
+        r => show::refusal(rt, b"", r),
     }
 }
 
 // The oldest message to the initiator is delivered; the counters and the limit after that.
-pub fn deliver(port: &[u64; PORT], to_initiator: &mut [u8; QUEUE], limit: u64) -> u64 {
-    let now = channel::deliver(to_initiator, limit);
-    show_counts(port, now);
-    now
+pub fn deliver(
+    rt: &impl Print,
+    port: &[u64; PORT],
+    to_initiator: &mut [u8; QUEUE],
+    limit: u64,
+) -> io::Result<u64> {
+    let now = channel::deliver(rt, to_initiator, limit)?;
+    show_counts(rt, port, now)?;
+    Ok(now)
 }
 
-fn show_records(records: [Record; RECORDS], n: usize) {
+fn show_records(rt: &impl Print, records: [Record; RECORDS], n: usize) -> io::Result<()> {
     let mut i: usize = 0;
     while i < RECORDS {
         if n <= i {
-            return;
+            return Ok(());
         }
-        show::record(records[i]);
+        show::record(rt, records[i])?;
         i += 1;
     }
+    Ok(())
 }
 
 fn marked() -> Record {
@@ -83,20 +94,24 @@ fn untouched(records: [Record; RECORDS], n: usize) -> usize {
 }
 
 // The open commands of a listing, and what it left of the list.
-fn show_listed(records: [Record; RECORDS], n: usize) {
-    show_records(records, n);
-    show::number(b"   the rest of the list: ", untouched(records, n) as u64);
-    show::text(b" records untouched\n");
+fn show_listed(rt: &impl Print, records: [Record; RECORDS], n: usize) -> io::Result<()> {
+    show_records(rt, records, n)?;
+    show::number(
+        rt,
+        b"   the rest of the list: ",
+        untouched(records, n) as u64,
+    )?;
+    show::text(rt, b" records untouched\n")
 }
 
 // The open commands, listed into a list of the owner's.
-pub fn show_list(port: &[u64; PORT]) {
+pub fn show_list(rt: &impl Print, port: &[u64; PORT]) -> io::Result<()> {
     let blank = marked();
     let list = report::lend(port, [blank; RECORDS]);
     let reply = list.reply;
     let records = list.records;
     match reply {
-        Reply::Listed(n) => show_listed(records, n),
-        r => show::refusal(b"   ", r),
+        Reply::Listed(n) => show_listed(rt, records, n),
+        r => show::refusal(rt, b"   ", r),
     }
 }

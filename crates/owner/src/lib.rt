@@ -14,6 +14,7 @@ pub use requests::{
 };
 pub use session::{close, log_in, show_division, submit_login, take_login};
 use srp::{Answer, limits};
+use std::io;
 
 // What the port writes in a call.
 const WRITTEN: usize = limits::LONGEST_WRITTEN_MESSAGE as usize;
@@ -24,18 +25,24 @@ const AGREED: u32 = limits::LONGEST_AGREED;
 const FORMATS: u32 = limits::BOTH_FORMATS;
 
 // What a call wrote joins the queue to the initiator.
-fn send(to_initiator: &mut [u8; QUEUE], buf: &[u8], n: usize) {
+fn send(rt: &impl Print, to_initiator: &mut [u8; QUEUE], buf: &[u8], n: usize) -> io::Result<()> {
     if n == 0 {
-        return;
+        return Ok(());
     }
     if !queue::push(to_initiator, first(buf, n)) {
-        show::text(b"a message that the queue cannot take\n");
+        show::text(rt, b"a message that the queue cannot take\n")?;
     }
+    Ok(())
 }
 
 // The same, and a refusal is shown.
-fn conclude(to_initiator: &mut [u8; QUEUE], buf: &[u8], a: Answer) {
+fn conclude(
+    rt: &impl Print,
+    to_initiator: &mut [u8; QUEUE],
+    buf: &[u8],
+    a: Answer,
+) -> io::Result<()> {
     let reply = a.reply;
-    show::refusal(b"   ", reply);
-    send(to_initiator, buf, a.wrote);
+    show::refusal(rt, b"   ", reply)?;
+    send(rt, to_initiator, buf, a.wrote)
 }
