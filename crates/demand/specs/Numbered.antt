@@ -97,7 +97,7 @@ pub record EachSays : Type 0 where
   pub list : (st : List ℕ) (p : Slice) (κs : Lfts 1) (g : Listing)
       → list-call.Post κs (p, tt) g (p, tt)
       → SaysAs g.reply (list_def (view p.now st) most_buffers)
-  -- `WritesListing` is what the contracts of `list_into` and `lend` cite: a proof by hand exports no `Post`
+  -- `WritesListing` is what the contracts of `list_into` and `lend` cite
   pub list_into_lem : (st : List ℕ) (p : Slice) (before after : List Record) (r : Reply)
       → WritesListing p.now before after r
       → SaysAs r (list_def (view p.now st) (length before))

@@ -19,14 +19,16 @@ loop-i-preserved c =
     let on = c.loop-i-test.true in
     let r = c.load_request-r in
     elim c.if-not-ended.branch [
-      then-not-ended w ↦
-        let stays = sym c.ended.ensures ∙ w.if-not-ended.true in
-        rw (w.s-is, w.kept-is)
-        (elim w.if-kept-i.branch [
-          then-kept-i v ↦ rw v.s-is (drop_kept _ _ _ _ _ _ D on _ r.ensures stays v.shift_slot.new.s v.shift_slot.auto.s v.shift_slot.ensures)
-          | else-kept-i v ↦ rw v.s-is (drop_unmoved _ _ _ _ _ _ D on _ r.ensures stays v.if-kept-i.false) ])
+      | then-not-ended w ↦
+          let stays = sym c.ended.ensures ∙ w.if-not-ended.true in
+          rw (w.s-is, w.kept-is)
+          (elim w.if-kept-i.branch [
+            | then-kept-i v ↦ rw v.s-is (drop_kept _ _ _ _ _ _ D on _ r.ensures stays v.shift_slot.new.s v.shift_slot.auto.s v.shift_slot.ensures)
+            | else-kept-i v ↦ rw v.s-is (drop_unmoved _ _ _ _ _ _ D on _ r.ensures stays v.if-kept-i.false)
+          ])
       | else-not-ended w ↦
-        rw (w.s-is, w.kept-is) (drop_ended _ _ _ _ _ _ D on _ r.ensures (sym c.ended.ensures ∙ w.if-not-ended.false)) ]
+          rw (w.s-is, w.kept-is) (drop_ended _ _ _ _ _ _ D on _ r.ensures (sym c.ended.ensures ∙ w.if-not-ended.false))
+    ]
 
 pub returns : goal.returns
 returns c =

@@ -31,8 +31,9 @@ loop-i-preserved c =
     let K = c.loop-i.invariant in
     let on = c.loop-i-test.true in
     elim c.if-i-but.branch [
-      then-i-but w ↦ rw w.used-is (mark_more _ _ _ _ _ K on w.if-i-but.true w.load_place-k.result w.load_place-k.ensures.0 w.load_place-k.ensures.1)
-      | else-i-but w ↦ rw w.used-is (mark_skip _ _ _ _ _ K on w.if-i-but.false) ]
+      | then-i-but w ↦ rw w.used-is (mark_more _ _ _ _ _ K on w.if-i-but.true w.load_place-k.result w.load_place-k.ensures.0 w.load_place-k.ensures.1)
+      | else-i-but w ↦ rw w.used-is (mark_skip _ _ _ _ _ K on w.if-i-but.false)
+    ]
 
 -- src/lib.rt:30:1
 pub returns : goal.returns

@@ -129,8 +129,8 @@ bring-requires c =
       store_len = c.requires.store_len;
       i_bound = c.requires.found_at.inside;
       holding =
-        rw (c.new_part-out_part.ensures, c.new_part-in_part.ensures)
-        (record { short = ho; few = c.segment_count.ensures.1; counted = omega arith }, record { short = hi; few = c.segment_count-2.ensures.1; counted = omega arith });
+          rw (c.new_part-out_part.ensures, c.new_part-in_part.ensures)
+          (record { short = ho; few = c.segment_count.ensures.1; counted = omega arith }, record { short = hi; few = c.segment_count-2.ensures.1; counted = omega arith });
     }
 
 -- src/lib.rt:75:1

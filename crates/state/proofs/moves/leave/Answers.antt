@@ -20,13 +20,15 @@ loop-i-preserved c =
     let x = c.at-x in
     let t = c.move_leaves in
     elim c.if-not-move_leaves.branch [
-      then-not-move_leaves w ↦
-        rw (w.s-is, w.kept-is)
-        (elim w.if-kept-i.branch [
-          then-kept-i v ↦ rw v.s-is (part_kept _ _ _ _ _ _ D on _ x.ensures (λ st. sym w.if-not-move_leaves.true ∙ t.ensures st) v.put.new.s v.put.auto.s v.put.ensures)
-          | else-kept-i v ↦ rw v.s-is (part_unmoved _ _ _ _ _ _ D on _ x.ensures (λ st. sym w.if-not-move_leaves.true ∙ t.ensures st) v.if-kept-i.false) ])
+      | then-not-move_leaves w ↦
+          rw (w.s-is, w.kept-is)
+          (elim w.if-kept-i.branch [
+            | then-kept-i v ↦ rw v.s-is (part_kept _ _ _ _ _ _ D on _ x.ensures (λ st. sym w.if-not-move_leaves.true ∙ t.ensures st) v.put.new.s v.put.auto.s v.put.ensures)
+            | else-kept-i v ↦ rw v.s-is (part_unmoved _ _ _ _ _ _ D on _ x.ensures (λ st. sym w.if-not-move_leaves.true ∙ t.ensures st) v.if-kept-i.false)
+          ])
       | else-not-move_leaves w ↦
-        rw (w.s-is, w.kept-is) (part_left _ _ _ _ _ _ D on _ x.ensures (λ st. sym w.if-not-move_leaves.false ∙ t.ensures st)) ]
+          rw (w.s-is, w.kept-is) (part_left _ _ _ _ _ _ D on _ x.ensures (λ st. sym w.if-not-move_leaves.false ∙ t.ensures st))
+    ]
 
 pub returns : goal.returns
 returns c =

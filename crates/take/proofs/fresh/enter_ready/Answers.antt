@@ -42,11 +42,11 @@ enter-requires c =
       store_len = c.requires.store_len;
       announced_nonzero = c.requires.bound;
       holds =
-        rw (c.new_part-out_part.ensures, c.not_waiting.ensures)
-        (holds_segments _ a.out_total (listed_short a.c.out a.msg.now _ a.out_total eo S.out_listed));
+          rw (c.new_part-out_part.ensures, c.not_waiting.ensures)
+          (holds_segments _ a.out_total (listed_short a.c.out a.msg.now _ a.out_total eo S.out_listed));
       holds_2 =
-        rw (c.new_part-in_part.ensures, c.not_waiting.ensures)
-        (holds_segments _ a.in_total (listed_short a.c.inn a.msg.now _ a.in_total ei S.in_listed));
+          rw (c.new_part-in_part.ensures, c.not_waiting.ensures)
+          (holds_segments _ a.in_total (listed_short a.c.inn a.msg.now _ a.in_total ei S.in_listed));
     }
 
 -- src/fresh.rt:56:1

@@ -26,11 +26,11 @@ enter-requires c =
       store_len = c.requires.store_len;
       announced_nonzero = c.requires.bound;
       holds =
-        rw (c.new_part-none.ensures, c.placeless.ensures)
-        (holds_standing _ c.standing-out.result.now c.args.c.out c.requires.fits_in.out c.standing-out.ensures.1);
+          rw (c.new_part-none.ensures, c.placeless.ensures)
+          (holds_standing _ c.standing-out.result.now c.args.c.out c.requires.fits_in.out c.standing-out.ensures.1);
       holds_2 =
-        rw (c.new_part-none.ensures, c.placeless-2.ensures)
-        (holds_standing _ c.standing-inn.result.now c.args.c.inn c.requires.fits_in.inn c.standing-inn.ensures.1);
+          rw (c.new_part-none.ensures, c.placeless-2.ensures)
+          (holds_standing _ c.standing-inn.result.now c.args.c.inn c.requires.fits_in.inn c.standing-inn.ensures.1);
     }
 
 -- src/fresh.rt:23:1

@@ -79,12 +79,20 @@ enter_ready-requires c =
     let a = c.args in
     let w = sym c.waits.ensures ∙ c.if-waits.false in
     let F = fields_told a.c.out a.msg.now _ _ c.standing.ensures.0 c.fields.ensures in
-    let G = fields_told a.c.inn a.msg.now _ _ c.standing-2.ensures.0 c.fields-2.ensures in record { s_len = c.requires.s_len; store_len = c.requires.store_len; s_value = c.requires.s_value; bound = c.requires.bound; fits_in = c.requires.fits_in; c_value = w; summed = record {
-                  out_sum = sym F.0 ∙ c.in-Sum.is;
-                  in_sum = sym G.0 ∙ c.in-Sum-fields.is;
-                  out_listed = subst (ListFits (chosen (given a.c.out a.msg.now) _)) c.in-Sum.is F.1;
-                  in_listed = subst (ListFits (chosen (given a.c.inn a.msg.now) _)) c.in-Sum-fields.is G.1;
-                } }
+    let G = fields_told a.c.inn a.msg.now _ _ c.standing-2.ensures.0 c.fields-2.ensures in record {
+      s_len = c.requires.s_len;
+      store_len = c.requires.store_len;
+      s_value = c.requires.s_value;
+      bound = c.requires.bound;
+      fits_in = c.requires.fits_in;
+      c_value = w;
+      summed = record {
+        out_sum = sym F.0 ∙ c.in-Sum.is;
+        in_sum = sym G.0 ∙ c.in-Sum-fields.is;
+        out_listed = subst (ListFits (chosen (given a.c.out a.msg.now) _)) c.in-Sum.is F.1;
+        in_listed = subst (ListFits (chosen (given a.c.inn a.msg.now) _)) c.in-Sum-fields.is G.1;
+      };
+    }
 
 -- src/fresh.rt:94:1
 pub returns : goal.returns
