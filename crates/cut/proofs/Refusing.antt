@@ -81,16 +81,16 @@ module _ (list : List ℕ) (M Q R handed : ℕ) where
         hit_1 bad_setting bad_list bad_segments beyond found
         (first_hits (bad_maximum M) (bad_boundary Q) (second_hits (eqb M 0) (ltb largest_piece M) (ne_eqb M 0 m) (lt-ltb largest_piece M h)))
 
-    module _ (m' : M ≤ largest_piece) {b : Bool} (told-bad : b ≡ bad_boundary Q) where
+    module _ (m' : M ≤ largest_piece) {b : Bool} (told_bad : b ≡ bad_boundary Q) where
       maximum_fine : bad_maximum M ≡ false
       maximum_fine = neither (eqb M 0) (ltb largest_piece M) (ne_eqb M 0 m) (le-ltb largest_piece M m')
 
       pub bad_boundary_lem : b ≡ true → is (CutRefused Setting)
-      bad_boundary_lem e = hit_1 bad_setting bad_list bad_segments beyond found (second_hits (bad_maximum M) (bad_boundary Q) maximum_fine (sym told-bad ∙ e))
+      bad_boundary_lem e = hit_1 bad_setting bad_list bad_segments beyond found (second_hits (bad_maximum M) (bad_boundary Q) maximum_fine (sym told_bad ∙ e))
 
       module _ (q : b ≡ false) where
         pub boundary_fine : bad_boundary Q ≡ false
-        boundary_fine = sym told-bad ∙ q
+        boundary_fine = sym told_bad ∙ q
 
         setting_fine : bad_setting ≡ false
         setting_fine = neither (bad_maximum M) (bad_boundary Q) maximum_fine boundary_fine

@@ -26,7 +26,7 @@ use Rattle.page.specs.Page.{trace_in_c}
 use Rattle.exports.specs.Arguments.{record_size, settings_in, direction_in, way_in}
 use Rattle.exports.specs.Answered.{Answered}
 use Rattle.exports.specs.Calls.{FormatCountsInC}
-use Rattle.login.proofs.login.Reads as login-call
+use Rattle.login.proofs.login.Reads as login_call
 use Rattle.take.proofs.take.Reads as take_call
 use Rattle.tables.proofs.bring.Reads as tables_call
 use Rattle.transfer.proofs.plan.Reads as plan_call
@@ -38,8 +38,8 @@ use Rattle.credit.proofs.add.Reads as add_call
 use Rattle.credit.proofs.withdraw.Reads as withdraw_call
 use Rattle.credit.proofs.grant.Reads as grant_call
 use Rattle.close.proofs.close.Reads as close_call
-use Rattle.report.proofs.counters.Reads as counters-call
-use Rattle.report.proofs.list.Reads as list-call
+use Rattle.report.proofs.counters.Reads as counters_call
+use Rattle.report.proofs.list.Reads as list_call
 use Rattle.demand.specs.Posts.{Slice, MutSlice, LoginPost, TakePost, TablesPost, PlanPost, MovePost, StepPost, TurnPost, FinishPost, AddPost, WithdrawPost, GrantPost, ClosePost, CountersPost, ListPost, LookPost, CutPost, TracePost, FormatCountsPost}
 
 -- of a call by value: the reply r has the number and the values of the outcome
@@ -56,7 +56,7 @@ pub record CountsAs (n : ℕ) (w : List ℕ) (o : Outcome) : Type 0 where
 
 pub record EachSays : Type 0 where
   pub login : (p q : MutSlice) (κs : Lfts 4) (c : Settings) (id m : Slice) (b d : MutSlice) (a : Answer)
-      → login-call.Post κs (p, (c, (id, (m, (b, tt))))) a (q, (c, (id, (m, (d, tt)))))
+      → login_call.Post κs (p, (c, (id, (m, (b, tt))))) a (q, (c, (id, (m, (d, tt)))))
       → SaysAs a.reply (login_def c id.now (length b.now) m.now)
   pub take : (p q : MutSlice) (κs : Lfts 4) (s s' : MutSlice) (m : Slice) (b d : MutSlice) (a : Answer)
       → take_call.Post κs (p, (s, (m, (b, tt)))) a (q, (s', (m, (d, tt))))
@@ -92,10 +92,10 @@ pub record EachSays : Type 0 where
       → close_call.Post κs (p, (reason, (b, tt))) a (q, (reason, (d, tt)))
       → SaysAs a.reply (close_def (view p.now st) (length b.now) reason)
   pub counters : (st : List ℕ) (p : Slice) (κs : Lfts 1) (r : Reply)
-      → counters-call.Post κs (p, tt) r (p, tt)
+      → counters_call.Post κs (p, tt) r (p, tt)
       → SaysAs r (counters_def (view p.now st))
   pub list : (st : List ℕ) (p : Slice) (κs : Lfts 1) (g : Listing)
-      → list-call.Post κs (p, tt) g (p, tt)
+      → list_call.Post κs (p, tt) g (p, tt)
       → SaysAs g.reply (list_def (view p.now st) most_buffers)
   -- `WritesListing` is what the contracts of `list_into` and `lend` cite
   pub list_into_lem : (st : List ℕ) (p : Slice) (before after : List Record) (r : Reply)

@@ -4,22 +4,22 @@
 use Rattle.std.specs.Prelude.{List, ℕ}
 use Rattle.std.specs.Borrow.{Bor, MutBor}
 use contract.Lifetimes.{Lfts}
-use Rattle.exports.proofs.port.srp_target_login.Reads as login-in-c
+use Rattle.exports.proofs.port.srp_target_login.Reads as login_in_c
 use Rattle.exports.proofs.taking.srp_target_take.Reads as take_in_c
 use Rattle.exports.proofs.taking.srp_target_tables.Reads as tables_in_c
-use Rattle.exports.proofs.port.srp_target_plan.Reads as plan-in-c
+use Rattle.exports.proofs.port.srp_target_plan.Reads as plan_in_c
 use Rattle.exports.proofs.port.srp_target_move.Reads as move_in_c
 use Rattle.exports.proofs.port.srp_target_step.Reads as step_in_c
 use Rattle.exports.proofs.port.srp_target_turn.Reads as turn_in_c
-use Rattle.exports.proofs.port.srp_target_finish.Reads as finish-in-c
-use Rattle.exports.proofs.port.srp_target_add.Reads as add-in-c
-use Rattle.exports.proofs.port.srp_target_withdraw.Reads as withdraw-in-c
-use Rattle.exports.proofs.port.srp_target_grant.Reads as grant-in-c
-use Rattle.exports.proofs.port.srp_target_close.Reads as close-in-c
-use Rattle.exports.proofs.port.srp_target_counters.Reads as counters-in-c
-use Rattle.exports.proofs.port.srp_target_list.Reads as list-in-c
-use Rattle.exports.proofs.srp_look.Reads as look-in-c
-use Rattle.exports.proofs.srp_cut.Reads as cut-in-c
+use Rattle.exports.proofs.port.srp_target_finish.Reads as finish_in_c
+use Rattle.exports.proofs.port.srp_target_add.Reads as add_in_c
+use Rattle.exports.proofs.port.srp_target_withdraw.Reads as withdraw_in_c
+use Rattle.exports.proofs.port.srp_target_grant.Reads as grant_in_c
+use Rattle.exports.proofs.port.srp_target_close.Reads as close_in_c
+use Rattle.exports.proofs.port.srp_target_counters.Reads as counters_in_c
+use Rattle.exports.proofs.port.srp_target_list.Reads as list_in_c
+use Rattle.exports.proofs.srp_look.Reads as look_in_c
+use Rattle.exports.proofs.srp_cut.Reads as cut_in_c
 use Rattle.exports.proofs.srp_trace.Reads as trace_in_c_lem
 use Rattle.exports.proofs.srp_format_counts.Reads as format_counts_in_c
 
@@ -32,7 +32,7 @@ MutSlice = MutBor (List ℕ)
 
 -- c are the settings, id the own identifier
 abbrev pub LoginPost : (p q : MutSlice) (c : Slice) (Q : ℕ) (id m : Slice) (b d w v : MutSlice) (n : ℕ) → Type 0
-LoginPost p q c Q id m b d w v n = (κs : Lfts 6) × login-in-c.Post κs (p, (c, (Q, (id, (m, (b, (w, tt))))))) n (q, (c, (Q, (id, (m, (d, (v, tt)))))))
+LoginPost p q c Q id m b d w v n = (κs : Lfts 6) × login_in_c.Post κs (p, (c, (Q, (id, (m, (b, (w, tt))))))) n (q, (c, (Q, (id, (m, (d, (v, tt)))))))
 
 abbrev pub TakePost : (p q st st' : MutSlice) (m : Slice) (b d w v : MutSlice) (n : ℕ) → Type 0
 TakePost p q st st' m b d w v n = (κs : Lfts 5) × take_in_c.Post κs (p, (st, (m, (b, (w, tt))))) n (q, (st', (m, (d, (v, tt)))))
@@ -43,7 +43,7 @@ TablesPost p q st st' out inn b d w v tag n =
     (κs : Lfts 6) × tables_in_c.Post κs (p, (st, (tag, (out, (inn, (b, (w, tt))))))) n (q, (st', (tag, (out, (inn, (d, (v, tt)))))))
 
 abbrev pub PlanPost : (p q : MutSlice) (tag out inn n : ℕ) → Type 0
-PlanPost p q tag out inn n = (κs : Lfts 1) × plan-in-c.Post κs (p, (tag, (out, (inn, tt)))) n (q, (tag, (out, (inn, tt))))
+PlanPost p q tag out inn n = (κs : Lfts 1) × plan_in_c.Post κs (p, (tag, (out, (inn, tt)))) n (q, (tag, (out, (inn, tt))))
 
 abbrev pub MovePost : (p q : MutSlice) (tag direction offset count n : ℕ) → Type 0
 MovePost p q tag direction offset count n =
@@ -58,32 +58,32 @@ TurnPost p q st w v n = (κs : Lfts 3) × turn_in_c.Post κs (p, (st, (w, tt))) 
 -- e is the sense
 abbrev pub FinishPost : (p q : MutSlice) (e : Slice) (b d w v : MutSlice) (tag status n : ℕ) → Type 0
 FinishPost p q e b d w v tag status n =
-    (κs : Lfts 4) × finish-in-c.Post κs (p, (tag, (status, (e, (b, (w, tt)))))) n (q, (tag, (status, (e, (d, (v, tt))))))
+    (κs : Lfts 4) × finish_in_c.Post κs (p, (tag, (status, (e, (b, (w, tt)))))) n (q, (tag, (status, (e, (d, (v, tt))))))
 
 abbrev pub AddPost : (p q : MutSlice) (k n : ℕ) → Type 0
-AddPost p q k n = (κs : Lfts 1) × add-in-c.Post κs (p, (k, tt)) n (q, (k, tt))
+AddPost p q k n = (κs : Lfts 1) × add_in_c.Post κs (p, (k, tt)) n (q, (k, tt))
 
 abbrev pub WithdrawPost : (p q : MutSlice) (k n : ℕ) → Type 0
-WithdrawPost p q k n = (κs : Lfts 1) × withdraw-in-c.Post κs (p, (k, tt)) n (q, (k, tt))
+WithdrawPost p q k n = (κs : Lfts 1) × withdraw_in_c.Post κs (p, (k, tt)) n (q, (k, tt))
 
 abbrev pub GrantPost : (p q b d w v : MutSlice) (n : ℕ) → Type 0
-GrantPost p q b d w v n = (κs : Lfts 3) × grant-in-c.Post κs (p, (b, (w, tt))) n (q, (d, (v, tt)))
+GrantPost p q b d w v n = (κs : Lfts 3) × grant_in_c.Post κs (p, (b, (w, tt))) n (q, (d, (v, tt)))
 
 abbrev pub ClosePost : (p q b d w v : MutSlice) (reason n : ℕ) → Type 0
-ClosePost p q b d w v reason n = (κs : Lfts 3) × close-in-c.Post κs (p, (reason, (b, (w, tt)))) n (q, (reason, (d, (v, tt))))
+ClosePost p q b d w v reason n = (κs : Lfts 3) × close_in_c.Post κs (p, (reason, (b, (w, tt)))) n (q, (reason, (d, (v, tt))))
 
 abbrev pub CountersPost : (p : Slice) (w v : MutSlice) (n : ℕ) → Type 0
-CountersPost p w v n = (κs : Lfts 2) × counters-in-c.Post κs (p, (w, tt)) n (p, (v, tt))
+CountersPost p w v n = (κs : Lfts 2) × counters_in_c.Post κs (p, (w, tt)) n (p, (v, tt))
 
 abbrev pub ListPost : (p : Slice) (before after w v : MutSlice) (n : ℕ) → Type 0
-ListPost p before after w v n = (κs : Lfts 3) × list-in-c.Post κs (p, (before, (w, tt))) n (p, (after, (v, tt)))
+ListPost p before after w v n = (κs : Lfts 3) × list_in_c.Post κs (p, (before, (w, tt))) n (p, (after, (v, tt)))
 
 abbrev pub LookPost : (m : Slice) (b d : MutSlice) (agreed formats n : ℕ) → Type 0
-LookPost m b d agreed formats n = (κs : Lfts 2) × look-in-c.Post κs (m, (agreed, (formats, (b, tt)))) n (m, (agreed, (formats, (d, tt))))
+LookPost m b d agreed formats n = (κs : Lfts 2) × look_in_c.Post κs (m, (agreed, (formats, (b, tt)))) n (m, (agreed, (formats, (d, tt))))
 
 -- l is the list of memory descriptors
 abbrev pub CutPost : (l : Slice) (b d : MutSlice) (M Q R handed n : ℕ) → Type 0
-CutPost l b d M Q R handed n = (κs : Lfts 2) × cut-in-c.Post κs (l, (M, (Q, (R, (handed, (b, tt)))))) n (l, (M, (Q, (R, (handed, (d, tt))))))
+CutPost l b d M Q R handed n = (κs : Lfts 2) × cut_in_c.Post κs (l, (M, (Q, (R, (handed, (b, tt)))))) n (l, (M, (Q, (R, (handed, (d, tt))))))
 
 abbrev pub TracePost : (m : Slice) (b d : MutSlice) (direction n : ℕ) → Type 0
 TracePost m b d direction n = (κs : Lfts 2) × trace_in_c_lem.Post κs (m, (direction, (b, tt))) n (m, (direction, (d, tt)))

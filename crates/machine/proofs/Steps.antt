@@ -18,7 +18,7 @@ use Rattle.srp.specs.Credit.{Side, movable, with_sides, on_side, Open, rule_of, 
 use Rattle.srp.specs.Line.{in_line, Lined, joins, put_back, keeps_place}
 use Rattle.srp.specs.Take.{is_open_lem}
 use Rattle.srp.specs.declared.Terms.{Terms}
-use Rattle.srp.specs.Calls.{is_planned, planned, moving, beyond, has_pieces, unfinished, altered, move_checks, move_def, kind_of, handing, next_in, next_of, number_in, wrapped, hand_out_lem, step_checks, step_def}
+use Rattle.srp.specs.Calls.{is_planned, moving, beyond, has_pieces, unfinished, altered, move_checks, move_def, kind_of, handing, next_in, next_of, number_in, wrapped, hand_out_lem, step_checks, step_def}
 use Rattle.srp.specs.Answers.{refusal_in}
 use Rattle.machine.specs.Machine.{Progress, so_far, movable_in, Track, with_move, with_operation, Machine, tracked, with_moving, Login}
 use Rattle.machine.specs.Actions.{by_owner}

@@ -23,7 +23,7 @@ use Rattle.srp.specs.Answers.{refusal_in}
 use Rattle.machine.specs.Machine.{deltas, requests, Track, new_track, Work, Machine, with_work, with_queue, took_request, took_command, with_ended, Login, read}
 use Rattle.machine.specs.Operations.{pieces_left}
 use Rattle.machine.specs.Actions.{at_front}
-use Rattle.machine.specs.Events.{reading, after_refusal, refusal_writes, front_effect, front_writes, front_closes, taking as takingOf}
+use Rattle.machine.specs.Events.{reading, after_refusal, refusal_writes, front_effect, front_writes, front_closes, taking as taking_of}
 use Rattle.srp.specs.declared.Refusal.{Refusal}
 use Rattle.srp.specs.declared.Refusal.TheVariants.{NoCredit}
 use Rattle.srp.specs.declared.Message.{Message}
@@ -213,7 +213,7 @@ module _ {L : Login} {m : Machine} {p : Port} (h : Ok L m p) (room : ℕ) where
   paying (s ∷ ss) e r =
       credited h s ss e room (read L s) (read_by_type L.terms.agreed L.terms.formats s) (subst (λ (o : Outcome). o.reply ≡ Refused NoCredit) (take_same s) r)
 
-  pub take_obeys : Obeys L m (takingOf L room) (outcome m.wire.to_port)
+  pub take_obeys : Obeys L m (taking_of L room) (outcome m.wire.to_port)
   take_obeys =
       let q = m.wire.to_port in
-      obeying m (takingOf L room) (outcome q) (fine q refl) (wrote q) (refuses q) (paying q refl)
+      obeying m (taking_of L room) (outcome q) (fine q refl) (wrote q) (refuses q) (paying q refl)

@@ -7,7 +7,7 @@ use lib.ListN.{length, take, drop, length-replicate, replicate-append-replicate}
 use lib.Seq.{take_at, drop_at}
 use Rattle.srp.specs.Outside.{hex}
 use Rattle.text.proofs.Digits.{length_hex}
-use Rattle.page.specs.Page.{sign, letters, spaces, padded, count_text_lem, hex_text, number_text, over, columns, hex_columns, number_columns, InColumns}
+use Rattle.page.specs.Page.{sign, letters, spaces, padded, count_text_lem, hex_text, number_text, over, hex_columns, number_columns, InColumns}
 use Rattle.page.specs.declared.Entry.{Entry}
 use Rattle.page.specs.declared.Entry.TheVariants.{Blank, Number}
 use Rattle.page.proofs.Lines.{over_nothing, letters_long, count_long}

@@ -12,7 +12,7 @@ use Rattle.srp.specs.Bytes.{bytes, get, gets, type_of, write}
 use Rattle.srp.specs.Messages.{tag, lun, delta, reason, out_format, in_format, rspvalid, snsvalid, sense_length, login_req, tsk_mgmt, i_logout, cred_rsp, login_rsp, login_rej, rsp, cred_req, t_logout}
 use Rattle.srp.specs.ReadBack.{Written}
 use Rattle.srp.specs.Requests.{flag, exact_length}
-use Rattle.srp.specs.Initiator.{Buffer, no_data, direct, indirect, format_of, CommandFields, values, Reads}
+use Rattle.srp.specs.Initiator.{Buffer, no_data, direct, indirect, format_of, CommandFields, Reads}
 use Rattle.srp.proofs.Layouts.{written}
 use Rattle.srp.proofs.Commands.{get_behind, command_read}
 use Rattle.page.specs.Types.{type_named_lem, response_size, strange_format, fits, name_of}
@@ -27,7 +27,7 @@ use Rattle.page.specs.declared.Entry.TheVariants.{Blank, Number}
 -- ── its type
 
 -- each code names its type
-code-names :
+code_names :
     (type_named_lem 0x00 ≡ LoginReq)
     × (type_named_lem 0x01 ≡ TskMgmt)
     × (type_named_lem 0x02 ≡ Cmd)
@@ -39,7 +39,7 @@ code-names :
     × (type_named_lem 0x81 ≡ CredReq)
     × (type_named_lem 0x80 ≡ TLogout)
 unfolding type_named_lem
-code-names = (refl, refl, refl, refl, refl, refl, refl, refl, refl, refl)
+code_names = (refl, refl, refl, refl, refl, refl, refl, refl, refl, refl)
 
 module _ (w : Way) (s : List ℕ) where
   -- a message of the code k, which names m, and of m's length
@@ -64,14 +64,14 @@ module _ (w : Way) (s : List ℕ) where
   login_request t n f c l a i g W e =
       let v : gets login_req.fields s ≡ t ∷ n ∷ f ∷ c ∷ l ∷ a ∷ i ∷ g ∷ [] = ap (gets login_req.fields) e ∙ W.values in
       let at : get tag s ≡ t = cc v in
-      shown LoginReq (ap type_of e ∙ W.code) code-names.0 (eq-eqb (length s) 64 (ap (length {A = ℕ}) e ∙ W.long)) ∙ tag_is LoginReq t at Blank Blank Blank
+      shown LoginReq (ap type_of e ∙ W.code) code_names.0 (eq-eqb (length s) 64 (ap (length {A = ℕ}) e ∙ W.long)) ∙ tag_is LoginReq t at Blank Blank Blank
 
   task : (u c t l f k : ℕ) → Written tsk_mgmt (u ∷ c ∷ t ∷ l ∷ f ∷ k ∷ []) → s ≡ write tsk_mgmt (u ∷ c ∷ t ∷ l ∷ f ∷ k ∷ []) → Shows w s TskMgmt t (Number l) Blank Blank
   task u c t l f k W e =
       let v : gets tsk_mgmt.fields s ≡ u ∷ c ∷ t ∷ l ∷ f ∷ k ∷ [] = ap (gets tsk_mgmt.fields) e ∙ W.values in
       let at : get tag s ≡ t = cc v in
       let of : get lun s ≡ l = cc v in
-      shown TskMgmt (ap type_of e ∙ W.code) code-names.1 (eq-eqb (length s) 48 (ap (length {A = ℕ}) e ∙ W.long))
+      shown TskMgmt (ap type_of e ∙ W.code) code_names.1 (eq-eqb (length s) 48 (ap (length {A = ℕ}) e ∙ W.long))
       ∙ tag_is TskMgmt t at (Number (get lun s)) Blank Blank
       ∙ ap (λ (x : ℕ). line_text (record { way = w; name = TskMgmt; tag = Number t; lun = Number x; number = Blank; code = Blank })) of
 
@@ -79,12 +79,12 @@ module _ (w : Way) (s : List ℕ) where
   initiator_logout : (t : ℕ) → Written i_logout (t ∷ []) → s ≡ write i_logout (t ∷ []) → Shows w s ILogout t Blank Blank Blank
   initiator_logout t W e =
       let at : get tag s ≡ t = cc (ap (gets i_logout.fields) e ∙ W.values) in
-      shown ILogout (ap type_of e ∙ W.code) code-names.3 (eq-eqb (length s) 16 (ap (length {A = ℕ}) e ∙ W.long)) ∙ tag_is ILogout t at Blank Blank Blank
+      shown ILogout (ap type_of e ∙ W.code) code_names.3 (eq-eqb (length s) 16 (ap (length {A = ℕ}) e ∙ W.long)) ∙ tag_is ILogout t at Blank Blank Blank
 
   credit_response : (t : ℕ) → Written cred_rsp (t ∷ []) → s ≡ write cred_rsp (t ∷ []) → Shows w s CredRsp t Blank Blank Blank
   credit_response t W e =
       let at : get tag s ≡ t = cc (ap (gets cred_rsp.fields) e ∙ W.values) in
-      shown CredRsp (ap type_of e ∙ W.code) code-names.4 (eq-eqb (length s) 16 (ap (length {A = ℕ}) e ∙ W.long)) ∙ tag_is CredRsp t at Blank Blank Blank
+      shown CredRsp (ap type_of e ∙ W.code) code_names.4 (eq-eqb (length s) 16 (ap (length {A = ℕ}) e ∙ W.long)) ∙ tag_is CredRsp t at Blank Blank Blank
 
   -- a delta, or a reason, at the same place
   with_delta : (m : Name) (t d : ℕ) → get delta s ≡ d → line_text (record { way = w; name = m; tag = Number t; lun = Blank; number = Number (get delta s); code = Blank }) ≡ line_text (record { way = w; name = m; tag = Number t; lun = Blank; number = Number d; code = Blank })
@@ -98,7 +98,7 @@ module _ (w : Way) (s : List ℕ) where
       let v : gets login_rsp.fields s ≡ d ∷ t ∷ a ∷ b ∷ f ∷ k ∷ [] = ap (gets login_rsp.fields) e ∙ W.values in
       let at : get tag s ≡ t = cc v in
       let of : get delta s ≡ d = cc v in
-      shown LoginRsp (ap type_of e ∙ W.code) code-names.5 (eq-eqb (length s) 52 (ap (length {A = ℕ}) e ∙ W.long))
+      shown LoginRsp (ap type_of e ∙ W.code) code_names.5 (eq-eqb (length s) 52 (ap (length {A = ℕ}) e ∙ W.long))
       ∙ tag_is LoginRsp t at Blank (Number (get delta s)) Blank
       ∙ with_delta LoginRsp t d of
 
@@ -107,7 +107,7 @@ module _ (w : Way) (s : List ℕ) where
       let v : gets login_rej.fields s ≡ r ∷ t ∷ f ∷ [] = ap (gets login_rej.fields) e ∙ W.values in
       let at : get tag s ≡ t = cc v in
       let of : get reason s ≡ r = cc v in
-      shown LoginRej (ap type_of e ∙ W.code) code-names.6 (eq-eqb (length s) 32 (ap (length {A = ℕ}) e ∙ W.long))
+      shown LoginRej (ap type_of e ∙ W.code) code_names.6 (eq-eqb (length s) 32 (ap (length {A = ℕ}) e ∙ W.long))
       ∙ tag_is LoginRej t at Blank Blank (Number (get reason s))
       ∙ with_reason LoginRej t r of
 
@@ -116,7 +116,7 @@ module _ (w : Way) (s : List ℕ) where
       let v : gets cred_req.fields s ≡ o ∷ d ∷ t ∷ [] = ap (gets cred_req.fields) e ∙ W.values in
       let at : get tag s ≡ t = cc v in
       let of : get delta s ≡ d = cc v in
-      shown CredReq (ap type_of e ∙ W.code) code-names.8 (eq-eqb (length s) 16 (ap (length {A = ℕ}) e ∙ W.long))
+      shown CredReq (ap type_of e ∙ W.code) code_names.8 (eq-eqb (length s) 16 (ap (length {A = ℕ}) e ∙ W.long))
       ∙ tag_is CredReq t at Blank (Number (get delta s)) Blank
       ∙ with_delta CredReq t d of
 
@@ -125,7 +125,7 @@ module _ (w : Way) (s : List ℕ) where
       let v : gets t_logout.fields s ≡ o ∷ r ∷ t ∷ [] = ap (gets t_logout.fields) e ∙ W.values in
       let at : get tag s ≡ t = cc v in
       let of : get reason s ≡ r = cc v in
-      shown TLogout (ap type_of e ∙ W.code) code-names.9 (eq-eqb (length s) 16 (ap (length {A = ℕ}) e ∙ W.long))
+      shown TLogout (ap type_of e ∙ W.code) code_names.9 (eq-eqb (length s) 16 (ap (length {A = ℕ}) e ∙ W.long))
       ∙ tag_is TLogout t at Blank Blank (Number (get reason s))
       ∙ with_reason TLogout t r of
 
@@ -144,7 +144,7 @@ command w s c R =
     let inn : get in_format s ≡ format_of c.inn = cc R.fields in
     let known : strange_format s ≡ false = rw (out, inn, le-ltb 2 (format_of c.out) (low_format c.out), le-ltb 2 (format_of c.inn) (low_format c.inn)) in
     let fit : fits Cmd (length s) s ≡ true = rw (eq-eqb (length s) (exact_length s) R.long, known) in
-    shown w s Cmd R.code code-names.2 fit
+    shown w s Cmd R.code code_names.2 fit
     ∙ tag_is w s Cmd c.request.tag at (Number (get lun s)) Blank Blank
     ∙ ap (λ (x : ℕ). line_text (record { way = w; name = Cmd; tag = Number c.request.tag; lun = Number x; number = Blank; code = Blank })) of
 
@@ -169,7 +169,7 @@ response w s o d t v n a b x y z p q sense k rest W F e =
     let code : get rsp_code s ≡ get (bytes 3 1) rest =
     get_behind (bytes 3 1) 36 s ∙ ap (λ (l : List ℕ). get (bytes 3 1) (drop 36 l)) e
     ∙ ap (get (bytes 3 1)) (drop_at (write rsp (o ∷ d ∷ t ∷ v ∷ n ∷ a ∷ b ∷ x ∷ y ∷ z ∷ p ∷ q ∷ sense ∷ k ∷ [])) rest 36 fixed) in
-    shown w s Rsp (ap type_of e ∙ W.code_before rest) code-names.7 (eq-eqb (length s) (response_size s) whole)
+    shown w s Rsp (ap type_of e ∙ W.code_before rest) code_names.7 (eq-eqb (length s) (response_size s) whole)
     ∙ tag_is w s Rsp t at Blank (Number (get delta s)) (cond (flag (get rspvalid s)) (Number (get rsp_code s)) Blank)
     ∙ ap (λ (m : ℕ). line_text (record { way = w; name = Rsp; tag = Number t; lun = Blank; number = Number m; code = cond (flag (get rspvalid s)) (Number (get rsp_code s)) Blank })) of
     ∙ ap (λ (m : ℕ). line_text (record { way = w; name = Rsp; tag = Number t; lun = Blank; number = Number d; code = cond (flag m) (Number (get rsp_code s)) Blank })) valid

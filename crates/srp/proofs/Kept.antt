@@ -19,7 +19,7 @@ use Rattle.srp.specs.Credit.{Side, Open, has_tag, Distinct, rule_of, Port, due, 
 use Rattle.srp.specs.Line.{Lined, left_by}
 use Rattle.srp.specs.Take.{Outcome, leaving, conducted, Tables, no_tables, given_in, tables_fit, fields_fit, waits, ready, waiting, new_side, new_open, aborted, take_checks, accepted, take_by, take_def}
 use Rattle.srp.specs.Tables.{bad_lengths, bad_tables, tables_checks, brought_to, brought as withTables, tables_refused, tables_by, tables_def}
-use Rattle.srp.specs.Calls.{unless, planned as withPlan, plan_checks, plan_def, has_pieces, requiring, finish_checks, finish_def, add_checks, add_def, withdraw_checks, withdraw_def, grant_checks, grant_def, close_def, close_checks}
+use Rattle.srp.specs.Calls.{unless, planned as with_plan, plan_checks, plan_def, has_pieces, requiring, finish_checks, finish_def, add_checks, add_def, withdraw_checks, withdraw_def, grant_checks, grant_def, close_def, close_checks}
 use Rattle.srp.specs.Ranges.{SideRanges, OpenRanges, Ranges, Ranged}
 use Rattle.srp.specs.declared.Refusal.{Refusal}
 use Rattle.srp.specs.declared.Command.{Command}
@@ -187,7 +187,7 @@ module _ {p : Port} (v : Ranges p) where
   pub plan_kept : (tag out inn : ℕ) → out < 2 ^ 32 → inn < 2 ^ 32 → Ranged (plan_def p tag out inn).port
   plan_kept tag out inn ho hi =
       unless_kept v (first_of_checks (plan_checks p tag)) _ λ e.
-      changed v tag (withPlan out inn) p.line (λ c. refl) (λ c f r.
+      changed v tag (with_plan out inn) p.line (λ c. refl) (λ c f r.
       let u = r.unplanned (rw f at (passes (plan_checks p tag) e).1.1.1.0) in
       record {
         tag = r.tag;
@@ -195,9 +195,9 @@ module _ {p : Port} (v : Ranges p) where
         sides = (requires c.sides.out out r.sides.0 u.0 ho, requires c.sides.inn inn r.sides.1 u.1 hi);
         unplanned = λ z. absurd (true≢false z);
       })
-      (same_line v tag (withPlan out inn) (λ c. refl) (λ c f d. keeps c d))
+      (same_line v tag (with_plan out inn) (λ c. refl) (λ c f d. keeps c d))
     where
-      keeps : (c : Open) (d : Direction) → has_pieces (of d (withPlan out inn c).sides) ≡ has_pieces (of d c.sides)
+      keeps : (c : Open) (d : Direction) → has_pieces (of d (with_plan out inn c).sides) ≡ has_pieces (of d c.sides)
       keeps c Out = refl
       keeps c In = refl
 

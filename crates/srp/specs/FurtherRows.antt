@@ -3,8 +3,7 @@ use Rattle.std.specs.Prelude.{true, false, List, [], ◌∷◌, ◌++◌, ℕ, p
 use Rattle.srp.specs.Bytes.{bytes_of}
 use Rattle.srp.specs.declared.Settings.{Settings}
 use Rattle.srp.specs.declared.Direction.TheVariants.{Out, In}
-use Rattle.srp.specs.Cutting.{piece}
-use Rattle.srp.specs.Rows.{parts, Row, Seen, accepted, t_logout_lem, cdbs, cmd_bytes, command, counters, counts, cuts, done, listed, lists, login_req_lem, logs_in, looks, message, no_data_lem, logs_in_with, own, performed, prints, refused, rejected, login_rej_lem, segment, settings, takes_in, text, tsk_mgmt_lem, login_rsp_lem}
+use Rattle.srp.specs.Rows.{parts, Row, Seen, accepted, t_logout_lem, cdbs, cmd_bytes, command, counters, counts, cuts, listed, lists, login_req_lem, logs_in, looks, message, no_data_lem, logs_in_with, own, performed, prints, refused, rejected, login_rej_lem, segment, settings, takes_in, text, tsk_mgmt_lem, login_rsp_lem}
 use Rattle.srp.specs.BoundaryRows.{boundaries}
 use Rattle.srp.specs.WaitingRows.{waitings}
 use Rattle.srp.specs.Table.{on_port, from_closed, direct_in, entries, table, two_entries, bench, tasks, fields, hang_ups, calls}

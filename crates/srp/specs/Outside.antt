@@ -1,5 +1,5 @@
 -- Document 01, "Open commands, C calls, cutlist", and document 02, job 6: look and the cut as C calls them, and what cutlist prints.
-use Rattle.std.specs.Prelude.{true, false, cond, not, ◌||◌, List, [], ◌∷◌, ◌++◌, ℕ, zero, suc, ◌+◌, ◌/◌, ◌%◌, ◌^◌, ltb, eqb}
+use Rattle.std.specs.Prelude.{true, false, cond, not, List, [], ◌∷◌, ◌++◌, ℕ, zero, suc, ◌+◌, ◌/◌, ◌%◌, ◌^◌, ltb}
 use Rattle.std.proofs.Math.Option.{none, some}
 use Rattle.srp.specs.Limits.{answer_size, longest_agreed, both_formats}
 use Rattle.srp.specs.Bytes.{bytes_of, puts, zeros}

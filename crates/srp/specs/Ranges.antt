@@ -3,7 +3,6 @@
 use Rattle.std.specs.Prelude.{◌≡◌, ◌⊎◌, ◌↔◌, true, false, cond, List, [], ◌∷◌, ℕ, ◌+◌, ◌-◌, ◌/◌, ◌^◌, ◌≤◌, ◌<◌, eqb, length}
 use Rattle.std.proofs.Math.Option.{some}
 use Rattle.srp.specs.Limits.{most_buffers, most_moves, largest_piece, most_copies}
-use Rattle.srp.specs.Messages.{tag}
 use Rattle.srp.specs.Lists.{find, All, is_some}
 use Rattle.srp.specs.Descriptors.{standing_size_lem, Given, sum_of, reachable}
 use Rattle.srp.specs.Cutting.{cuts_of, bad_boundary}

@@ -3,9 +3,8 @@
 use Rattle.std.specs.Prelude.{true, List, [], ◌∷◌, ◌++◌, ℕ, pos, negsuc, take, replicate}
 use Rattle.srp.specs.Bytes.{bytes_of}
 use Rattle.srp.specs.declared.Direction.TheVariants.{Out, In}
-use Rattle.srp.specs.Cutting.{piece}
 use Rattle.srp.specs.Take.{no_tables}
-use Rattle.srp.specs.Rows.{Act, Row, Seen, accepted, adds, brings, brings_in, cred_req_lem, tag_only, t_logout_lem, closes, cmd_bytes, rsp_code_lem, command, counters, counts, done, finish, finishes, rsp_good, grants, listed, lists, logged_out_lem, login_req_lem, logs_in, message, names, no_data_lem, logs_in_with, own, performed, plans, plans_in, reads, refused, rsp_bytes, segment, settings, settled, steps, steps_in, takes, takes_in, task, tsk_mgmt_lem, login_rsp_lem, waiting, withdraws, writes}
+use Rattle.srp.specs.Rows.{Act, Row, Seen, accepted, adds, brings, brings_in, cred_req_lem, tag_only, t_logout_lem, closes, cmd_bytes, rsp_code_lem, command, counters, counts, done, finish, finishes, rsp_good, grants, listed, lists, logged_out_lem, login_req_lem, logs_in, names, no_data_lem, logs_in_with, own, performed, plans, plans_in, reads, refused, rsp_bytes, segment, settings, settled, steps, steps_in, takes, takes_in, task, tsk_mgmt_lem, login_rsp_lem, waiting, withdraws, writes}
 
 -- a row on a port that a login with 4 buffers opened
 abbrev pub on_port : List Act → List Seen → Row

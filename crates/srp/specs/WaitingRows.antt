@@ -4,7 +4,7 @@ use Rattle.std.specs.Prelude.{List, [], ◌∷◌, ◌++◌, ℕ, pos, take}
 use Rattle.srp.specs.Bytes.{bytes_of}
 use Rattle.srp.specs.Take.{Tables, no_tables}
 use Rattle.srp.specs.declared.Direction.TheVariants.{Out, In}
-use Rattle.srp.specs.Rows.{Act, Row, Seen, brings, brings_in, cmd_bytes, command, counters, counts, done, finish, finishes, listed, lists, logged_out_lem, names, no_data_lem, performed, plans, plans_in, reads, refused, rsp_code_lem, rsp_good, segment, steps, steps_in, t_logout_lem, tag_only, takes_in, task, tsk_mgmt_lem, waiting, writes}
+use Rattle.srp.specs.Rows.{Act, Row, brings, brings_in, cmd_bytes, command, counters, counts, done, finish, finishes, listed, lists, logged_out_lem, names, no_data_lem, performed, plans, reads, refused, rsp_code_lem, rsp_good, segment, steps, t_logout_lem, tag_only, takes_in, task, tsk_mgmt_lem, waiting, writes}
 use Rattle.srp.specs.Table.{on_port, direct_in, table, two_entries}
 
 -- tables for data-out and data-in

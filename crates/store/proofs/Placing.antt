@@ -1,25 +1,21 @@
 -- Lists written at a place of the store, each over what stood there: what the command of that place reads then, and that all else stays.
 -- Assumes nothing.
 use mathlib.Core.Path.{◌≡◌, refl, sym, ◌∙◌, ap}
-use mathlib.Core.Bool.{Bool, true, false, cond}
-use mathlib.Core.List.{List, [], ◌∷◌, ◌++◌}
+use mathlib.Core.List.{List, ◌++◌}
 use mathlib.Core.Logic.{◌⊎◌, inl, inr, ⊎_elim}
-use mathlib.Core.Option.{Option, none, some}
 use Prim.Native.Nat.{ℕ, ◌+◌, ◌*◌, ◌≤◌, ◌<◌}
 use native.Mathlib.Omega.{arith}
 use lib.ListN.{length, take, drop, length-drop}
-use lib.Seq.{paste, length-paste, drop-paste, drop-drop, take_all, take-append-le, take-take}
+use lib.Seq.{paste, length-paste, drop-drop, take_all}
 use Rattle.srp.specs.Lists.{over}
-use Rattle.srp.specs.Both.{Both}
-use Rattle.srp.specs.Descriptors.{standing_size_lem, Given}
-use Rattle.srp.specs.Credit.{Side}
+use Rattle.srp.specs.Descriptors.{standing_size_lem}
 use Rattle.srp.specs.declared.Descriptor.{Descriptor}
 use Rattle.srp.specs.declared.Direction.TheVariants.{Out, In}
 use Rattle.srp.proofs.Segments.{standing_short}
 use Rattle.words.specs.declared.Part.{Part}
 use Rattle.words.specs.declared.Slot.{Slot}
 use Rattle.words.specs.Sizes.{most_slots, list_size, place_size, store_size}
-use Rattle.words.specs.Slots.{PartFits, TableFits, SlotFits, place_at_lem, place_for_lem}
+use Rattle.words.specs.Slots.{PartFits, TableFits, SlotFits, place_for_lem}
 use Rattle.words.specs.View.{side_of, given_of, open_of}
 use Rattle.words.proofs.Slots.{apart, from_written, either}
 use Rattle.store.specs.Places.{open_in}

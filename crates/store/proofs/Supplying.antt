@@ -2,15 +2,15 @@
 -- Assumes nothing.
 use mathlib.Core.Path.{◌≡◌, refl, sym, ◌∙◌, ap, subst}
 use mathlib.Core.Bool.{Bool, true, false}
-use mathlib.Core.List.{List, [], ◌∷◌, ◌++◌, append-nil}
+use mathlib.Core.List.{List, [], ◌∷◌, ◌++◌}
 use mathlib.Core.Logic.{◌⊎◌, inl, inr, ⊎_elim}
 use Prim.Native.Nat.{ℕ, zero, suc, ◌+◌, ◌-◌, ◌*◌, ◌≤◌, ◌<◌}
 use native.Mathlib.Omega.{arith}
 use native.Mathlib.Nat.{zero-add, suc-add}
 use borrow.Author.Tests.{leb-true, leb-false}
 use lib.Dec.{leb}
-use lib.ListN.{length, get_or, take, drop, length-drop, length-take, take-append-drop, drop_of_length-le}
-use lib.Seq.{paste, length-paste, drop-drop, take-length, take-nil, take-append-le, take-append-add, get_or-take, get_or-set_same}
+use lib.ListN.{length, get_or, take, drop, length-drop, length-take, take-append-drop}
+use lib.Seq.{paste, length-paste, drop-drop, take-nil, take-append-le, take-append-add, get_or-take, get_or-set_same}
 use Rattle.srp.specs.Lists.{over}
 use Rattle.srp.specs.declared.Direction.{Direction}
 use Rattle.srp.specs.declared.Direction.TheVariants.{Out, In}
@@ -71,7 +71,7 @@ module _ (st : List ℕ) (long : length st ≡ store_size) (p k : ℕ) (hp : p <
           let f : place_size * p + list_size ≡ p * place_size + list_size = omega arith in
           rw (e, f) (part list_size n (omega arith))
 
-  -- as `bytes::copy` brings them to a list z of that length
+  -- as they are copied, to a list of that length and from there
   pub carried_by : (x : List ℕ) (m : ℕ) → m ≡ place_size → x ≡ take m (drop (p * place_size) st) → Carried st (paste st (k * place_size) x (length x)) p k
   carried_by x m e q =
       let all : x ≡ kept = rw e at q in

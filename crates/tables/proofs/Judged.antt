@@ -3,14 +3,12 @@
 use mathlib.Core.Path.{◌≡◌, refl, sym, ◌∙◌, ap, subst}
 use mathlib.Core.Bool.{true, false}
 use mathlib.Core.List.{List}
-use mathlib.Core.Option.{some}
 use Prim.Native.Nat.{ℕ, ◌+◌, ◌*◌, ◌%◌, ◌^◌, ◌≤◌, ◌<◌}
 use native.Mathlib.Omega.{arith}
 use lib.ListN.{length, get_or}
 use Rattle.srp.specs.Limits.{buffer_size}
 use Rattle.srp.specs.Both.{Both}
 use Rattle.srp.specs.Descriptors.{fetched, Given, chosen, segments, sum_of, reachable, good_format, good_fields}
-use Rattle.srp.specs.Credit.{with_held}
 use Rattle.srp.specs.Take.{silent, new_side}
 use Rattle.srp.specs.Tables.{brought, tables_outcome, tables_def}
 use Rattle.srp.specs.declared.Descriptor.{Descriptor}
@@ -22,7 +20,6 @@ use Rattle.cut.specs.declared.Total.{Total}
 use Rattle.cut.specs.declared.Total.TheVariants.{Sum, Wrong}
 use Rattle.command.specs.Reading.{ListFits, FieldsRead}
 use Rattle.command.proofs.Judged.{fields_wrong, fields_right}
-use Rattle.words.specs.declared.Part.{Part}
 use Rattle.words.specs.declared.Slot.{Slot}
 use Rattle.words.specs.Sizes.{list_size, place_size}
 use Rattle.words.specs.Slots.{slots, no_slot, SlotIs, place_for_lem}

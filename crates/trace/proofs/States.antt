@@ -199,15 +199,15 @@ first k c r st A =
 
 -- a further one, c, behind the first, x, and cs: m, vs and d are what these say
 module _ (k x : ℕ) (cs : List ℕ) (c : ℕ) (r : Reader) (st : List ℕ) (A : At k (x ∷ cs) r st) (room : length cs + 2 < 2 ^ 64)
-    (m : Content) (vs : Option (List ℕ)) (d : Digit) (is_m : content_by x ≡ m) (is-vs : values_of cs ≡ vs) (is-d : digit_of_lem c ≡ d) where
+    (m : Content) (vs : Option (List ℕ)) (d : Digit) (is_m : content_by x ≡ m) (is_vs : values_of cs ≡ vs) (is_d : digit_of_lem c ≡ d) where
   was : (r.content ≡ after m vs) × Held m vs r st
   was =
-      subst (λ (q : Option (List ℕ)). (r.content ≡ after m q) × Held m q r st) is-vs
+      subst (λ (q : Option (List ℕ)). (r.content ≡ after m q) × Held m q r st) is_vs
       (subst (λ (q : Content). (r.content ≡ after q (values_of cs)) × Held q (values_of cs) r st) is_m A.state)
 
   becomes : (r' : Reader) (st' : List ℕ) → (r'.content ≡ after m (further vs d)) × Held m (further vs d) r' st' → State (x ∷ cs ++ (c ∷ [])) r' st'
   becomes r' st' S =
-      let more : values_of (cs ++ (c ∷ [])) ≡ further vs d = values_more cs c ∙ ap (λ (q : Option (List ℕ)). further q (digit_of_lem c)) is-vs ∙ ap (further vs) is-d in
+      let more : values_of (cs ++ (c ∷ [])) ≡ further vs d = values_more cs c ∙ ap (λ (q : Option (List ℕ)). further q (digit_of_lem c)) is_vs ∙ ap (further vs) is_d in
       subst (λ (q : Content). (r'.content ≡ after q (values_of (cs ++ (c ∷ [])))) × Held q (values_of (cs ++ (c ∷ []))) r' st') (sym is_m)
       (subst (λ (q : Option (List ℕ)). (r'.content ≡ after m q) × Held m q r' st') (sym more) S)
 

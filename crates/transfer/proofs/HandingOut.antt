@@ -7,7 +7,6 @@ use mathlib.Core.Option.{Option}
 use Prim.Native.Nat.{ℕ, ◌+◌}
 use lib.Dec.{ltb}
 use lib.ListN.{get_or}
-use Rattle.srp.specs.Both.{of}
 use Rattle.srp.specs.Credit.{Side, on_side}
 use Rattle.srp.specs.Calls.{has_pieces, handing, next_in}
 use Rattle.srp.specs.declared.Direction.{Direction}

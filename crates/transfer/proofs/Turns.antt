@@ -3,7 +3,7 @@
 use mathlib.Core.Path.{◌≡◌, refl, sym, ◌∙◌, ap}
 use mathlib.Core.Bool.{Bool, true, false}
 use mathlib.Core.List.{List, ◌∷◌}
-use mathlib.Core.Option.{Option, none, some}
+use mathlib.Core.Option.{Option, some}
 use Prim.Native.Nat.{ℕ, ◌≤◌}
 use native.Mathlib.Omega.{arith}
 use lib.ListN.{length, get_or, take, drop}
@@ -18,7 +18,6 @@ use Rattle.srp.specs.declared.Place.{Place}
 use Rattle.srp.specs.declared.Refusal.TheVariants.{Closed}
 use Rattle.srp.specs.declared.Reply.{Reply}
 use Rattle.srp.specs.declared.Reply.TheVariants.{Refused, Served, Idle}
-use Rattle.words.specs.Slots.{slots}
 use Rattle.words.specs.Line.{count, ring, line}
 use Rattle.words.specs.Head.{head_of, SlotChanged}
 use Rattle.words.specs.View.{view}

@@ -1,11 +1,11 @@
 -- Loops that store into a list of numbers, whatever their width: zeros from its start on, or another list from a place on.
 -- Assumes nothing.
 use mathlib.Core.Path.{◌≡◌, refl, sym, ◌∙◌}
-use mathlib.Core.List.{List, [], ◌++◌, append-nil, append_assoc}
+use mathlib.Core.List.{List, ◌++◌, append-nil, append_assoc}
 use Prim.Native.Nat.{ℕ, ◌+◌, ◌≤◌, ◌<◌}
 use native.Mathlib.Omega.{arith}
 use native.Mathlib.Numerals.{add-one}
-use lib.ListN.{length, take, drop, get_or, set, length-set, length-take, drop_of_length-le}
+use lib.ListN.{length, take, drop, get_or, set, length-set, drop_of_length-le}
 use lib.Seq.{take-length, paste, paste-zero, paste-suc, drop-drop}
 use borrow.Rule.Slice.PartMut.{put_mid}
 use Rattle.srp.specs.Bytes.{zeros}
@@ -65,7 +65,7 @@ module _ {s : List ℕ} {at : ℕ} {from t : List ℕ} {j : ℕ} (w : Copying s 
   pub copy_end : length from ≤ j → t ≡ paste s at from (length from)
   copy_end h = let e : j ≡ length from = omega (arith, w.upto) in rw (← e) w.stored
 
--- a list copied into the part of another that is as long, as `bytes::copy` leaves it
+-- a list copied into the part of another that is as long
 pub part_copied : (s : List ℕ) (at : ℕ) (from : List ℕ) (k : ℕ) → k ≡ length from → (y : List ℕ) → y ≡ from → put_mid at k s y ≡ paste s at from (length from)
 part_copied s at from k e y q =
     let all : y ≡ take (length from) from = q ∙ sym (take-length from) in

@@ -1,6 +1,5 @@
 -- `boundary::is_bad` meets its contract.
 use Rattle.boundary.proofs.Powers.{none, low, high, by_power}
-use borrow.Author.Rules.{rules}
 use Rattle.boundary.proofs.is_bad.Goals as goal
 
 pub returns-then-q-eq0 : goal.returns-then-q-eq0

@@ -3,7 +3,6 @@ use Prim.Native.Nat.{◌-◌}
 use native.Mathlib.Omega.{arith}
 use lib.Bits.{and_le_r}
 use Rattle.boundary.proofs.Powers.{alone, by_mask}
-use borrow.Author.Rules.{rules}
 use Rattle.boundary.proofs.longest_at.Goals as goal
 
 pub returns-then-q-eq0 : goal.returns-then-q-eq0

@@ -4,7 +4,6 @@ use Rattle.words.specs.View.{view}
 use Rattle.state.proofs.Promises.{unaltered, answers_by}
 use Rattle.state.proofs.Opened.{head_open, port_closed, port_open}
 use Rattle.close.proofs.Cases.{close_short, close_closed, closed_with}
-use borrow.Author.Rules.{rules}
 use mathlib.Core.Path.{ap}
 use mathlib.Core.Bool.{not}
 use Rattle.close.proofs.close.Goals as goal

@@ -1,6 +1,5 @@
 -- `close::log_out` meets its contract.
 use Rattle.close.proofs.Cases.{logs_out}
-use borrow.Author.Rules.{rules}
 use Rattle.close.proofs.log_out.Goals as goal
 
 pub returns : goal.returns

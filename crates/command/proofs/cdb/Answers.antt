@@ -1,6 +1,5 @@
 -- `command::cdb` meets its contract. By what the command was read as; its CDB lies in the message.
 --
-use borrow.Author.Rules.{rules}
 use mathlib.Core.Path.{sym, ap, ◌∙◌}
 use mathlib.Core.List.{[]}
 use native.Mathlib.Omega.{arith}

@@ -1,6 +1,5 @@
 -- `command::command_of` meets its contract. The shape gives the CDB and the descriptors, the message the other fields.
 --
-use borrow.Author.Rules.{rules}
 use Rattle.command.proofs.Refusing.{out_whole, in_whole, whole_fits, command_is, long_enough}
 use Rattle.command.proofs.command_of.Goals as goal
 

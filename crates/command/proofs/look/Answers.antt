@@ -1,6 +1,5 @@
 -- `command::look` meets its contract. By what the shape was read as.
 --
-use borrow.Author.Rules.{rules}
 use mathlib.Core.Path.{sym, ap, ◌∙◌}
 use Rattle.srp.specs.Refusals.{first_of_checks}
 use Rattle.srp.specs.Descriptors.{fetch_of}

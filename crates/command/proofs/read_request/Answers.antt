@@ -1,5 +1,4 @@
 -- `command::read_request` meets its contract.
-use borrow.Author.Rules.{rules}
 use Rattle.command.proofs.Refusing.{request_is}
 use Rattle.command.proofs.read_request.Goals as goal
 

@@ -8,7 +8,6 @@ use Rattle.srp.specs.Descriptors.{giving, chosen, segment_bytes}
 use Rattle.srp.specs.Requests.{descriptor_for, out_descriptor, in_descriptor, command_of_lem, look_checks}
 use Rattle.srp.specs.declared.Command.{Command}
 use Rattle.command.proofs.Refusing.{when_other, when_read, fits_in}
-use borrow.Author.Rules.{rules}
 use Rattle.command.proofs.segments.Goals as goal
 
 pub returns-in_default : goal.returns-in_default

@@ -1,7 +1,6 @@
 -- `command::waits` meets its contract. F of either direction.
 --
 use Rattle.command.proofs.Tables.{waits_out, waits_in}
-use borrow.Author.Rules.{rules}
 use Rattle.command.proofs.waits.Goals as goal
 
 pub returns-then-fetched_length-ne0 : goal.returns-then-fetched_length-ne0

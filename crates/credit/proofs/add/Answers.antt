@@ -8,7 +8,6 @@ use Rattle.words.specs.View.{view}
 use Rattle.state.proofs.Promises.{refused, replies_by, performed, altered_view}
 use Rattle.state.proofs.Opened.{head_open, port_closed, port_open, wanted_is}
 use Rattle.credit.proofs.Cases.{add_closed, add_nothing, add_past, added}
-use borrow.Author.Rules.{rules}
 use mathlib.Core.Bool.{not}
 use Rattle.credit.proofs.add.Goals as goal
 

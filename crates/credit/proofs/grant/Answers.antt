@@ -1,6 +1,6 @@
 -- `credit::grant` meets its contract.
 use mathlib.Core.Path.{sym, ◌∙◌, ap}
-use borrow.Author.Tests.{not-true, not-false, ltb-true, ltb-false}
+use borrow.Author.Tests.{ltb-true, ltb-false}
 use Rattle.srp.specs.declared.Refusal.TheVariants.{ShortBuffer, Closed, Unanswered, NotOwed}
 use Rattle.words.specs.View.{view}
 use Rattle.words.specs.declared.Head.{Head}
@@ -8,7 +8,6 @@ use Rattle.words.proofs.Ports.{view_live}
 use Rattle.state.proofs.Promises.{unaltered, answers_by}
 use Rattle.state.proofs.Opened.{head_open, port_closed, port_open, wanted_is, announced_is, held_is, unanswered_is}
 use Rattle.credit.proofs.Cases.{grant_short, grant_closed, grant_unanswered, grant_not_owed, granted}
-use borrow.Author.Rules.{rules}
 use mathlib.Core.Bool.{not}
 use Rattle.credit.proofs.grant.Goals as goal
 

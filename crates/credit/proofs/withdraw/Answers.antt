@@ -7,7 +7,6 @@ use Rattle.words.specs.View.{view}
 use Rattle.state.proofs.Promises.{refused, replies_by, performed, altered_view}
 use Rattle.state.proofs.Opened.{head_open, port_closed, port_open, wanted_is}
 use Rattle.credit.proofs.Cases.{withdraw_closed, withdraw_nothing, withdraw_past, withdrawn}
-use borrow.Author.Rules.{rules}
 use mathlib.Core.Bool.{not}
 use Rattle.credit.proofs.withdraw.Goals as goal
 

@@ -12,7 +12,6 @@ use Rattle.words.proofs.Ports.{while_open}
 use Rattle.state.specs.Changes.{Alters}
 use Rattle.state.proofs.Promises.{altered_view}
 use Rattle.state.proofs.Answering.{unused, answered}
-use borrow.Author.Rules.{rules}
 use Rattle.credit.proofs.write_request.Goals as goal
 
 pub returns : goal.returns

@@ -1,5 +1,5 @@
 -- `cut::cut` meets its contract.
-use Rattle.std.proofs.Common.{sym, ap, ◌∙◌, arith, rules}
+use Rattle.std.proofs.Common.{sym, ap, ◌∙◌, arith}
 use Rattle.srp.specs.Descriptors.{segments_of}
 use Rattle.cut.specs.Walk.{ended}
 use Rattle.cut.proofs.Pieces.{ended_next}

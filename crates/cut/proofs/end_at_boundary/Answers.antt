@@ -1,5 +1,5 @@
 -- `cut::end_at_boundary` meets its contract.
-use Rattle.std.proofs.Common.{sym, ap, rules}
+use Rattle.std.proofs.Common.{sym, ap}
 use Rattle.cut.specs.Walk.{ended}
 use Rattle.cut.proofs.end_at_boundary.Goals as goal
 

@@ -1,5 +1,5 @@
 -- `cut::next_piece` meets its contract: what proofs/Pieces says of the segment found.
-use Rattle.std.proofs.Common.{◌≡◌, ◌+◌, ◌-◌, ◌%◌, ◌^◌, sym, ◌∙◌, arith, rules}
+use Rattle.std.proofs.Common.{◌≡◌, ◌+◌, ◌-◌, ◌%◌, ◌^◌, sym, ◌∙◌, arith}
 use Rattle.cut.proofs.Pieces.{empty, behind, inside, low, short, here}
 use Rattle.cut.proofs.next_piece.Goals as goal
 

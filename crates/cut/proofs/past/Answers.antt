@@ -1,6 +1,6 @@
 -- `cut::past` meets its contract.
 use Rattle.cut.proofs.Sums.{past_empty, past_else}
-use Rattle.std.proofs.Common.{arith, rules}
+use Rattle.std.proofs.Common.{arith}
 use Rattle.cut.proofs.past.Goals as goal
 
 pub returns-then-len-eq0 : goal.returns-then-len-eq0

@@ -1,6 +1,6 @@
 -- `cut::sum` meets its contract.
-use Rattle.std.proofs.Common.{sym, ◌∙◌, arith, rules}
-use Rattle.cut.proofs.Sums.{Summing, start, stop, on, end}
+use Rattle.std.proofs.Common.{sym, ◌∙◌, arith}
+use Rattle.cut.proofs.Sums.{start, stop, on, end}
 use Rattle.cut.proofs.sum.Goals as goal
 
 pub loop-rest-init : goal.loop-rest-init

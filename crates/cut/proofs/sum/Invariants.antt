@@ -1,6 +1,5 @@
 -- `cut::sum` meets its contract.
-use Rattle.std.proofs.Common.{sym, ◌∙◌, arith, rules}
-use Rattle.cut.proofs.Sums.{Summing, start, stop, on, end}
+use Rattle.cut.proofs.Sums.{Summing}
 use Rattle.cut.proofs.sum.Given as goal
 
 abbrev pub invariant-loop-rest : goal.invariant-loop-rest

@@ -1,7 +1,6 @@
 -- `division::counted` meets its contract: one more where the value leads.
 use mathlib.Core.Path.{sym, ap}
 use Rattle.division.specs.Dividing.{counted_in}
-use borrow.Author.Rules.{rules}
 use Rattle.division.proofs.counted.Goals as goal
 
 pub returns-in-Passes : goal.returns-in-Passes

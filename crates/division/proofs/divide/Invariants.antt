@@ -1,11 +1,8 @@
 -- `division::divide` meets its contract: the loop's invariant is `Counting`; the measure is how many values are left.
 --
-use mathlib.Core.Path.{sym, ◌∙◌}
 use Prim.Native.Nat.{◌-◌}
-use native.Mathlib.Omega.{arith}
 use Rattle.division.specs.Dividing.{values}
-use Rattle.division.proofs.Counting.{below, Counting, start, on, refused, all_counted}
-use borrow.Author.Rules.{rules}
+use Rattle.division.proofs.Counting.{Counting}
 use Rattle.division.proofs.divide.Given as goal
 
 abbrev pub invariant-loop-byte : goal.invariant-loop-byte

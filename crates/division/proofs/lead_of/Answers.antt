@@ -2,7 +2,6 @@
 use Rattle.command.proofs.Formats.{not_agreed, agreed}
 use Prim.Native.Nat.{◌/◌, ◌%◌, ◌^◌}
 use Rattle.division.proofs.Counting.{not_out, not_in, both_agreed}
-use borrow.Author.Rules.{rules}
 use Rattle.division.proofs.lead_of.Goals as goal
 
 pub returns-in_default : goal.returns-in_default

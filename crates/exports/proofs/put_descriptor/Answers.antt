@@ -1,5 +1,4 @@
 -- `exports::put_descriptor` meets its contract.
-use borrow.Author.Rules.{rules}
 use Rattle.exports.proofs.put_descriptor.Goals as goal
 
 pub returns : goal.returns

@@ -1,6 +1,5 @@
 -- `exports::put_fetch` meets its contract.
 use borrow.Author.Tests.{eq-eqb, ne_eqb}
-use borrow.Author.Rules.{rules}
 use Rattle.exports.proofs.put_fetch.Goals as goal
 
 pub returns-then-f-eq0 : goal.returns-then-f-eq0

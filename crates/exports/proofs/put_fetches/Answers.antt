@@ -1,7 +1,6 @@
 -- `exports::put_fetches` meets its contract.
 use lib.ListN.{drop}
 use Rattle.exports.proofs.Fetches.{laid}
-use borrow.Author.Rules.{rules}
 use Rattle.exports.proofs.put_fetches.Goals as goal
 
 pub returns : goal.returns

@@ -1,5 +1,4 @@
 -- `exports::put_piece` meets its contract.
-use borrow.Author.Rules.{rules}
 use Rattle.exports.proofs.put_piece.Goals as goal
 
 pub returns : goal.returns

@@ -3,7 +3,6 @@ use mathlib.Core.Path.{refl, sym, ◌∙◌}
 use Rattle.srp.specs.Outside.{cut_answer}
 use Rattle.srp.specs.Cutting.{cut_def}
 use Rattle.exports.proofs.Buffers.{short, answered}
-use borrow.Author.Rules.{rules}
 use Rattle.exports.proofs.srp_cut.Goals as goal
 
 pub returns-then-buf-lt-ANSWER : goal.returns-then-buf-lt-ANSWER

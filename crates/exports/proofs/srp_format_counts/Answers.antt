@@ -2,7 +2,6 @@
 use mathlib.Core.Path.{sym, ap, ◌∙◌}
 use Rattle.division.specs.Dividing.{divided_number, divided_words}
 use Rattle.exports.proofs.InC.{format_counts_in_c}
-use borrow.Author.Rules.{rules}
 use Rattle.exports.proofs.srp_format_counts.Goals as goal
 
 pub returns-in-Refused : goal.returns-in-Refused

@@ -5,7 +5,6 @@ use Rattle.srp.specs.Requests.{look_def}
 use Rattle.exports.proofs.Buffers.{short, answered}
 use Rattle.exports.proofs.Fetches.{look_blank}
 use native.Mathlib.Omega.{arith}
-use borrow.Author.Rules.{rules}
 use Rattle.exports.proofs.srp_look.Goals as goal
 
 pub returns-then-buf-lt-ANSWER : goal.returns-then-buf-lt-ANSWER

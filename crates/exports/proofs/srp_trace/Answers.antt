@@ -1,6 +1,5 @@
 -- `exports::srp_trace` meets its contract: trace's reply, as its number.
 use Rattle.exports.proofs.InC.{trace_in_c_lem}
-use borrow.Author.Rules.{rules}
 use Rattle.exports.proofs.srp_trace.Goals as goal
 
 pub returns : goal.returns

@@ -18,7 +18,6 @@ use Rattle.state.specs.declared.Ending.TheVariants.{Finished}
 use Rattle.state.proofs.Promises.{answers_by, altered_view, found_slot}
 use Rattle.state.proofs.Answering.{unused, answered}
 use Rattle.finish.proofs.Endings.{response_is, response_long}
-use borrow.Author.Rules.{rules}
 use Rattle.finish.proofs.end_command.Goals as goal
 
 pub drop_commands-requires : goal.drop_commands-requires

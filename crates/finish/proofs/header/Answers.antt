@@ -3,7 +3,6 @@ use Rattle.srp.specs.declared.Direction.TheVariants.{Out, In}
 use Rattle.words.specs.Slots.{place_for_lem}
 use Rattle.words.specs.View.{open_of}
 use Rattle.finish.proofs.Endings.{final_by_lem}
-use borrow.Author.Rules.{rules}
 use Rattle.finish.proofs.header.Goals as goal
 
 pub returns : goal.returns

@@ -2,7 +2,6 @@
 use mathlib.Core.Path.{sym}
 use Rattle.words.specs.View.{side_of}
 use Rattle.finish.proofs.Senses.{over, under, even}
-use borrow.Author.Rules.{rules}
 use Rattle.finish.proofs.residual.Goals as goal
 
 pub returns-then-total-required : goal.returns-then-total-required

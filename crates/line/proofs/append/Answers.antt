@@ -1,7 +1,6 @@
 -- `line::append` meets its contract.
 use native.Mathlib.Omega.{arith}
 use Rattle.line.proofs.Ring.{joined}
-use borrow.Author.Rules.{rules}
 use Rattle.line.proofs.append.Goals as goal
 
 pub returns : goal.returns

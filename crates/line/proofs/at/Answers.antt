@@ -1,6 +1,5 @@
 -- `line::at` meets its contract.
 use Rattle.line.proofs.Ring.{place_there}
-use borrow.Author.Rules.{rules}
 use Rattle.line.proofs.at.Goals as goal
 
 pub returns : goal.returns

@@ -1,7 +1,6 @@
 -- `line::drop_first` meets its contract.
 use Rattle.line.proofs.Ring.{first_dropped}
 use native.Mathlib.Omega.{arith}
-use borrow.Author.Rules.{rules}
 use Rattle.line.proofs.drop_first.Goals as goal
 
 pub returns : goal.returns

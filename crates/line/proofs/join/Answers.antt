@@ -1,6 +1,5 @@
 -- `line::join` meets its contract.
 use Rattle.line.proofs.Ring.{full_stays, room_joins}
-use borrow.Author.Rules.{rules}
 use Rattle.line.proofs.join.Goals as goal
 
 pub returns-then-len-eq-MOVES : goal.returns-then-len-eq-MOVES

@@ -2,7 +2,6 @@
 use mathlib.Core.Path.{sym, ◌∙◌}
 use native.Mathlib.Omega.{arith}
 use Rattle.line.proofs.Ring.{count_read}
-use borrow.Author.Rules.{rules}
 use Rattle.line.proofs.len.Goals as goal
 
 pub returns : goal.returns

@@ -1,5 +1,4 @@
 -- `line::pass` meets its contract.
-use borrow.Author.Tests.{not-true, not-false}
 use Rattle.line.proofs.Ring.{passed_on, passed_back, room_behind}
 use borrow.Author.Rules.{rules}
 use Rattle.line.proofs.pass.Goals as goal

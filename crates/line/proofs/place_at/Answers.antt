@@ -1,7 +1,6 @@
 -- `line::place_at` meets its contract.
 use native.Mathlib.Omega.{arith}
 use Rattle.line.proofs.Ring.{first_read}
-use borrow.Author.Rules.{rules}
 use Rattle.line.proofs.place_at.Goals as goal
 
 pub returns : goal.returns

@@ -1,6 +1,5 @@
 -- `line::put` meets its contract.
 use Rattle.line.proofs.Ring.{place_put}
-use borrow.Author.Rules.{rules}
 use Rattle.line.proofs.put.Goals as goal
 
 pub returns : goal.returns

@@ -1,6 +1,5 @@
 -- `line::set_len` meets its contract.
 use Rattle.line.proofs.Ring.{length_put}
-use borrow.Author.Rules.{rules}
 use Rattle.line.proofs.set_len.Goals as goal
 
 pub returns : goal.returns

@@ -4,7 +4,6 @@ use Rattle.srp.specs.Refusals.{first_of_checks}
 use Rattle.srp.specs.Login.{rejections}
 use Rattle.login.proofs.Deciding.{supported_low, rejects, rejects_none, accepts}
 use Rattle.login.proofs.Opening.{was_rejected, was_accepted}
-use borrow.Author.Rules.{rules}
 use Rattle.login.proofs.answer_login.Goals as goal
 
 pub overflow_cast-formats : goal.overflow_cast-formats

@@ -1,7 +1,6 @@
 -- `login::bad_settings` meets its contract. Each return is the law of the test that hits there.
 --
 use Rattle.login.proofs.Deciding.{no_buffers, many_buffers, no_piece, large_piece, bad_boundary_lem, low_length, high_length}
-use borrow.Author.Rules.{rules}
 use Rattle.login.proofs.bad_settings.Goals as goal
 
 pub returns-then-c-eq0 : goal.returns-then-c-eq0

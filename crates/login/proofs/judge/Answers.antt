@@ -2,7 +2,6 @@
 --
 use Rattle.login.proofs.Deciding.{supported_low, too_short, too_long, formats_other, channels, reserved_action, other_target, no_rejection}
 use native.Mathlib.Omega.{arith}
-use borrow.Author.Rules.{rules}
 use mathlib.Core.Path.{ap}
 use mathlib.Core.Bool.{not}
 use Rattle.login.proofs.judge.Goals as goal

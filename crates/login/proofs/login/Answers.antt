@@ -8,7 +8,6 @@ use Rattle.srp.specs.Refusals.{first_of_checks}
 use Rattle.srp.specs.Login.{login_checks}
 use Rattle.login.proofs.Deciding.{good, short_buffer, bad_setting_lem, other_length, other_type, no_refusal}
 use Rattle.login.proofs.Opening.{was_refused, was_judged}
-use borrow.Author.Rules.{rules}
 use Rattle.login.proofs.login.Goals as goal
 
 pub returns-then-buf : goal.returns-then-buf

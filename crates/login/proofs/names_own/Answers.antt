@@ -7,7 +7,6 @@ use lib.Seq.{take_all}
 use Rattle.srp.specs.Bytes.{part}
 use Rattle.srp.specs.Messages.{target_identifier}
 use Rattle.srp.specs.Descriptors.{same_bytes}
-use borrow.Author.Rules.{rules}
 use Rattle.login.proofs.names_own.Goals as goal
 
 pub returns : goal.returns

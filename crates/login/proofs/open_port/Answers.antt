@@ -1,6 +1,5 @@
 -- `login::open_port` meets its contract.
 use Rattle.login.proofs.Opening.{head_for_fits, opened_view}
-use borrow.Author.Rules.{rules}
 use Rattle.login.proofs.open_port.Goals as goal
 
 pub set_head-requires : goal.set_head-requires

@@ -1,6 +1,5 @@
 -- `login::terms_of` meets its contract.
 use Rattle.login.proofs.Opening.{terms_are}
-use borrow.Author.Rules.{rules}
 use Rattle.login.proofs.terms_of.Goals as goal
 
 pub returns : goal.returns

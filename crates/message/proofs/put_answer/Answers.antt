@@ -7,7 +7,6 @@ use Rattle.srp.specs.declared.Residual.TheVariants.{Even}
 use Rattle.message.specs.declared.Header.{Header}
 use Rattle.message.specs.Header.{response_size, header_values, header_bytes}
 use Rattle.message.proofs.Laying.{long, byte_behind}
-use borrow.Author.Rules.{rules}
 use Rattle.message.proofs.put_answer.Goals as goal
 
 pub returns : goal.returns

@@ -3,7 +3,6 @@
 use Rattle.srp.specs.Messages.{out_residual, in_residual, sense_length}
 use Rattle.srp.specs.Writing.{amount}
 use Rattle.message.proofs.Laying.{field}
-use borrow.Author.Rules.{rules}
 use Rattle.message.proofs.put_counts.Goals as goal
 
 pub returns : goal.returns

@@ -4,7 +4,6 @@ use Rattle.srp.specs.Bytes.{bit, put}
 use Rattle.srp.specs.Messages.{rspvalid, snsvalid, doover, dounder, diover, diunder}
 use Rattle.srp.specs.Writing.{is_over, is_under_lem}
 use Rattle.message.proofs.Laying.{field}
-use borrow.Author.Rules.{rules}
 use Rattle.message.proofs.put_flags.Goals as goal
 
 pub returns : goal.returns

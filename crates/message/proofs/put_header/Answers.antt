@@ -9,7 +9,6 @@ use Rattle.srp.specs.Messages.{status, rsp}
 use Rattle.srp.specs.Writing.{amount}
 use Rattle.message.specs.Header.{start_fields, flag_fields, flag_values, count_fields, header_values}
 use Rattle.message.proofs.Laying.{laid, field, fields}
-use borrow.Author.Rules.{rules}
 use Rattle.message.proofs.put_header.Goals as goal
 
 pub returns : goal.returns

@@ -5,7 +5,6 @@ use mathlib.Core.List.{[], ◌∷◌}
 use Rattle.srp.specs.Bytes.{kind}
 use Rattle.srp.specs.Messages.{reason, tag, format_bits, login_rej}
 use Rattle.message.proofs.Laying.{laid, field}
-use borrow.Author.Rules.{rules}
 use Rattle.message.proofs.put_login_rejection.Goals as goal
 
 pub returns : goal.returns

@@ -6,7 +6,6 @@ use Rattle.srp.specs.Bytes.{kind, bit}
 use Rattle.srp.specs.Limits.{buffer_size}
 use Rattle.srp.specs.Messages.{delta, tag, longest_taken, longest_written, format_bits, solntsup, login_rsp}
 use Rattle.message.proofs.Laying.{laid, field}
-use borrow.Author.Rules.{rules}
 use Rattle.message.proofs.put_login_response.Goals as goal
 
 pub returns : goal.returns

@@ -7,7 +7,6 @@ use lib.ListN.{length}
 use Rattle.srp.specs.Messages.{rsp}
 use Rattle.message.specs.Header.{header_values, header_bytes}
 use Rattle.message.proofs.Laying.{long, copied_behind}
-use borrow.Author.Rules.{rules}
 use Rattle.message.proofs.put_response.Goals as goal
 
 pub returns : goal.returns

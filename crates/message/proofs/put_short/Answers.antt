@@ -6,7 +6,6 @@ use Rattle.srp.specs.Bytes.{bit}
 use Rattle.srp.specs.Messages.{solnt, delta, tag}
 use Rattle.message.specs.Header.{short_size, start_fields}
 use Rattle.message.proofs.Laying.{laid, fields}
-use borrow.Author.Rules.{rules}
 use Rattle.message.proofs.put_short.Goals as goal
 
 pub returns : goal.returns

@@ -3,7 +3,6 @@
 use Rattle.srp.specs.Bytes.{kind, bit}
 use Rattle.srp.specs.Messages.{solnt, delta}
 use Rattle.message.proofs.Laying.{field}
-use borrow.Author.Rules.{rules}
 use Rattle.message.proofs.put_start.Goals as goal
 
 pub returns : goal.returns

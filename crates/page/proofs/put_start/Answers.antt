@@ -1,6 +1,5 @@
 -- `page::put_start` meets its contract: the name, what its line says, the line.
 use Rattle.page.proofs.Lines.{named}
-use borrow.Author.Rules.{rules}
 use Rattle.page.proofs.put_start.Goals as goal
 
 pub returns : goal.returns

@@ -1,6 +1,5 @@
 -- `page::trace` meets its contract: a short buffer, or the line.
 use Rattle.page.proofs.Lines.{short, written}
-use borrow.Author.Rules.{rules}
 use Rattle.page.proofs.trace.Goals as goal
 
 pub returns-then-buf-lt-LINE : goal.returns-then-buf-lt-LINE

@@ -1,10 +1,6 @@
 use native.Mathlib.Omega.{arith}
 use Rattle.state.proofs.Opened.{head_closed, head_open}
 use Rattle.report.proofs.Filling.{count_closed, count_short, count_open}
-use borrow.Author.Rules.{rules}
-use Rattle.report.proofs.count_for.Reads as reads
-use Rattle.report.proofs.count_for.Lts as lts
-use Rattle.words.proofs.get_head.Reads as get-head-reads
 use mathlib.Core.Path.{ap}
 use mathlib.Core.Bool.{not}
 use Rattle.report.proofs.count_for.Goals as goal

@@ -7,7 +7,6 @@ use Rattle.words.proofs.Ports.{view_live}
 use Rattle.state.proofs.Opened.{head_open, port_closed, wanted_is, announced_is, held_is}
 use Rattle.report.proofs.Cases.{counters_closed, counted, counts}
 use Rattle.report.proofs.Signs.{difference_back}
-use borrow.Author.Rules.{rules}
 use mathlib.Core.Bool.{not}
 use Rattle.report.proofs.counters.Goals as goal
 

@@ -3,7 +3,6 @@ use mathlib.Core.Path.{◌∙◌}
 use mir.Syntax.{w64}
 use mir.ValLaws.{to_z-of_z}
 use Rattle.report.proofs.Signs.{difference_fits, difference_is}
-use borrow.Author.Rules.{rules}
 use Rattle.report.proofs.difference.Goals as goal
 
 pub overflow_sub-result : goal.overflow_sub-result

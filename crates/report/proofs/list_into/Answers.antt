@@ -1,7 +1,7 @@
 -- `report::list_into` meets its contract: in each turn one more of the listing's records is stored, and once the loop ends all that are to be written.
 use Rattle.std.proofs.Common.{◌≡◌, ◌<◌, ◌∙◌, sym, ap, length, take, length-take, [], arith}
 use Rattle.words.specs.View.{view}
-use Rattle.report.proofs.Into.{into, into_more, lists_into}
+use Rattle.report.proofs.Into.{into_more, lists_into}
 use Rattle.report.proofs.list_into.Goals as goal
 
 pub offset_bounds-listed-i : goal.offset_bounds-listed-i

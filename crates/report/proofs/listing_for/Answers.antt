@@ -1,9 +1,4 @@
 use Rattle.report.proofs.Fitting.{for_refused, for_open}
-use borrow.Author.Rules.{rules}
-use Rattle.report.proofs.listing_for.Reads as reads
-use Rattle.report.proofs.listing_for.Lts as lts
-use Rattle.report.proofs.count_for.Reads as count-for-reads
-use Rattle.report.proofs.list.Reads as list-reads
 use Rattle.report.proofs.listing_for.Goals as goal
 
 -- src/lib.rt:139:9

@@ -1,11 +1,6 @@
 use mathlib.Core.Path.{◌∙◌, ap}
 use Rattle.report.specs.Reports.{slot_record}
 use Rattle.words.specs.declared.Slot.{Slot}
-use borrow.Author.Rules.{rules}
-use Rattle.report.proofs.record_at.Reads as reads
-use Rattle.report.proofs.record_at.Lts as lts
-use Rattle.report.proofs.record_of.Reads as record-of-reads
-use Rattle.words.proofs.commands.load.Reads as load-reads
 use Rattle.report.proofs.record_at.Goals as goal
 
 -- src/lib.rt:68:1

@@ -5,7 +5,6 @@ use lib.Dec.{ltb}
 use lib.ListN.{length}
 use Rattle.command.proofs.Told.{out_of_bounds, in_bounds, another, a_command}
 use Rattle.request.proofs.Messages.{bad_length_lem, by_type_lem, command, fits_message}
-use borrow.Author.Rules.{rules}
 use Rattle.request.proofs.read_message.Goals as goal
 
 pub returns-in_default : goal.returns-in_default

@@ -3,7 +3,6 @@ use mathlib.Core.Path.{refl}
 use lib.ListN.{length}
 use Rattle.command.proofs.Told.{not_so_long, so_long}
 use Rattle.request.proofs.Messages.{no_type, task_length, task_read, logout_length, logout_read, credit_length, credit_read}
-use borrow.Author.Rules.{rules}
 use Rattle.request.proofs.read_other.Goals as goal
 
 pub returns-in_default : goal.returns-in_default

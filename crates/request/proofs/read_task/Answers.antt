@@ -1,6 +1,5 @@
 -- `request::read_task` meets its contract.
 use Rattle.request.proofs.Messages.{task_is}
-use borrow.Author.Rules.{rules}
 use Rattle.request.proofs.read_task.Goals as goal
 
 pub returns : goal.returns

@@ -1,11 +1,6 @@
 -- `state::drop_slots` meets its contract.
 use mathlib.Core.Path.{sym, ◌∙◌}
-use mathlib.Core.Logic.{⊎_elim}
-use Prim.Native.Nat.{◌-◌}
-use native.Mathlib.Omega.{arith}
-use borrow.Author.Rules.{rules}
-use borrow.Author.Tests.{not-true, not-false}
-use Rattle.state.proofs.Held.{Dropping, drop_start, drop_ended, drop_kept, drop_unmoved, dropped}
+use Rattle.state.proofs.Held.{drop_start, drop_ended, drop_kept, drop_unmoved, dropped}
 use Rattle.state.proofs.drop_slots.Goals as goal
 use Rattle.state.proofs.drop_slots.Goals.{then-not-ended, then-kept-i, else-kept-i, else-not-ended}
 

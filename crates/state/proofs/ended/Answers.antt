@@ -1,10 +1,6 @@
 use mathlib.Core.Path.{sym, ◌∙◌, ap}
 use Rattle.state.specs.Changes.{ends}
 use Rattle.state.specs.declared.Ending.{Ending}
-use borrow.Author.Rules.{rules}
-use Rattle.state.proofs.ended.Reads as reads
-use Rattle.state.proofs.ended.Lts as lts
-use Rattle.task.proofs.aborts.Reads as aborts-reads
 use Rattle.state.proofs.ended.Goals as goal
 
 -- src/lib.rt:47:1

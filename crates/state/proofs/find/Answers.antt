@@ -1,8 +1,6 @@
 -- `state::find` meets its contract.
-use Prim.Native.Nat.{◌-◌}
 use native.Mathlib.Omega.{arith}
-use borrow.Author.Rules.{rules}
-use Rattle.state.proofs.Held.{Searching, search_start, search_more, search_here, search_end}
+use Rattle.state.proofs.Held.{search_start, search_more, search_here, search_end}
 use Rattle.state.proofs.find.Goals as goal
 
 pub loop-i-init : goal.loop-i-init

@@ -1,6 +1,5 @@
 -- `state::set_unanswered` meets its contract.
 use Rattle.state.proofs.Altered.{unanswered_altered}
-use borrow.Author.Rules.{rules}
 use Rattle.state.proofs.set_unanswered.Goals as goal
 
 pub returns : goal.returns

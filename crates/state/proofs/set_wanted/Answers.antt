@@ -1,6 +1,5 @@
 -- `state::set_wanted` meets its contract.
 use Rattle.state.proofs.Altered.{wanted_altered}
-use borrow.Author.Rules.{rules}
 use Rattle.state.proofs.set_wanted.Goals as goal
 
 pub returns : goal.returns

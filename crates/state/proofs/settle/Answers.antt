@@ -1,6 +1,5 @@
 -- `state::settle` meets its contract.
 use Rattle.state.proofs.Altered.{settled}
-use borrow.Author.Rules.{rules}
 use Rattle.state.proofs.settle.Goals as goal
 
 pub returns : goal.returns

@@ -1,14 +1,6 @@
 use mathlib.Core.Path.{◌∙◌}
 use native.Mathlib.Omega.{arith}
 use Rattle.store.proofs.Entering.{slot_left, new_fits, counts_fit, entered}
-use borrow.Author.Rules.{rules}
-use Rattle.store.proofs.enter.Reads as reads
-use Rattle.store.proofs.enter.Lts as lts
-use Rattle.store.proofs.free_place.Reads as free-place-reads
-use Rattle.store.proofs.put_bytes.Reads as put-bytes-reads
-use Rattle.words.proofs.commands.save.Reads as save-reads
-use Rattle.words.proofs.get_head.Reads as get-head-reads
-use Rattle.words.proofs.set_counts.Reads as set-counts-reads
 use Rattle.store.proofs.enter.Goals as goal
 
 -- src/lib.rt:132:5

@@ -1,14 +1,11 @@
 -- `store::first_free` meets its contract.
 use mathlib.Core.Path.{◌≡◌}
 use mathlib.Core.Bool.{false}
-use Prim.Native.Nat.{◌<◌, ◌-◌, ◌+◌}
 use native.Mathlib.Omega.{arith}
-use lib.ListN.{length, get_or, drop}
-use borrow.Author.Tests.{not-true, not-false}
+use lib.ListN.{length, get_or}
 use borrow.Author.Rules.{rules}
 use Rattle.srp.specs.Bytes.{bit}
 use Rattle.words.specs.Sizes.{most_slots}
-use Rattle.store.specs.Places.{trues}
 use Rattle.store.proofs.Marks.{bit_none, bit_is, trues_step}
 use Rattle.store.proofs.first_free.Goals as goal
 

@@ -1,11 +1,6 @@
 use native.Mathlib.Omega.{arith}
 use Rattle.words.proofs.Ports.{opens_long}
 use Rattle.store.proofs.Marks.{free_at}
-use borrow.Author.Rules.{rules}
-use Rattle.store.proofs.free_place.Reads as reads
-use Rattle.store.proofs.free_place.Lts as lts
-use Rattle.store.proofs.first_free.Reads as first-free-reads
-use Rattle.store.proofs.places.Reads as places-reads
 use Rattle.store.proofs.free_place.Goals as goal
 
 -- src/lib.rt:71:5

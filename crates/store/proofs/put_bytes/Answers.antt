@@ -3,9 +3,6 @@ use Prim.Native.Nat.{◌+◌, ◌-◌}
 use native.Mathlib.Omega.{arith}
 use lib.ListN.{length}
 use Rattle.wire.proofs.Stores.{part_copied}
-use borrow.Author.Rules.{rules}
-use Rattle.store.proofs.put_bytes.Reads as reads
-use Rattle.store.proofs.put_bytes.Lts as lts
 use Rattle.store.proofs.put_bytes.Goals as goal
 
 -- src/lib.rt:65:1

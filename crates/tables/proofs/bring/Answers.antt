@@ -1,5 +1,4 @@
-use mathlib.Core.Path.{refl, sym, ◌∙◌, ap, subst}
-use borrow.Author.Tests.{not-true, not-false}
+use mathlib.Core.Path.{sym, ◌∙◌, ap, subst}
 use Rattle.srp.specs.declared.Refusal.TheVariants.{ShortBuffer, Closed, TagNotOpen, Waiting}
 use Rattle.srp.specs.declared.Answer.{Answer}
 use lib.ListN.{get_or}
@@ -15,13 +14,6 @@ use Rattle.tables.specs.Bringing.{tables}
 use Rattle.tables.proofs.Judging.{tables_1, tables_21, tables_24, tables_33}
 use Rattle.tables.proofs.Brought.{kept, not_performed}
 use borrow.Author.Rules.{rules}
-use Rattle.tables.proofs.bring.Reads as reads
-use Rattle.tables.proofs.bring.Lts as lts
-use Rattle.answer.proofs.refused.Reads as refused-reads
-use Rattle.state.proofs.find.Reads as find-reads
-use Rattle.tables.proofs.judge.Reads as judge-reads
-use Rattle.words.proofs.get_head.Reads as get-head-reads
-use Rattle.words.proofs.waiting.load_waiting.Reads as load-waiting-reads
 use mathlib.Core.Bool.{not}
 use Rattle.tables.proofs.bring.Goals as goal
 

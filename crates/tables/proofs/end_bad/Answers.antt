@@ -1,6 +1,6 @@
 use mathlib.Core.Path.{◌≡◌, refl, sym, ◌∙◌, ap}
 use mathlib.Core.Bool.{true}
-use mathlib.Core.List.{List, [], ◌∷◌}
+use mathlib.Core.List.{[], ◌∷◌}
 use mathlib.Core.Option.{Option, some}
 use Prim.Native.Nat.{ℕ}
 use native.Mathlib.Omega.{arith}
@@ -20,12 +20,6 @@ use Rattle.state.specs.Changes.{without_ended}
 use Rattle.state.specs.declared.Ending.TheVariants.{Finished}
 use Rattle.state.proofs.Promises.{answers_by, altered_view, found_first}
 use Rattle.state.proofs.Answering.{unused, answered}
-use borrow.Author.Rules.{rules}
-use Rattle.tables.proofs.end_bad.Reads as reads
-use Rattle.tables.proofs.end_bad.Lts as lts
-use Rattle.message.proofs.put_answer.Reads as put-answer-reads
-use Rattle.state.proofs.drop_commands.Reads as drop-commands-reads
-use Rattle.state.proofs.settle.Reads as settle-reads
 use Rattle.tables.proofs.end_bad.Goals as goal
 
 -- src/lib.rt:33:1

@@ -3,11 +3,6 @@ use Prim.Native.Nat.{◌+◌, ◌-◌}
 use native.Mathlib.Omega.{arith}
 use Rattle.srp.specs.Descriptors.{standing_size_lem}
 use Rattle.srp.proofs.Segments.{standing_short}
-use borrow.Author.Rules.{rules}
-use Rattle.tables.proofs.fields_at.Reads as reads
-use Rattle.tables.proofs.fields_at.Lts as lts
-use Rattle.command.proofs.standing_size.Reads as standing-size-reads
-use Rattle.command.proofs.fields.Reads as fields-reads
 use Rattle.tables.proofs.fields_at.Goals as goal
 
 -- src/lib.rt:58:15

@@ -1,4 +1,4 @@
-use mathlib.Core.Path.{◌≡◌, refl, sym, ◌∙◌, ap}
+use mathlib.Core.Path.{refl, sym, ◌∙◌, ap}
 use Prim.Native.Nat.{◌+◌, ◌*◌, ◌≤◌}
 use native.Mathlib.Omega.{arith}
 use lib.ListN.{length}
@@ -9,22 +9,10 @@ use Rattle.words.specs.Sizes.{place_size, list_size}
 use Rattle.words.specs.Slots.{place_for_lem}
 use Rattle.srp.specs.declared.Direction.TheVariants.{Out, In}
 use Rattle.srp.specs.declared.Answer.{Answer}
-use Rattle.words.specs.View.{view}
 use Rattle.state.proofs.Promises as promises
 use Rattle.srp.proofs.Segments.{fetched_short}
 use Rattle.tables.proofs.Brought.{kept, placed, not_performed}
 use Rattle.tables.proofs.Judged.{summed, unfit_out, unfit_in, bad_out, bad_in, accepted, port_after}
-use borrow.Author.Rules.{rules}
-use Rattle.tables.proofs.judge.Reads as reads
-use Rattle.tables.proofs.judge.Lts as lts
-use Rattle.answer.proofs.refused.Reads as refused-reads
-use Rattle.command.proofs.fetched_length.Reads as fetched-length-reads
-use Rattle.store.proofs.new_part.Reads as new-part-reads
-use Rattle.store.proofs.bring.Reads as bring-reads
-use Rattle.tables.proofs.end_bad.Reads as end-bad-reads
-use Rattle.tables.proofs.fields_at.Reads as fields-at-reads
-use Rattle.tables.proofs.segment_count.Reads as segment-count-reads
-use Rattle.words.proofs.commands.load.Reads as load-reads
 use Rattle.tables.proofs.judge.Goals as goal
 
 -- src/lib.rt:100:9

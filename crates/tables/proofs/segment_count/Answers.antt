@@ -3,10 +3,6 @@ use native.Mathlib.Omega.{arith}
 use borrow.Author.Tests.{eq-eqb, ne_eqb}
 use lib.ListN.{length}
 use Rattle.srp.proofs.Segments.{standing_short}
-use borrow.Author.Rules.{rules}
-use Rattle.tables.proofs.segment_count.Reads as reads
-use Rattle.tables.proofs.segment_count.Lts as lts
-use Rattle.command.proofs.standing_size.Reads as standing-size-reads
 use Rattle.tables.proofs.segment_count.Goals as goal
 
 -- src/lib.rt:69:16

@@ -2,11 +2,6 @@ use mathlib.Core.Path.{refl}
 use Rattle.srp.specs.declared.Refusal.TheVariants.{Fields}
 use Rattle.srp.specs.declared.Reply.TheVariants.{Refused}
 use Rattle.take.proofs.Endings.{answered}
-use borrow.Author.Rules.{rules}
-use Rattle.take.proofs.answer_bad.Reads as reads
-use Rattle.take.proofs.answer_bad.Lts as lts
-use Rattle.message.proofs.put_answer.Reads as put-answer-reads
-use Rattle.state.proofs.settle.Reads as settle-reads
 use Rattle.take.proofs.answer_bad.Goals as goal
 
 -- src/lib.rt:39:1

@@ -9,14 +9,6 @@ use Rattle.state.specs.declared.Ending.TheVariants.{Aborted}
 use Rattle.state.proofs.Promises.{answers_by, altered_view, announced_same}
 use Rattle.take.proofs.Endings.{answered, task_ends, answer_by}
 use borrow.Author.Count.{below_none}
-use borrow.Author.Rules.{rules}
-use Rattle.take.proofs.end_task.Reads as reads
-use Rattle.take.proofs.end_task.Lts as lts
-use Rattle.message.proofs.put_answer.Reads as put-answer-reads
-use Rattle.message.proofs.solicited.Reads as solicited-reads
-use Rattle.state.proofs.drop_commands.Reads as drop-commands-reads
-use Rattle.state.proofs.settle.Reads as settle-reads
-use Rattle.task.proofs.code_of.Reads as code-of-reads
 use Rattle.take.proofs.end_task.Goals as goal
 
 -- src/lib.rt:65:5

@@ -9,17 +9,6 @@ use Rattle.state.proofs.Opened.{head_open, port_closed}
 use Rattle.take.proofs.Stored.{not_taken, later_takes}
 use Rattle.take.proofs.Branches.{take_1, take_21, bad_drops}
 use Rattle.take.proofs.Heads.{take_of}
-use borrow.Author.Rules.{rules}
-use Rattle.take.proofs.take.Reads as reads
-use Rattle.take.proofs.take.Lts as lts
-use Rattle.answer.proofs.refused.Reads as refused-reads
-use Rattle.request.proofs.read_message.Reads as read-message-reads
-use Rattle.take.proofs.fresh.take_command.Reads as take-command-reads
-use Rattle.take.proofs.hang_up.Reads as hang-up-reads
-use Rattle.take.proofs.take_credit.Reads as take-credit-reads
-use Rattle.take.proofs.take_logout.Reads as take-logout-reads
-use Rattle.take.proofs.take_task.Reads as take-task-reads
-use Rattle.words.proofs.get_head.Reads as get-head-reads
 use mathlib.Core.Path.{ap}
 use mathlib.Core.Bool.{not}
 use Rattle.take.proofs.take.Goals as goal

@@ -1,15 +1,8 @@
 use mathlib.Core.Path.{refl, ◌∙◌}
-use borrow.Author.Tests.{not-true, not-false}
 use Rattle.words.specs.View.{view}
 use Rattle.state.proofs.Promises.{answers_by, accepted, altered_view}
 use Rattle.state.proofs.Opened.{unanswered_is}
 use Rattle.take.proofs.Branches.{credit_none, credit_other, credit_on}
-use borrow.Author.Rules.{rules}
-use Rattle.take.proofs.take_credit.Reads as reads
-use Rattle.take.proofs.take_credit.Lts as lts
-use Rattle.state.proofs.set_unanswered.Reads as set-unanswered-reads
-use Rattle.take.proofs.hang_up.Reads as hang-up-reads
-use Rattle.words.proofs.get_head.Reads as get-head-reads
 use Rattle.take.proofs.take_credit.Goals as goal
 
 -- src/lib.rt:105:9

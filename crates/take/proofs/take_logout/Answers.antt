@@ -1,10 +1,6 @@
 use mathlib.Core.Path.{refl}
 use Rattle.words.proofs.Ports.{closed_view}
 use Rattle.state.proofs.Promises.{accepted_closed}
-use borrow.Author.Rules.{rules}
-use Rattle.take.proofs.take_logout.Reads as reads
-use Rattle.take.proofs.take_logout.Lts as lts
-use Rattle.words.proofs.clear.Reads as clear_reads
 use Rattle.take.proofs.take_logout.Goals as goal
 
 -- src/lib.rt:118:1

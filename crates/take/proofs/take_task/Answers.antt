@@ -5,13 +5,6 @@ use Rattle.state.proofs.Promises.{answers_by, tag_open, tag_free}
 use Rattle.state.proofs.Opened.{announced_is}
 use Rattle.take.proofs.Branches.{task_22, task_23, task_on}
 use Rattle.take.proofs.Heads.{some_credit}
-use borrow.Author.Rules.{rules}
-use Rattle.take.proofs.take_task.Reads as reads
-use Rattle.take.proofs.take_task.Lts as lts
-use Rattle.state.proofs.find.Reads as find-reads
-use Rattle.take.proofs.end_task.Reads as end-task-reads
-use Rattle.take.proofs.hang_up.Reads as hang-up-reads
-use Rattle.words.proofs.get_head.Reads as get-head-reads
 use Rattle.take.proofs.take_task.Goals as goal
 
 -- src/lib.rt:86:9

@@ -1,7 +1,6 @@
 -- `task::aborts` meets its contract.
 use mathlib.Core.Path.{◌∙◌, sym}
 use borrow.Author.Tests.{eq-eqb, ne_eqb}
-use borrow.Author.Rules.{rules}
 use Rattle.task.proofs.aborts.Goals as goal
 
 pub returns-then-of-r : goal.returns-then-of-r

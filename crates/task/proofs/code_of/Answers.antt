@@ -1,7 +1,6 @@
 -- `task::code_of` meets its contract.
 use mathlib.Core.Path.{◌∙◌, sym}
 use borrow.Author.Tests.{eq-eqb, ne_eqb}
-use borrow.Author.Rules.{rules}
 use Rattle.task.proofs.code_of.Goals as goal
 
 pub returns-then-function-eq-ABORT_TASK : goal.returns-then-function-eq-ABORT_TASK

@@ -2,7 +2,6 @@
 --
 use Rattle.text.proofs.Digits.{low_digit, high_digit}
 use native.Mathlib.Omega.{arith}
-use borrow.Author.Rules.{rules}
 use Rattle.text.proofs.hex_digit.Goals as goal
 
 pub returns-then-n-lt10 : goal.returns-then-n-lt10

@@ -1,7 +1,6 @@
 -- `text::put_byte` meets its contract: the store, and one byte more.
 --
 use Rattle.text.proofs.Texts.{stored}
-use borrow.Author.Rules.{rules}
 use Rattle.text.proofs.put_byte.Goals as goal
 
 pub returns : goal.returns

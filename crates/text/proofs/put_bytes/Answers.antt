@@ -1,9 +1,6 @@
 -- `text::put_bytes` meets its contract: the loop's invariant is `Copying`; the measure is how many bytes are left.
 --
-use Rattle.text.proofs.Texts.{Copying, start, on, copied}
-use Prim.Native.Nat.{◌-◌}
-use lib.ListN.{length}
-use borrow.Author.Rules.{rules}
+use Rattle.text.proofs.Texts.{start, on, copied}
 use Rattle.text.proofs.put_bytes.Goals as goal
 
 pub loop-i-init : goal.loop-i-init

@@ -1,9 +1,8 @@
 -- `text::put_bytes` meets its contract: the loop's invariant is `Copying`; the measure is how many bytes are left.
 --
-use Rattle.text.proofs.Texts.{Copying, start, on, copied}
+use Rattle.text.proofs.Texts.{Copying}
 use Prim.Native.Nat.{◌-◌}
 use lib.ListN.{length}
-use borrow.Author.Rules.{rules}
 use Rattle.text.proofs.put_bytes.Given as goal
 
 abbrev pub invariant-loop-i : goal.invariant-loop-i

@@ -5,7 +5,6 @@ use lib.ListN.{get_or}
 use Rattle.words.specs.Slots.{slots, no_slot}
 use Rattle.transfer.proofs.Pieces.{named_open}
 use Rattle.transfer.proofs.Handing.{too_far, under_way, begun_empty, begun}
-use borrow.Author.Rules.{rules}
 use Rattle.transfer.proofs.begin.Goals as goal
 
 pub returns-then-movable-offset : goal.returns-then-movable-offset

@@ -8,7 +8,6 @@ use Rattle.words.specs.View.{open_of, view}
 use Rattle.words.proofs.Ports.{view_live}
 use Rattle.state.specs.Changes.{FoundAt}
 use Rattle.srp.specs.declared.Refusal.TheVariants.{Closed, TagNotOpen, Unplanned, Waiting}
-use borrow.Author.Tests.{not-false}
 use Rattle.state.proofs.Promises.{refused, replies_by, found_none, found_first}
 use Rattle.state.proofs.Opened.{head_open, port_closed}
 use Rattle.state.proofs.Waiting.{waits_as}

@@ -9,7 +9,6 @@ use Rattle.words.specs.Head.{head_of}
 use Rattle.cut.specs.Walk.{next_wrapped, ended}
 use Rattle.cut.proofs.Pieces.{ended_next}
 use Rattle.transfer.proofs.Pieces.{next_part}
-use borrow.Author.Rules.{rules}
 use Rattle.transfer.proofs.next_for.Goals as goal
 
 pub end_at_boundary-requires : goal.end_at_boundary-requires

@@ -1,6 +1,5 @@
 -- `transfer::place_for` meets its contract.
 use native.Mathlib.Omega.{arith}
-use borrow.Author.Rules.{rules}
 use Rattle.transfer.proofs.place_for.Goals as goal
 
 pub returns-in-Out : goal.returns-in-Out

@@ -1,7 +1,6 @@
 -- `transfer::step_planned` meets its contract.
 use Rattle.transfer.specs.Stepping.{HandsNone, HandsOne}
 use Rattle.transfer.proofs.Handing.{none_left, more_left, last_handed}
-use borrow.Author.Rules.{rules}
 use Rattle.transfer.proofs.step_planned.Goals as goal
 
 pub returns-then-more : goal.returns-then-more

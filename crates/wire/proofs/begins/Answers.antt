@@ -1,8 +1,5 @@
 -- `wire::begins` meets its contract.
-use Prim.Native.Nat.{◌-◌}
-use native.Mathlib.Omega.{arith}
-use lib.ListN.{length}
-use Rattle.wire.proofs.Same.{Comparing, start, unlike, alike, end}
+use Rattle.wire.proofs.Same.{start, unlike, alike, end}
 use Rattle.wire.proofs.begins.Goals as goal
 use Rattle.wire.proofs.begins.Goals.{then-a-i, else-a-i}
 

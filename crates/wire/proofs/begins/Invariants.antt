@@ -1,9 +1,7 @@
 -- `wire::begins` meets its contract.
 use Prim.Native.Nat.{◌-◌}
-use mathlib.Core.Logic.{⊎_elim}
-use native.Mathlib.Omega.{arith}
 use lib.ListN.{length}
-use Rattle.wire.proofs.Same.{Comparing, start, unlike, alike, end}
+use Rattle.wire.proofs.Same.{Comparing}
 use Rattle.wire.proofs.begins.Given as goal
 
 abbrev pub invariant-loop-i : goal.invariant-loop-i

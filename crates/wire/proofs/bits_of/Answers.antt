@@ -2,7 +2,6 @@
 use native.Mathlib.Omega.{arith}
 use lib.Pow.{pow_pos}
 use Rattle.wire.proofs.Masks.{one_shifted, masked, masked_small}
-use borrow.Author.Rules.{rules}
 use Rattle.wire.proofs.bits_of.Goals as goal
 
 pub overflow_sub-mask : goal.overflow_sub-mask

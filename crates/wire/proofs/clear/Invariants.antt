@@ -1,7 +1,6 @@
 -- `wire::clear` meets its contract.
 use Prim.Native.Nat.{◌-◌}
-use native.Mathlib.Omega.{arith}
-use Rattle.wire.proofs.Stores.{Clearing, clear_start, clear_turn, clear_end}
+use Rattle.wire.proofs.Stores.{Clearing}
 use Rattle.wire.proofs.clear.Given as goal
 
 abbrev pub invariant-loop-i : goal.invariant-loop-i

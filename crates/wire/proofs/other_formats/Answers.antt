@@ -1,6 +1,5 @@
 -- `wire::other_formats` meets its contract: the tests are the definition's.
 use borrow.Author.Tests.{eq-eqb, ne_eqb}
-use borrow.Author.Rules.{rules}
 use Rattle.wire.proofs.other_formats.Goals as goal
 
 pub returns-then-formats-eq1 : goal.returns-then-formats-eq1

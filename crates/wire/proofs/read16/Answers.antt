@@ -1,5 +1,4 @@
 -- `wire::read16` meets its contract.
-use native.Mathlib.Omega.{arith}
 use Rattle.wire.proofs.Widths.{number_of_two}
 use Rattle.wire.proofs.read16.Goals as goal
 

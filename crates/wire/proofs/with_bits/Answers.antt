@@ -2,7 +2,6 @@
 use native.Mathlib.Omega.{arith}
 use lib.Pow.{pow_pos}
 use Rattle.wire.proofs.Masks.{one_shifted, joined, joined_small}
-use borrow.Author.Rules.{rules}
 use Rattle.wire.proofs.with_bits.Goals as goal
 
 pub overflow_sub-below : goal.overflow_sub-below

@@ -1,5 +1,4 @@
 -- `wire::write32` meets its contract.
-use native.Mathlib.Omega.{arith}
 use Rattle.wire.proofs.Widths.{written_by_two}
 use Rattle.wire.proofs.write32.Goals as goal
 

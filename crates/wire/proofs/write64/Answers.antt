@@ -1,6 +1,5 @@
 -- `wire::write64` meets its contract.
 use Rattle.wire.proofs.Widths.{written_by_two}
-use borrow.Author.Rules.{rules}
 use Rattle.wire.proofs.write64.Goals as goal
 
 pub returns : goal.returns

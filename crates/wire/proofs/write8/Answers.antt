@@ -2,7 +2,6 @@
 use Rattle.wire.proofs.Widths.{write_one}
 use native.Mathlib.Omega.{arith}
 use mathlib.Core.Path.{sym}
-use borrow.Author.Rules.{rules}
 use Rattle.wire.proofs.write8.Goals as goal
 
 pub returns : goal.returns

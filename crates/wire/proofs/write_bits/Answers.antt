@@ -1,5 +1,4 @@
 -- `wire::write_bits` meets its contract.
-use borrow.Author.Rules.{rules}
 use Rattle.wire.proofs.write_bits.Goals as goal
 
 pub returns : goal.returns

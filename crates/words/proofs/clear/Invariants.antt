@@ -1,8 +1,7 @@
 -- `words::clear` meets its contract.
 use Prim.Native.Nat.{◌-◌}
-use native.Mathlib.Omega.{arith}
 use lib.ListN.{length}
-use Rattle.wire.proofs.Stores.{Clearing, clear_start, clear_turn, all_clear_lem}
+use Rattle.wire.proofs.Stores.{Clearing}
 use Rattle.words.specs.Sizes.{port_words}
 use Rattle.words.proofs.clear.Given as goal
 

@@ -1,10 +1,5 @@
 use mathlib.Core.Path.{refl}
 use Rattle.words.proofs.Ports.{head_fits}
-use borrow.Author.Rules.{rules}
-use Rattle.words.proofs.get_head.Reads as reads
-use Rattle.words.proofs.get_head.Lts as lts
-use Rattle.wire.proofs.least.Reads as least-reads
-use Rattle.words.proofs.terms_of.Reads as terms-of-reads
 use Rattle.words.proofs.get_head.Goals as goal
 
 -- src/lib.rt:109:1

@@ -1,7 +1,6 @@
 -- `words::load_boundary` meets its contract.
 use mathlib.Core.Path.{refl, sym, ◌∙◌}
 use Rattle.srp.proofs.Boundaries.{zero_good}
-use borrow.Author.Rules.{rules}
 use Rattle.words.proofs.load_boundary.Goals as goal
 
 pub returns-then-is_bad : goal.returns-then-is_bad

@@ -1,8 +1,6 @@
 -- `words::put_words` meets its contract.
-use Prim.Native.Nat.{◌-◌}
 use native.Mathlib.Omega.{arith}
-use lib.ListN.{length}
-use Rattle.wire.proofs.Stores.{Copying, copy_start, copy_turn, copy_end}
+use Rattle.wire.proofs.Stores.{copy_start, copy_turn, copy_end}
 use Rattle.words.proofs.put_words.Goals as goal
 
 pub loop-j-init : goal.loop-j-init

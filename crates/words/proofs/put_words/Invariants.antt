@@ -1,8 +1,7 @@
 -- `words::put_words` meets its contract.
 use Prim.Native.Nat.{◌-◌}
-use native.Mathlib.Omega.{arith}
 use lib.ListN.{length}
-use Rattle.wire.proofs.Stores.{Copying, copy_start, copy_turn, copy_end}
+use Rattle.wire.proofs.Stores.{Copying}
 use Rattle.words.proofs.put_words.Given as goal
 
 abbrev pub invariant-loop-j : goal.invariant-loop-j

@@ -1,7 +1,4 @@
 use Rattle.words.proofs.Words.{recounted_put}
-use borrow.Author.Rules.{rules}
-use Rattle.words.proofs.set_counts.Reads as reads
-use Rattle.words.proofs.set_counts.Lts as lts
 use Rattle.words.proofs.set_counts.Goals as goal
 
 -- src/lib.rt:155:1

@@ -1,5 +1,4 @@
 -- `words::terms_of` meets its contract.
-use borrow.Author.Rules.{rules}
 use Rattle.words.proofs.terms_of.Goals as goal
 
 pub returns : goal.returns

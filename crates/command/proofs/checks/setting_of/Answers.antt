@@ -2,7 +2,6 @@
 --
 use mathlib.Core.Path.{sym, ◌∙◌}
 use borrow.Author.Tests.{lt-ltb, le-ltb}
-use borrow.Author.Rules.{rules}
 use Rattle.command.proofs.checks.setting_of.Goals as goal
 
 pub returns-then-agreed-lt-SHORTEST_AGREED : goal.returns-then-agreed-lt-SHORTEST_AGREED

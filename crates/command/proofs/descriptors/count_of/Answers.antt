@@ -1,7 +1,6 @@
 -- `command::descriptors::count_of` meets its contract. The tests are the definition's.
 --
 use borrow.Author.Tests.{eq-eqb, ne_eqb, lt-ltb, le-ltb}
-use borrow.Author.Rules.{rules}
 use Rattle.command.proofs.descriptors.count_of.Goals as goal
 
 pub returns-then-format-ne-INDIRECT : goal.returns-then-format-ne-INDIRECT

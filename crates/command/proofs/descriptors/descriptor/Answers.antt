@@ -2,7 +2,6 @@
 use native.Mathlib.Omega.{arith}
 use borrow.Author.Tests.{eq-eqb, ne_eqb}
 use Rattle.command.proofs.Formats.{indirect}
-use borrow.Author.Rules.{rules}
 use Rattle.command.proofs.descriptors.descriptor.Goals as goal
 
 pub read32-requires : goal.read32-requires

@@ -2,7 +2,6 @@
 --
 use native.Mathlib.Omega.{arith}
 use Rattle.command.proofs.Tables.{fetched_indirect, table_room, fetch_none, fetch_table}
-use borrow.Author.Rules.{rules}
 use Rattle.command.proofs.descriptors.fetch.Goals as goal
 
 pub returns-then-len-eq0 : goal.returns-then-len-eq0

@@ -1,8 +1,6 @@
 -- `command::descriptors::fetched_length` meets its contract. F, by the format, the table's length and the copies.
 --
-use borrow.Author.Rules.{rules}
 use mathlib.Core.Path.{sym, ◌∙◌}
-use borrow.Author.Tests.{not-true, not-false}
 use Rattle.command.proofs.Tables.{fetched_direct, fetched_bad, fetched_whole, fetched_table}
 use Rattle.command.proofs.descriptors.fetched_length.Goals as goal
 

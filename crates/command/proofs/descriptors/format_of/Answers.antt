@@ -1,7 +1,6 @@
 -- `command::descriptors::format_of` meets its contract. A format is agreed by its bit.
 --
 use Rattle.command.proofs.Formats.{no_descriptor, unknown, bit_set, bit_clear}
-use borrow.Author.Rules.{rules}
 use Rattle.command.proofs.descriptors.format_of.Goals as goal
 
 pub returns-then-format-eq0 : goal.returns-then-format-eq0

@@ -2,7 +2,6 @@
 --
 use native.Mathlib.Omega.{arith}
 use borrow.Author.Tests.{eq-eqb, ne_eqb}
-use borrow.Author.Rules.{rules}
 use Rattle.command.proofs.descriptors.size.Goals as goal
 
 pub returns-then-format-eq-DIRECT : goal.returns-then-format-eq-DIRECT

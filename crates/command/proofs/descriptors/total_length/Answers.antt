@@ -1,5 +1,4 @@
 -- `command::descriptors::total_length` meets its contract.
-use borrow.Author.Rules.{rules}
 use native.Mathlib.Omega.{arith}
 use borrow.Author.Tests.{eq-eqb, ne_eqb}
 use Rattle.command.proofs.Formats.{indirect}

@@ -1,7 +1,6 @@
 -- `command::given::segment_list` meets its contract. By the format, and by whether the copies are the whole table.
 --
 use Rattle.command.proofs.Tables.{list_direct, list_copies, list_table}
-use borrow.Author.Rules.{rules}
 use Rattle.command.proofs.given.segment_list.Goals as goal
 
 pub returns-then-format-ne-INDIRECT : goal.returns-then-format-ne-INDIRECT

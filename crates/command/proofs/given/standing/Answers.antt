@@ -2,7 +2,6 @@
 --
 use native.Mathlib.Omega.{arith}
 use Rattle.command.proofs.Tables.{segment_room, table_room, stands_direct, stands_copies, stands_none}
-use borrow.Author.Rules.{rules}
 use Rattle.command.proofs.given.standing.Goals as goal
 
 pub slice_bounds-result-end : goal.slice_bounds-result-end

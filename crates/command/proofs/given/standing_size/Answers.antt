@@ -1,7 +1,6 @@
 -- `command::given::standing_size` meets its contract. By the format.
 --
 use Rattle.command.proofs.Tables.{size_direct, size_copies, size_none}
-use borrow.Author.Rules.{rules}
 use Rattle.command.proofs.given.standing_size.Goals as goal
 
 pub returns-then-format-eq-DIRECT : goal.returns-then-format-eq-DIRECT

@@ -6,7 +6,6 @@ use lib.Dec.{ltb}
 use lib.ListN.{length}
 use Rattle.command.proofs.Told.{out_of_range, in_range, out_of_bounds, in_bounds, another, a_command}
 use Rattle.command.proofs.Refusing.{bad_setting_lem, bad_length_lem, other_type, is_command_lem}
-use borrow.Author.Rules.{rules}
 use Rattle.command.proofs.shape.look_shape.Goals as goal
 
 pub returns-in_default : goal.returns-in_default

@@ -10,7 +10,6 @@ use Rattle.srp.specs.Descriptors.{bad_count}
 use Rattle.command.proofs.Told.{too_short, at_least, not_so_long, so_long, above, within_limits}
 use Rattle.command.proofs.Formats.{agreed, not_agreed}
 use Rattle.command.proofs.Refusing.{short, out_format_lem, in_format_lem, not_exact, out_count_lem, in_count, shape_read, out_is, in_is, end_is, shape_is}
-use borrow.Author.Rules.{rules}
 use Rattle.command.proofs.shape.read_shape.Goals as goal
 
 pub returns-in_default : goal.returns-in_default

@@ -1,7 +1,6 @@
 -- `command::total::copies_agree` meets its contract. A list has no longer beginning.
 --
 use Rattle.command.proofs.Tables.{longer_differs}
-use borrow.Author.Rules.{rules}
 use Rattle.command.proofs.total.copies_agree.Goals as goal
 
 pub returns-then-table-copies : goal.returns-then-table-copies

@@ -1,9 +1,7 @@
 -- `command::total::fields` meets its contract. Each return is the law of the check that fails there, or of the bytes that are summed.
 --
 use mathlib.Core.Path.{sym, ◌∙◌}
-use borrow.Author.Tests.{not-true, not-false}
 use Rattle.command.proofs.Sums.{direct_length, direct_fields, bad_table, copies_length, copies_fields, bad_copies, table_length, table_fields}
-use borrow.Author.Rules.{rules}
 use Rattle.command.proofs.total.fields.Goals as goal
 
 pub sum-requires : goal.sum-requires

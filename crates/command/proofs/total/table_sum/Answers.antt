@@ -3,7 +3,6 @@
 use native.Mathlib.Omega.{arith}
 use Rattle.srp.specs.Descriptors.{segments_of}
 use Rattle.command.proofs.Sums.{past_reach, bad_total, all_right}
-use borrow.Author.Rules.{rules}
 use Rattle.command.proofs.total.table_sum.Goals as goal
 
 pub returns-in_default : goal.returns-in_default

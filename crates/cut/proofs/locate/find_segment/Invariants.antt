@@ -1,6 +1,6 @@
 -- `cut::locate::find_segment` meets its contract: the turns of proofs/Searching.
-use Rattle.std.proofs.Common.{◌-◌, arith, rules}
-use Rattle.cut.proofs.Searching.{Searching, start, here, on, end}
+use Rattle.std.proofs.Common.{◌-◌}
+use Rattle.cut.proofs.Searching.{Searching}
 use Rattle.cut.proofs.locate.find_segment.Given as goal
 
 abbrev pub invariant-loop-index : goal.invariant-loop-index

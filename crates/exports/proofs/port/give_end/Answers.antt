@@ -4,7 +4,6 @@ use Rattle.srp.specs.declared.Reply.{Reply}
 use Rattle.srp.specs.Answers as def
 use Rattle.answer.specs.Words.{answer_words}
 use Rattle.exports.proofs.Plain.{end_wordless}
-use borrow.Author.Rules.{rules}
 use Rattle.exports.proofs.port.give_end.Goals as goal
 
 pub give_nothing-requires : goal.give_nothing-requires

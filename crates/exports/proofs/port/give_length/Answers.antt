@@ -3,7 +3,6 @@ use mathlib.Core.Path.{sym, ap}
 use mathlib.Core.List.{List}
 use lib.IntN.{ℤ}
 use Rattle.answer.specs.Words.{eight}
-use borrow.Author.Rules.{rules}
 use Rattle.exports.proofs.port.give_length.Goals as goal
 
 pub returns : goal.returns

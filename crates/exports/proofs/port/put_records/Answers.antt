@@ -1,8 +1,7 @@
 use mathlib.Core.Path.{◌≡◌, sym, ◌∙◌, ap, subst}
 use mathlib.Core.List.{List}
-use Prim.Native.Nat.{ℕ, ◌+◌, ◌-◌, ◌*◌}
+use Prim.Native.Nat.{ℕ, ◌+◌, ◌*◌}
 use native.Mathlib.Omega.{arith}
-use borrow.Author.Rules.{rules}
 use lib.ListN.{length, get_or, get_or-map, length-map}
 use lib.Seq.{paste}
 use Rattle.srp.specs.Limits.{most_buffers}
@@ -13,10 +12,6 @@ use Rattle.words.proofs.Slots.{slots_long}
 use Rattle.report.specs.Reports.{slot_record, slot_records}
 use Rattle.exports.specs.Arguments.{record_size, record_words}
 use Rattle.exports.proofs.Listing.{Filling, fill_none, fill_more, fill_all}
-use Rattle.exports.proofs.port.put_records.Reads as reads
-use Rattle.exports.proofs.port.put_records.Lts as lts
-use Rattle.exports.proofs.port.put_record.Reads as put-record-reads
-use Rattle.report.proofs.record_at.Reads as record-at-reads
 use Rattle.exports.proofs.port.put_records.Goals as goal
 
 -- src/port.rt:230:5

@@ -8,12 +8,6 @@ use Rattle.words.specs.View.{view}
 use Rattle.exports.proofs.InC.{in_numbers, silently}
 use Rattle.exports.proofs.Listing.{counters_unwritten}
 use Rattle.exports.proofs.Plain.{counters_wordless}
-use borrow.Author.Rules.{rules}
-use Rattle.exports.proofs.port.srp_target_counters.Reads as reads
-use Rattle.exports.proofs.port.srp_target_counters.Lts as lts
-use Rattle.answer.proofs.counter_words.Reads as counter-words-reads
-use Rattle.exports.proofs.port.give_nothing.Reads as give-nothing-reads
-use Rattle.report.proofs.counters.Reads as counters-reads
 use Rattle.exports.proofs.port.srp_target_counters.Goals as goal
 
 -- src/port.rt:214:9

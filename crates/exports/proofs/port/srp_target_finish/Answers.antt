@@ -5,7 +5,6 @@ use Rattle.srp.specs.Calls.{finish_def}
 use Rattle.words.specs.View.{view}
 use Rattle.exports.proofs.InC.{answers_in_c}
 use Rattle.exports.proofs.Plain.{plain_answer, finish_plain}
-use borrow.Author.Rules.{rules}
 use Rattle.exports.proofs.port.srp_target_finish.Goals as goal
 
 pub give_length-requires : goal.give_length-requires

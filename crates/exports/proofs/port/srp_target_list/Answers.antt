@@ -3,11 +3,6 @@ use native.Mathlib.Omega.{arith}
 use borrow.Author.Rules.{rules}
 use Rattle.exports.proofs.Listing.{list_wordless, list_refused, listed_in_c}
 use borrow.Author.Rules.{rules}
-use Rattle.exports.proofs.port.srp_target_list.Reads as reads
-use Rattle.exports.proofs.port.srp_target_list.Lts as lts
-use Rattle.exports.proofs.port.give_nothing.Reads as give-nothing-reads
-use Rattle.exports.proofs.port.put_records.Reads as put-records-reads
-use Rattle.report.proofs.count_for.Reads as count-for-reads
 use Rattle.exports.proofs.port.srp_target_list.Goals as goal
 
 -- src/port.rt:254:9

@@ -1,7 +1,6 @@
 -- `exports::port::srp_target_login` meets its contract.
 use lib.ListN.{length}
 use Rattle.exports.proofs.InC.{logs_in_c}
-use borrow.Author.Rules.{rules}
 use Rattle.exports.proofs.port.srp_target_login.Goals as goal
 
 pub returns : goal.returns

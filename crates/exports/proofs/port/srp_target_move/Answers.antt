@@ -1,6 +1,5 @@
 -- `exports::port::srp_target_move` meets its contract.
 use Rattle.exports.proofs.InC.{move_in_c}
-use borrow.Author.Rules.{rules}
 use Rattle.exports.proofs.port.srp_target_move.Goals as goal
 
 pub returns : goal.returns

@@ -6,7 +6,6 @@ use Rattle.answer.specs.Words.{answer_words}
 use Rattle.words.specs.View.{view}
 use Rattle.exports.proofs.InC.{step_in_c}
 use Rattle.exports.proofs.Plain.{step_ends}
-use borrow.Author.Rules.{rules}
 use Rattle.exports.proofs.port.srp_target_step.Goals as goal
 
 pub give_end-requires : goal.give_end-requires

@@ -6,7 +6,6 @@ use Rattle.answer.specs.Words.{answer_words}
 use Rattle.words.specs.View.{view}
 use Rattle.exports.proofs.InC.{turn_in_c}
 use Rattle.exports.proofs.Plain.{turn_wordless}
-use borrow.Author.Rules.{rules}
 use Rattle.exports.proofs.port.srp_target_turn.Goals as goal
 
 pub give_nothing-requires : goal.give_nothing-requires

@@ -4,11 +4,6 @@ use Rattle.words.specs.View.{view}
 use Rattle.tables.specs.Bringing.{tables}
 use Rattle.exports.proofs.InC.{tables_in_c}
 use Rattle.exports.proofs.Plain.{plain_answer, tables_plain}
-use borrow.Author.Rules.{rules}
-use Rattle.exports.proofs.taking.srp_target_tables.Reads as reads
-use Rattle.exports.proofs.taking.srp_target_tables.Lts as lts
-use Rattle.exports.proofs.port.give_length.Reads as give-length-reads
-use Rattle.tables.proofs.bring.Reads as bring-reads
 use Rattle.exports.proofs.taking.srp_target_tables.Goals as goal
 
 -- src/taking.rt:51:5

@@ -3,12 +3,6 @@ use Rattle.srp.specs.declared.Reply.{Reply}
 use Rattle.srp.specs.Answers as def
 use Rattle.answer.specs.Words.{answer_words}
 use Rattle.exports.proofs.InC.{take_in_c}
-use borrow.Author.Rules.{rules}
-use Rattle.exports.proofs.taking.srp_target_take.Reads as reads
-use Rattle.exports.proofs.taking.srp_target_take.Lts as lts
-use Rattle.answer.proofs.command_words.Reads as command-words-reads
-use Rattle.exports.proofs.port.give.Reads as give-reads
-use Rattle.take.proofs.take.Reads as take-reads
 use Rattle.exports.proofs.taking.srp_target_take.Goals as goal
 
 -- src/taking.rt:30:9

@@ -3,7 +3,6 @@ use borrow.Author.Tests.{eq-eqb, ne_eqb}
 use Rattle.page.proofs.Types.{code_there}
 use mathlib.Core.Path.{ap}
 use Rattle.page.specs.declared.Entry.TheVariants.{Number}
-use borrow.Author.Rules.{rules}
 use Rattle.page.proofs.entries.code_of.Goals as goal
 
 pub returns-then-valid-ne1 : goal.returns-then-valid-ne1

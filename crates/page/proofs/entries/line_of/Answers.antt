@@ -1,7 +1,6 @@
 -- `page::entries::line_of` meets its contract: for each type its fields, which a message of its length has.
 use mathlib.Core.Path.{◌∙◌}
 use native.Mathlib.Omega.{arith}
-use borrow.Author.Rules.{rules}
 use Rattle.page.proofs.entries.line_of.Goals as goal
 
 pub tagged-requires : goal.tagged-requires

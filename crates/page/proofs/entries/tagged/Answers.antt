@@ -1,5 +1,4 @@
 -- `page::entries::tagged` meets its contract: the tag is read.
-use borrow.Author.Rules.{rules}
 use Rattle.page.proofs.entries.tagged.Goals as goal
 
 pub returns : goal.returns

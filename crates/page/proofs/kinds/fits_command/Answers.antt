@@ -1,7 +1,6 @@
 -- `page::kinds::fits_command` meets its contract: each return is the law of the check that hits there; the last compares the length.
 --
 use Rattle.page.proofs.Types.{short_command, strange_out, strange_in, by_length}
-use borrow.Author.Rules.{rules}
 use Rattle.page.proofs.kinds.fits_command.Goals as goal
 
 pub returns-then-len-lt-SHORTEST_COMMAND : goal.returns-then-len-lt-SHORTEST_COMMAND

@@ -1,6 +1,5 @@
 -- `page::kinds::fits_response` meets its contract: by the length.
 use Rattle.page.proofs.Types.{short_response, by_parts}
-use borrow.Author.Rules.{rules}
 use Rattle.page.proofs.kinds.fits_response.Goals as goal
 
 pub returns-then-len-lt-RSP_SIZE : goal.returns-then-len-lt-RSP_SIZE

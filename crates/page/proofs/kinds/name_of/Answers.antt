@@ -1,6 +1,5 @@
 -- `page::kinds::name_of` meets its contract: an empty message, one that fits its type, any other.
 use Rattle.page.proofs.Types.{empty, known, unknown}
-use borrow.Author.Rules.{rules}
 use Rattle.page.proofs.kinds.name_of.Goals as goal
 
 pub returns-then-len-eq0 : goal.returns-then-len-eq0

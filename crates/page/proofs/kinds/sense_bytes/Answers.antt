@@ -2,7 +2,6 @@
 use mathlib.Core.Path.{refl}
 use native.Mathlib.Omega.{arith}
 use borrow.Author.Tests.{eq-eqb, ne_eqb}
-use borrow.Author.Rules.{rules}
 use Rattle.page.proofs.kinds.sense_bytes.Goals as goal
 
 pub returns-then-read_bits-eq1 : goal.returns-then-read_bits-eq1

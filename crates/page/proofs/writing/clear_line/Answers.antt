@@ -1,13 +1,12 @@
 -- `page::writing::clear_line` meets its contract: the loop writes the spaces, the last store the line feed.
 --
 use mathlib.Core.Path.{◌≡◌, refl, ap, ◌∙◌}
-use mathlib.Core.List.{List, ◌++◌}
-use Prim.Native.Nat.{ℕ, ◌≤◌, ◌-◌, ◌+◌}
+use mathlib.Core.List.{List}
+use Prim.Native.Nat.{ℕ}
 use native.Mathlib.Omega.{arith}
-use lib.ListN.{length, drop, set, replicate, length-set}
+use lib.ListN.{set, length-set}
 use borrow.Author.Fill.{fill_none, fill_more}
 use Rattle.page.proofs.Lines.{fed}
-use borrow.Author.Rules.{rules}
 use Rattle.page.proofs.writing.clear_line.Goals as goal
 
 pub loop-i-init : goal.loop-i-init

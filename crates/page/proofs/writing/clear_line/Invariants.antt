@@ -1,13 +1,9 @@
 -- `page::writing::clear_line` meets its contract: the loop writes the spaces, the last store the line feed.
 --
-use mathlib.Core.Path.{◌≡◌, refl, ap, ◌∙◌}
-use mathlib.Core.List.{List, ◌++◌}
-use Prim.Native.Nat.{ℕ, ◌≤◌, ◌-◌, ◌+◌}
-use native.Mathlib.Omega.{arith}
-use lib.ListN.{length, drop, set, replicate, length-set}
-use borrow.Author.Fill.{fill_none, fill_more}
-use Rattle.page.proofs.Lines.{fed}
-use borrow.Author.Rules.{rules}
+use mathlib.Core.Path.{◌≡◌}
+use mathlib.Core.List.{◌++◌}
+use Prim.Native.Nat.{◌≤◌, ◌-◌}
+use lib.ListN.{length, drop, replicate}
 use Rattle.page.proofs.writing.clear_line.Given as goal
 
 abbrev pub invariant-loop-i : goal.invariant-loop-i

@@ -1,7 +1,6 @@
 -- `page::writing::count_text` meets its contract: five stars, or the digits behind spaces.
 use borrow.Author.Tests.{lt-ltb}
 use Rattle.page.proofs.Counts.{five}
-use borrow.Author.Rules.{rules}
 use Rattle.page.proofs.writing.count_text.Goals as goal
 
 pub returns-then-n-gt-MOST : goal.returns-then-n-gt-MOST

@@ -1,6 +1,5 @@
 -- `page::writing::lead_of` meets its contract: a space, or a digit.
 use borrow.Author.Tests.{eq-eqb, ne_eqb}
-use borrow.Author.Rules.{rules}
 use Rattle.page.proofs.writing.lead_of.Goals as goal
 
 pub returns-then-rest-eq0 : goal.returns-then-rest-eq0

@@ -2,7 +2,6 @@
 use mathlib.Core.Path.{sym, ap}
 use Rattle.page.specs.Page.{padded, letters}
 use Rattle.page.specs.declared.Name.{Name}
-use borrow.Author.Rules.{rules}
 use Rattle.page.proofs.writing.letters_of.Goals as goal
 
 pub returns-in-LoginReq : goal.returns-in-LoginReq

@@ -4,7 +4,6 @@ use mathlib.Core.List.{[], ◌∷◌}
 use Prim.Native.Nat.{ℕ}
 use Rattle.text.proofs.Texts.{whole, spelt}
 use Rattle.page.proofs.Lines.{placed_line}
-use borrow.Author.Rules.{rules}
 use Rattle.page.proofs.writing.put_line.Goals as goal
 
 pub returns : goal.returns

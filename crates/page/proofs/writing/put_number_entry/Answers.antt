@@ -1,7 +1,6 @@
 -- `page::writing::put_number_entry` meets its contract: nothing, or five columns.
 use Rattle.text.proofs.Texts.{whole, spelt}
 use Rattle.page.proofs.Lines.{over_nothing}
-use borrow.Author.Rules.{rules}
 use Rattle.page.proofs.writing.put_number_entry.Goals as goal
 
 pub returns-in-Blank : goal.returns-in-Blank

@@ -1,11 +1,6 @@
 -- `state::leave` meets its contract.
 use mathlib.Core.Path.{sym, ◌∙◌}
-use mathlib.Core.Logic.{⊎_elim}
-use Prim.Native.Nat.{◌-◌}
-use native.Mathlib.Omega.{arith}
-use borrow.Author.Rules.{rules}
-use borrow.Author.Tests.{not-true, not-false}
-use Rattle.state.proofs.Parting.{Parting, part_start, part_left, part_kept, part_unmoved, parted}
+use Rattle.state.proofs.Parting.{part_start, part_left, part_kept, part_unmoved, parted}
 use Rattle.state.proofs.moves.leave.Goals as goal
 use Rattle.state.proofs.moves.leave.Goals.{then-not-move_leaves, then-kept-i, else-kept-i, else-not-move_leaves}
 

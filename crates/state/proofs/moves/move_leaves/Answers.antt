@@ -3,7 +3,6 @@ use mathlib.Core.Path.{sym, ◌∙◌, ap}
 use Rattle.words.specs.View.{shown}
 use Rattle.state.specs.Leaving.{leaves}
 use Rattle.state.specs.declared.Leaving.{Leaving}
-use borrow.Author.Rules.{rules}
 use Rattle.state.proofs.moves.move_leaves.Goals as goal
 
 pub returns-in-Handed : goal.returns-in-Handed

@@ -2,7 +2,6 @@
 use mathlib.Core.Path.{sym, ap}
 use Rattle.state.specs.Leaving.{other_tag_lem}
 use Rattle.state.specs.declared.Ending.{Ending}
-use borrow.Author.Rules.{rules}
 use Rattle.state.proofs.moves.other_tag.Goals as goal
 
 pub returns-in-Finished : goal.returns-in-Finished

@@ -1,7 +1,6 @@
 -- `state::same_place` meets its contract.
 use mathlib.Core.Path.{refl}
 use borrow.Author.Tests.{eq-eqb, ne_eqb}
-use borrow.Author.Rules.{rules}
 use Rattle.state.proofs.moves.same_place.Goals as goal
 
 pub returns-then-x-y : goal.returns-then-x-y

@@ -1,19 +1,5 @@
-use mathlib.Core.Path.{sym, ◌∙◌, ap}
 use native.Mathlib.Omega.{arith}
-use Rattle.words.specs.declared.Slot.{Slot}
-use Rattle.words.specs.Slots.{not_waiting_lem}
-use Rattle.store.specs.Places.{new_slot}
 use Rattle.store.proofs.Supplying.{ready_fits, brought}
-use borrow.Author.Rules.{rules}
-use Rattle.store.proofs.supply.bring.Reads as reads
-use Rattle.store.proofs.supply.bring.Lts as lts
-use Rattle.store.proofs.put_bytes.Reads as put-bytes-reads
-use Rattle.store.proofs.supply.carry.Reads as carry-reads
-use Rattle.store.proofs.supply.not_waiting.Reads as not-waiting-reads
-use Rattle.store.proofs.supply.own_place.Reads as own-place-reads
-use Rattle.words.proofs.commands.load_place.Reads as load-place-reads
-use Rattle.words.proofs.commands.load_request.Reads as load-request-reads
-use Rattle.words.proofs.commands.save.Reads as save-reads
 use Rattle.store.proofs.supply.bring.Goals as goal
 
 -- src/supply.rt:92:5

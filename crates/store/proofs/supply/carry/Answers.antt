@@ -1,13 +1,7 @@
-use mathlib.Core.Path.{refl}
 use Prim.Native.Nat.{◌+◌, ◌-◌, ◌*◌}
 use native.Mathlib.Omega.{arith}
-use lib.ListN.{replicate}
 use Rattle.words.specs.Sizes.{place_size}
 use Rattle.store.proofs.Supplying.{carried_same, carried_by}
-use borrow.Author.Rules.{rules}
-use Rattle.store.proofs.supply.carry.Reads as reads
-use Rattle.store.proofs.supply.carry.Lts as lts
-use Rattle.store.proofs.put_bytes.Reads as put-bytes-reads
 use Rattle.store.proofs.supply.carry.Goals as goal
 
 -- src/supply.rt:42:9

@@ -1,12 +1,6 @@
 use native.Mathlib.Omega.{arith}
-use borrow.Author.Tests.{not-true}
 use Rattle.words.proofs.Ports.{opens_long}
 use Rattle.store.proofs.Marks.{free_at}
-use borrow.Author.Rules.{rules}
-use Rattle.store.proofs.supply.own_place.Reads as reads
-use Rattle.store.proofs.supply.own_place.Lts as lts
-use Rattle.store.proofs.first_free.Reads as first-free-reads
-use Rattle.store.proofs.places.Reads as places-reads
 use Rattle.store.proofs.supply.own_place.Goals as goal
 
 -- src/supply.rt:29:9

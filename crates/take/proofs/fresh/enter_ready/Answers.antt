@@ -1,16 +1,8 @@
-use mathlib.Core.Path.{◌≡◌, refl, sym, ◌∙◌}
+use mathlib.Core.Path.{refl}
 use native.Mathlib.Omega.{arith}
 use Rattle.state.proofs.Promises.{accepted}
 use Rattle.take.proofs.Endings.{listed, listed_short, entered_ready, holds_segments}
 use Rattle.take.proofs.Stored.{taken}
-use borrow.Author.Rules.{rules}
-use Rattle.take.proofs.fresh.enter_ready.Reads as reads
-use Rattle.take.proofs.fresh.enter_ready.Lts as lts
-use Rattle.command.proofs.segment_list.Reads as segment-list-reads
-use Rattle.command.proofs.standing.Reads as standing-reads
-use Rattle.store.proofs.enter.Reads as enter-reads
-use Rattle.store.proofs.new_part.Reads as new-part-reads
-use Rattle.store.proofs.not_waiting.Reads as not-waiting-reads
 use Rattle.take.proofs.fresh.enter_ready.Goals as goal
 
 -- src/fresh.rt:79:36

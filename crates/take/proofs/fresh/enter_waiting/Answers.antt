@@ -1,16 +1,7 @@
-use mathlib.Core.Path.{refl, sym, ◌∙◌}
-use mathlib.Core.Bool.{true}
-use native.Mathlib.Omega.{arith}
+use mathlib.Core.Path.{refl}
 use Rattle.state.proofs.Promises.{accepted}
 use Rattle.take.proofs.Endings.{entered_waiting, holds_standing}
 use Rattle.take.proofs.Stored.{taken}
-use borrow.Author.Rules.{rules}
-use Rattle.take.proofs.fresh.enter_waiting.Reads as reads
-use Rattle.take.proofs.fresh.enter_waiting.Lts as lts
-use Rattle.command.proofs.placeless.Reads as placeless-reads
-use Rattle.command.proofs.standing.Reads as standing-reads
-use Rattle.store.proofs.enter.Reads as enter-reads
-use Rattle.store.proofs.new_part.Reads as new-part-reads
 use Rattle.take.proofs.fresh.enter_waiting.Goals as goal
 
 -- src/fresh.rt:42:9

@@ -6,13 +6,6 @@ use Rattle.state.proofs.Opened.{announced_is}
 use Rattle.take.proofs.Stored.{not_taken}
 use Rattle.take.proofs.Branches.{command_22, command_23, command_on}
 use Rattle.take.proofs.Heads.{some_credit}
-use borrow.Author.Rules.{rules}
-use Rattle.take.proofs.fresh.take_command.Reads as reads
-use Rattle.take.proofs.fresh.take_command.Lts as lts
-use Rattle.state.proofs.find.Reads as find-reads
-use Rattle.take.proofs.fresh.take_fields.Reads as take-fields-reads
-use Rattle.take.proofs.hang_up.Reads as hang-up-reads
-use Rattle.words.proofs.get_head.Reads as get-head-reads
 use Rattle.take.proofs.fresh.take_command.Goals as goal
 
 -- src/fresh.rt:146:9

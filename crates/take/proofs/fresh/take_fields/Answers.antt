@@ -1,9 +1,6 @@
 use mathlib.Core.Path.{refl, ◌∙◌, sym, subst}
-use mathlib.Core.Bool.{true, false}
-use borrow.Author.Tests.{not-true, not-false}
-use Rattle.srp.specs.Descriptors.{chosen, given, giving}
-use Rattle.cut.specs.declared.Total.{Total}
-use Rattle.command.specs.Reading.{ListFits, FieldsRead}
+use Rattle.srp.specs.Descriptors.{chosen, given}
+use Rattle.command.specs.Reading.{ListFits}
 use Rattle.words.specs.View.{view}
 use Rattle.state.proofs.Promises.{answers_by}
 use Rattle.command.proofs.Tables.{none_awaited}
@@ -11,15 +8,6 @@ use Rattle.command.proofs.Judged.{fields_wrong, fields_right}
 use Rattle.take.proofs.Stored.{not_taken}
 use Rattle.take.proofs.Branches.{fields_wait, out_10, in_10, fields_on}
 use Rattle.take.proofs.Endings.{fields_told}
-use borrow.Author.Rules.{rules}
-use Rattle.take.proofs.fresh.take_fields.Reads as reads
-use Rattle.take.proofs.fresh.take_fields.Lts as lts
-use Rattle.command.proofs.standing.Reads as standing-reads
-use Rattle.command.proofs.fields.Reads as fields-reads
-use Rattle.command.proofs.waits.Reads as waits-reads
-use Rattle.take.proofs.answer_bad.Reads as answer-bad-reads
-use Rattle.take.proofs.fresh.enter_ready.Reads as enter-ready-reads
-use Rattle.take.proofs.fresh.enter_waiting.Reads as enter-waiting-reads
 use Rattle.take.proofs.fresh.take_fields.Goals as goal
 
 -- src/fresh.rt:115:9

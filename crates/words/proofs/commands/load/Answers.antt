@@ -6,7 +6,6 @@ use Rattle.words.specs.Sizes.{slot_words}
 use Rattle.words.specs.Slots.{slot_of_lem, slot_at, region}
 use Rattle.words.proofs.Slots.{slot_at_lem}
 use Rattle.words.proofs.Ports.{said_fits}
-use borrow.Author.Rules.{rules}
 use Rattle.words.proofs.commands.load.Goals as goal
 
 pub returns : goal.returns

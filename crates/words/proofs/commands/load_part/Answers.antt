@@ -6,7 +6,6 @@ use Rattle.words.specs.Sizes.{slot_words}
 use Rattle.words.specs.Slots.{part_in, part_at_lem, slot_at, region}
 use Rattle.words.proofs.Slots.{slot_part}
 use Rattle.words.proofs.Ports.{part_fits}
-use borrow.Author.Rules.{rules}
 use Rattle.words.proofs.commands.load_part.Goals as goal
 
 pub returns : goal.returns

@@ -2,7 +2,6 @@
 use mathlib.Core.Path.{sym}
 use native.Mathlib.Omega.{arith}
 use Rattle.words.proofs.Slots.{slot_place}
-use borrow.Author.Rules.{rules}
 use Rattle.words.proofs.commands.load_place.Goals as goal
 
 pub returns : goal.returns

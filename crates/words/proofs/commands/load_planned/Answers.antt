@@ -1,7 +1,6 @@
 -- `words::load_planned` meets its contract.
 use mathlib.Core.Path.{sym}
 use Rattle.words.proofs.Slots.{slot_planned}
-use borrow.Author.Rules.{rules}
 use Rattle.words.proofs.commands.load_planned.Goals as goal
 
 pub returns : goal.returns

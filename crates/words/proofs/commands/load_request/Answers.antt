@@ -5,7 +5,6 @@ use native.Mathlib.Omega.{arith}
 use Rattle.words.specs.Sizes.{slot_words}
 use Rattle.words.specs.Slots.{slot_at}
 use Rattle.words.proofs.Slots.{slot_request_lem}
-use borrow.Author.Rules.{rules}
 use Rattle.words.proofs.commands.load_request.Goals as goal
 
 pub returns : goal.returns

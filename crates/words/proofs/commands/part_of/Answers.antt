@@ -1,6 +1,5 @@
 -- `words::part_of` meets its contract.
 use mathlib.Core.Path.{refl}
-use borrow.Author.Rules.{rules}
 use Rattle.words.proofs.commands.part_of.Goals as goal
 
 pub returns : goal.returns

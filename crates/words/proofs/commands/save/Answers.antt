@@ -1,10 +1,4 @@
 use Rattle.words.proofs.Slots.{saved}
-use borrow.Author.Rules.{rules}
-use Rattle.words.proofs.commands.save.Reads as reads
-use Rattle.words.proofs.commands.save.Lts as lts
-use Rattle.words.proofs.commands.words_of.Reads as words-of-reads
-use Rattle.words.proofs.put_words.Reads as put-words-reads
-use Rattle.words.proofs.waiting.awaited_words.Reads as awaited-words-reads
 use Rattle.words.proofs.commands.save.Goals as goal
 
 -- src/commands.rt:196:1

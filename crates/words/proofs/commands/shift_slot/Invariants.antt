@@ -1,9 +1,7 @@
 -- `words::shift_slot` meets its contract.
 use Prim.Native.Nat.{◌-◌}
-use native.Mathlib.Omega.{arith}
-use borrow.Author.Rules.{rules}
 use Rattle.words.specs.Sizes.{used_words}
-use Rattle.words.proofs.Words.{Shifting, shift_start, shift_more, shifted}
+use Rattle.words.proofs.Words.{Shifting}
 use Rattle.words.proofs.commands.shift_slot.Given as goal
 
 abbrev pub invariant-loop-j : goal.invariant-loop-j

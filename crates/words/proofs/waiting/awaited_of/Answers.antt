@@ -1,8 +1,4 @@
 use mathlib.Core.Path.{refl}
-use borrow.Author.Rules.{rules}
-use Rattle.words.proofs.waiting.awaited_of.Reads as reads
-use Rattle.words.proofs.waiting.awaited_of.Lts as lts
-use Rattle.words.proofs.waiting.descriptor_of.Reads as descriptor-of-reads
 use Rattle.words.proofs.waiting.awaited_of.Goals as goal
 
 -- src/waiting.rt:54:1

@@ -1,8 +1,5 @@
 use mathlib.Core.Path.{sym}
 use Rattle.words.proofs.Slots.{slot_waiting}
-use borrow.Author.Rules.{rules}
-use Rattle.words.proofs.waiting.load_waiting.Reads as reads
-use Rattle.words.proofs.waiting.load_waiting.Lts as lts
 use Rattle.words.proofs.waiting.load_waiting.Goals as goal
 
 -- src/waiting.rt:86:1
