@@ -188,10 +188,9 @@ pub struct Record {
     pub inn: u32,
 }
 
-// What a call on the port answers.
+// What a call on the port answers that is not refused.
 #[derive(Clone, Copy)]
 pub enum Reply {
-    Refused(Refusal),
     // tables, a plan, move, add, withdraw, finish, grant or close
     Performed,
     // a take: a command with its CDB's length, and whether it waits for its tables; a task request; a settled credit request; the initiator's logout
@@ -221,9 +220,9 @@ pub enum Reply {
     Listed(usize),
 }
 
-// A reply, and the length of the message in the lent buffer, 0 where none was written.
+// A reply or why there is none, and the length of the message in the lent buffer, 0 where none was written.
 #[derive(Clone, Copy)]
 pub struct Answer {
-    pub reply: Reply,
+    pub reply: Result<Reply, Refusal>,
     pub wrote: usize,
 }
