@@ -72,18 +72,18 @@ pub fn refused(f: Refusal) -> Answer
     ensures { result ≡ refusing f }
 {
     Answer {
-        reply: Reply::Refused(f),
+        reply: Err(f),
         wrote: 0,
     }
 }
 
 // The number that a call from C returns.
-pub fn returned(reply: Reply) -> u32
+pub fn returned(reply: Result<Reply, Refusal>) -> u32
     ensures { result ≡ Rattle.srp.specs.Answers.returned reply }
 {
     match reply {
-        Reply::Refused(f) => number_of(f),
-        _ => 0,
+        Ok(_) => 0,
+        Err(f) => number_of(f),
     }
 }
 
@@ -109,7 +109,7 @@ fn kind_number(k: Kind) -> u64
 
 // The eight words that a call from C answers: those of an operation.
 pub fn operation_words(k: Kind, p: Piece, n: u32) -> [u64; 8]
-    ensures { (wrote : ℕ) → result ≡ answer_words (record { reply = Operation k p n; wrote = wrote }) }
+    ensures { (wrote : ℕ) → result ≡ answer_words (record { reply = Ok (Operation k p n); wrote = wrote }) }
 {
     [
         1,
@@ -125,7 +125,7 @@ pub fn operation_words(k: Kind, p: Piece, n: u32) -> [u64; 8]
 
 // Those of a step that says done.
 pub fn done_words(n: u32) -> [u64; 8]
-    ensures { (wrote : ℕ) → result ≡ answer_words (record { reply = Done n; wrote = wrote }) }
+    ensures { (wrote : ℕ) → result ≡ answer_words (record { reply = Ok (Done n); wrote = wrote }) }
 {
     [0, 0, 0, 0, 0, 0, n as u64, 0]
 }
@@ -142,7 +142,7 @@ fn direction_number(d: Direction) -> u64
 
 // Those of a turn that serves a move.
 pub fn served_words(tag: u64, d: Direction, p: Piece, n: u32) -> [u64; 8]
-    ensures { (wrote : ℕ) → result ≡ answer_words (record { reply = Served tag d p n; wrote = wrote }) }
+    ensures { (wrote : ℕ) → result ≡ answer_words (record { reply = Ok (Served tag d p n); wrote = wrote }) }
 {
     [
         1,
@@ -158,7 +158,7 @@ pub fn served_words(tag: u64, d: Direction, p: Piece, n: u32) -> [u64; 8]
 
 // Those of the counters.
 pub fn counter_words(c: Counters) -> [u64; 8]
-    ensures { (wrote : ℕ) → result ≡ answer_words (record { reply = Counts c; wrote = wrote }) }
+    ensures { (wrote : ℕ) → result ≡ answer_words (record { reply = Ok (Counts c); wrote = wrote }) }
 {
     [
         c.wanted as u64,
@@ -174,7 +174,7 @@ pub fn counter_words(c: Counters) -> [u64; 8]
 
 // Those of a command.
 pub fn command_words(wrote: usize, tag: u64, lun: u64, cdb: usize, waits: bool) -> [u64; 8]
-    ensures { result ≡ answer_words (record { reply = NewCommand tag lun cdb waits; wrote = wrote }) }
+    ensures { result ≡ answer_words (record { reply = Ok (NewCommand tag lun cdb waits); wrote = wrote }) }
 {
     [
         wrote as u64,
@@ -193,9 +193,10 @@ pub fn words_of(a: Answer) -> [u64; 8]
     ensures { result ≡ answer_words a }
 {
     let wrote = a.wrote as u64;
-    let reply = a.reply;
+    let Ok(reply) = a.reply else {
+        return [wrote, 0, 0, 0, 0, 0, 0, 0];
+    };
     match reply {
-        Reply::Refused(_) => [wrote, 0, 0, 0, 0, 0, 0, 0],
         Reply::Performed => [wrote, 0, 0, 0, 0, 0, 0, 0],
         Reply::NewCommand {
             tag,
