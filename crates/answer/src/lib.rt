@@ -26,32 +26,7 @@ const ALL_BITS: u64 = 18446744073709551615;
 pub fn number_of(refusal: Refusal) -> u32
     ensures { result ≡ number_of refusal }
 {
-    match refusal {
-        Refusal::ShortBuffer => 1,
-        Refusal::Setting => 2,
-        Refusal::Length => 3,
-        Refusal::OtherType => 4,
-        Refusal::OutFormat => 5,
-        Refusal::InFormat => 6,
-        Refusal::OutCount => 7,
-        Refusal::InCount => 8,
-        Refusal::TableLength => 9,
-        Refusal::Fields => 10,
-        Refusal::Argument => 11,
-        Refusal::Closed => 21,
-        Refusal::NoCredit => 22,
-        Refusal::TagOpen => 23,
-        Refusal::TagNotOpen => 24,
-        Refusal::CreditResponse => 25,
-        Refusal::Unanswered => 26,
-        Refusal::NotOwed => 27,
-        Refusal::Wanted => 28,
-        Refusal::Unplanned => 29,
-        Refusal::Planned => 30,
-        Refusal::Offset => 31,
-        Refusal::Unfinished => 32,
-        Refusal::Waiting => 33,
-    }
+    refusal as u32
 }
 
 // The reason in the SRP_T_LOGOUT of a hang-up.

@@ -4,33 +4,33 @@
 
 pub mod limits;
 
-// Why a call is refused, in the order of the papers' numbers.
+// Why a call is refused, with the papers' numbers.
 #[derive(Clone, Copy)]
 pub enum Refusal {
-    ShortBuffer,
-    Setting,
-    Length,
-    OtherType,
-    OutFormat,
-    InFormat,
-    OutCount,
-    InCount,
-    TableLength,
-    Fields,
-    Argument,
-    Closed,
-    NoCredit,
-    TagOpen,
-    TagNotOpen,
-    CreditResponse,
-    Unanswered,
-    NotOwed,
-    Wanted,
-    Unplanned,
-    Planned,
-    Offset,
-    Unfinished,
-    Waiting,
+    ShortBuffer = 1,
+    Setting = 2,
+    Length = 3,
+    OtherType = 4,
+    OutFormat = 5,
+    InFormat = 6,
+    OutCount = 7,
+    InCount = 8,
+    TableLength = 9,
+    Fields = 10,
+    Argument = 11,
+    Closed = 21,
+    NoCredit = 22,
+    TagOpen = 23,
+    TagNotOpen = 24,
+    CreditResponse = 25,
+    Unanswered = 26,
+    NotOwed = 27,
+    Wanted = 28,
+    Unplanned = 29,
+    Planned = 30,
+    Offset = 31,
+    Unfinished = 32,
+    Waiting = 33,
 }
 
 // Data-out, which RDMA Reads fetch, and data-in, which RDMA Writes bring.
