@@ -3,8 +3,7 @@
 
 ghost use Rattle.std.specs.Prelude.{◌≡◌, ℕ};
 ghost use Rattle.srp.specs.Refusals.{number_of, conduct_of, reason_in};
-ghost use Rattle.srp.specs.Calls.{kind_of};
-ghost use Rattle.srp.specs.Answers.{refusing, kind_number_lem};
+ghost use Rattle.srp.specs.Answers.{refusing};
 ghost use Rattle.srp.specs.declared.Reply.TheVariants.{NewCommand, Operation, Done, Served, Counts};
 ghost use Rattle.answer.specs.Words.{answer_words};
 
@@ -19,8 +18,6 @@ const TASK: u64 = 2;
 const CREDIT_RESPONSE: u64 = 3;
 
 const LOGOUT: u64 = 4;
-
-const ALL_BITS: u64 = 18446744073709551615;
 
 // The papers' number of a refusal.
 pub fn number_of(refusal: Refusal) -> u32
@@ -66,20 +63,7 @@ pub fn returned(reply: Result<Reply, Refusal>) -> u32
 pub fn word(d: i64) -> u64
     ensures { result ≡ Rattle.answer.specs.Words.word d }
 {
-    if d < 0 {
-        let n = (-1 - d) as u64;
-        return ALL_BITS - n;
-    }
-    d as u64
-}
-
-fn kind_number(k: Kind) -> u64
-    ensures { result ≡ kind_number_lem k }
-{
-    match k {
-        Kind::Read => 1,
-        Kind::Write => 2,
-    }
+    d.cast_unsigned()
 }
 
 // The eight words that a call from C answers: those of an operation.
@@ -88,7 +72,7 @@ pub fn operation_words(k: Kind, p: Piece, n: u32) -> [u64; 8]
 {
     [
         1,
-        kind_number(k),
+        k as u64,
         p.handle as u64,
         p.address,
         p.len as u64,
@@ -105,23 +89,13 @@ pub fn done_words(n: u32) -> [u64; 8]
     [0, 0, 0, 0, 0, 0, n as u64, 0]
 }
 
-// Data-out goes by RDMA Reads, data-in by RDMA Writes.
-fn direction_number(d: Direction) -> u64
-    ensures { result ≡ kind_number_lem (kind_of d) }
-{
-    match d {
-        Direction::Out => 1,
-        Direction::In => 2,
-    }
-}
-
 // Those of a turn that serves a move.
 pub fn served_words(tag: u64, d: Direction, p: Piece, n: u32) -> [u64; 8]
     ensures { (wrote : ℕ) → result ≡ answer_words (record { reply = Ok (Served tag d p n); wrote = wrote }) }
 {
     [
         1,
-        direction_number(d),
+        Kind::from(d) as u64,
         p.handle as u64,
         p.address,
         p.len as u64,

@@ -2,6 +2,9 @@
 // The papers' numbers and values for each case stand in specs/Refusals.antt and specs/Answers.antt. A field `inn` is data-in's: `in` is a keyword.
 #![tactic(auto)]
 
+ghost use Rattle.std.specs.Prelude.{◌≡◌};
+ghost use Rattle.srp.specs.Calls.{kind_of};
+
 pub mod limits;
 
 // Why a call is refused, with the papers' numbers.
@@ -40,10 +43,22 @@ pub enum Direction {
     In,
 }
 
+// Which RDMA operation, with the papers' numbers.
 #[derive(Clone, Copy)]
 pub enum Kind {
-    Read,
-    Write,
+    Read = 1,
+    Write = 2,
+}
+
+impl From<Direction> for Kind {
+    fn from(direction: Direction) -> Kind
+        ensures { result ≡ kind_of direction }
+    {
+        match direction {
+            Direction::Out => Kind::Read,
+            Direction::In => Kind::Write,
+        }
+    }
 }
 
 // A data buffer descriptor: its format and count, its place in the message; for format 2 the table's length and the total length.
