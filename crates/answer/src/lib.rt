@@ -3,8 +3,7 @@
 
 ghost use Rattle.std.specs.Prelude.{◌≡◌, ℕ};
 ghost use Rattle.srp.specs.Refusals.{number_of, conduct_of, reason_in};
-ghost use Rattle.srp.specs.Calls.{kind_of};
-ghost use Rattle.srp.specs.Answers.{refusing, kind_number_lem};
+ghost use Rattle.srp.specs.Answers.{refusing};
 ghost use Rattle.srp.specs.declared.Reply.TheVariants.{NewCommand, Operation, Done, Served, Counts};
 ghost use Rattle.answer.specs.Words.{answer_words};
 
@@ -20,38 +19,11 @@ const CREDIT_RESPONSE: u64 = 3;
 
 const LOGOUT: u64 = 4;
 
-const ALL_BITS: u64 = 18446744073709551615;
-
 // The papers' number of a refusal.
 pub fn number_of(refusal: Refusal) -> u32
     ensures { result ≡ number_of refusal }
 {
-    match refusal {
-        Refusal::ShortBuffer => 1,
-        Refusal::Setting => 2,
-        Refusal::Length => 3,
-        Refusal::OtherType => 4,
-        Refusal::OutFormat => 5,
-        Refusal::InFormat => 6,
-        Refusal::OutCount => 7,
-        Refusal::InCount => 8,
-        Refusal::TableLength => 9,
-        Refusal::Fields => 10,
-        Refusal::Argument => 11,
-        Refusal::Closed => 21,
-        Refusal::NoCredit => 22,
-        Refusal::TagOpen => 23,
-        Refusal::TagNotOpen => 24,
-        Refusal::CreditResponse => 25,
-        Refusal::Unanswered => 26,
-        Refusal::NotOwed => 27,
-        Refusal::Wanted => 28,
-        Refusal::Unplanned => 29,
-        Refusal::Planned => 30,
-        Refusal::Offset => 31,
-        Refusal::Unfinished => 32,
-        Refusal::Waiting => 33,
-    }
+    refusal as u32
 }
 
 // The reason in the SRP_T_LOGOUT of a hang-up.
@@ -72,18 +44,18 @@ pub fn refused(f: Refusal) -> Answer
     ensures { result ≡ refusing f }
 {
     Answer {
-        reply: Reply::Refused(f),
+        reply: Err(f),
         wrote: 0,
     }
 }
 
 // The number that a call from C returns.
-pub fn returned(reply: Reply) -> u32
+pub fn returned(reply: Result<Reply, Refusal>) -> u32
     ensures { result ≡ Rattle.srp.specs.Answers.returned reply }
 {
     match reply {
-        Reply::Refused(f) => number_of(f),
-        _ => 0,
+        Ok(_) => 0,
+        Err(f) => number_of(f),
     }
 }
 
@@ -91,29 +63,16 @@ pub fn returned(reply: Reply) -> u32
 pub fn word(d: i64) -> u64
     ensures { result ≡ Rattle.answer.specs.Words.word d }
 {
-    if d < 0 {
-        let n = (-1 - d) as u64;
-        return ALL_BITS - n;
-    }
-    d as u64
-}
-
-fn kind_number(k: Kind) -> u64
-    ensures { result ≡ kind_number_lem k }
-{
-    match k {
-        Kind::Read => 1,
-        Kind::Write => 2,
-    }
+    d.cast_unsigned()
 }
 
 // The eight words that a call from C answers: those of an operation.
 pub fn operation_words(k: Kind, p: Piece, n: u32) -> [u64; 8]
-    ensures { (wrote : ℕ) → result ≡ answer_words (record { reply = Operation k p n; wrote = wrote }) }
+    ensures { (wrote : ℕ) → result ≡ answer_words (record { reply = Ok (Operation k p n); wrote = wrote }) }
 {
     [
         1,
-        kind_number(k),
+        k as u64,
         p.handle as u64,
         p.address,
         p.len as u64,
@@ -125,28 +84,18 @@ pub fn operation_words(k: Kind, p: Piece, n: u32) -> [u64; 8]
 
 // Those of a step that says done.
 pub fn done_words(n: u32) -> [u64; 8]
-    ensures { (wrote : ℕ) → result ≡ answer_words (record { reply = Done n; wrote = wrote }) }
+    ensures { (wrote : ℕ) → result ≡ answer_words (record { reply = Ok (Done n); wrote = wrote }) }
 {
     [0, 0, 0, 0, 0, 0, n as u64, 0]
 }
 
-// Data-out goes by RDMA Reads, data-in by RDMA Writes.
-fn direction_number(d: Direction) -> u64
-    ensures { result ≡ kind_number_lem (kind_of d) }
-{
-    match d {
-        Direction::Out => 1,
-        Direction::In => 2,
-    }
-}
-
 // Those of a turn that serves a move.
 pub fn served_words(tag: u64, d: Direction, p: Piece, n: u32) -> [u64; 8]
-    ensures { (wrote : ℕ) → result ≡ answer_words (record { reply = Served tag d p n; wrote = wrote }) }
+    ensures { (wrote : ℕ) → result ≡ answer_words (record { reply = Ok (Served tag d p n); wrote = wrote }) }
 {
     [
         1,
-        direction_number(d),
+        Kind::from(d) as u64,
         p.handle as u64,
         p.address,
         p.len as u64,
@@ -158,7 +107,7 @@ pub fn served_words(tag: u64, d: Direction, p: Piece, n: u32) -> [u64; 8]
 
 // Those of the counters.
 pub fn counter_words(c: Counters) -> [u64; 8]
-    ensures { (wrote : ℕ) → result ≡ answer_words (record { reply = Counts c; wrote = wrote }) }
+    ensures { (wrote : ℕ) → result ≡ answer_words (record { reply = Ok (Counts c); wrote = wrote }) }
 {
     [
         c.wanted as u64,
@@ -174,7 +123,7 @@ pub fn counter_words(c: Counters) -> [u64; 8]
 
 // Those of a command.
 pub fn command_words(wrote: usize, tag: u64, lun: u64, cdb: usize, waits: bool) -> [u64; 8]
-    ensures { result ≡ answer_words (record { reply = NewCommand tag lun cdb waits; wrote = wrote }) }
+    ensures { result ≡ answer_words (record { reply = Ok (NewCommand tag lun cdb waits); wrote = wrote }) }
 {
     [
         wrote as u64,
@@ -193,9 +142,10 @@ pub fn words_of(a: Answer) -> [u64; 8]
     ensures { result ≡ answer_words a }
 {
     let wrote = a.wrote as u64;
-    let reply = a.reply;
+    let Ok(reply) = a.reply else {
+        return [wrote, 0, 0, 0, 0, 0, 0, 0];
+    };
     match reply {
-        Reply::Refused(_) => [wrote, 0, 0, 0, 0, 0, 0, 0],
         Reply::Performed => [wrote, 0, 0, 0, 0, 0, 0, 0],
         Reply::NewCommand {
             tag,

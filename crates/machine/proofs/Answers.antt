@@ -9,12 +9,15 @@ use native.Mathlib.Omega.{arith}
 use lib.ListN.{length, drop, length-append, length-take, length-drop}
 use lib.Seq.{take_all}
 use borrow.Author.Tests.{lt-ltb, le-ltb, ltb-false}
+use Rattle.std.specs.Prelude.{Result, Ok}
 use Rattle.srp.specs.Cutting.{cuts_of}
 use Rattle.srp.specs.Credit.{rule_of}
 use Rattle.srp.specs.Calls.{kind_of}
 use Rattle.srp.specs.declared.Terms.{Terms}
 use Rattle.srp.specs.declared.Direction.{Direction}
 use Rattle.srp.specs.declared.Piece.{Piece}
+use Rattle.srp.specs.declared.Refusal.{Refusal}
+use Rattle.srp.specs.declared.Reply.{Reply}
 use Rattle.srp.specs.declared.Reply.TheVariants.{Operation, Done}
 use Rattle.machine.specs.Machine.{Move, Progress, so_far, with_operation}
 use Rattle.machine.specs.Operations.{cuts_of_all, whole_of, pieces_left, said_of, Finished, CurrentFinished, HandedOut, Right}
@@ -88,7 +91,7 @@ handed_out T cut g s o e =
 
 module _ (T : Terms) (cut : Lawful (rule_of T)) (g : Progress) (s : Steady T g) (d : Direction) where
   -- a piece is left
-  pub next_right : (o : Piece) → coming T cut g s ≡ some o → Right T d g (Operation (kind_of d) o (so_far g + 1))
+  pub next_right : (o : Piece) → coming T cut g s ≡ some o → Right T d g (Ok (Operation (kind_of d) o (so_far g + 1)))
   next_right o e =
       let t = turn T cut g s ∙ e in
       record {
@@ -102,18 +105,18 @@ module _ (T : Terms) (cut : Lawful (rule_of T)) (g : Progress) (s : Steady T g) 
             subst (λ (x : Piece). HandedOut T g x n) same (subst (HandedOut T g o) number (handed_out T cut g s o e));
       }
     where
-      no_done : (n : ℕ) → Operation (kind_of d) o (so_far g + 1) ≡ Done n → ⊥
+      no_done : (n : ℕ) → ◌≡◌ {A = Result Reply Refusal} (Ok (Operation (kind_of d) o (so_far g + 1))) (Ok (Done n)) → ⊥
       no_done n f = let z : ◌≡◌ {A = ℕ} 0 1 = cc in omega arith
 
   -- none is
-  pub last_right : coming T cut g s ≡ none → Right T d g (Done (so_far g))
+  pub last_right : coming T cut g s ≡ none → Right T d g (Ok (Done (so_far g)))
   last_right e =
       let t = turn T cut g s ∙ e in
       record {
         in_turn = sym (ap (said_of d (so_far g)) t);
         before = λ f.
             let none : so_far g ≡ 0 = omega (arith, no_cuts T g f, ap {B = ℕ} length s.order, length-take (length g.operations) (whole_of T g)) in
-            ap Done none;
+            ap {B = Result Reply Refusal} (λ k. Ok (Done k)) none;
         done_iff = (λ f. s.order ∙ take_all (length g.operations) (whole_of T g) (none_above (whole_of T g) (length g.operations) t), λ f. (so_far g, refl));
         finished = λ n f. let number : so_far g ≡ n = cc in subst (CurrentFinished T g) number (all_counted T cut g s e);
         handed = λ k o n f. let z : ◌≡◌ {A = ℕ} 0 1 = cc in absurd (omega arith);

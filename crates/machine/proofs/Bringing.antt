@@ -5,6 +5,7 @@ use mathlib.Core.Bool.{true, false, true≢false}
 use mathlib.Core.List.{[], ◌∷◌, map}
 use mathlib.Core.Option.{Option, none, some}
 use Prim.Native.Nat.{ℕ}
+use Rattle.std.specs.Prelude.{Ok, Err}
 use Rattle.srp.specs.Bytes.{type_of}
 use Rattle.srp.specs.Messages.{rsp}
 use Rattle.srp.specs.Lists.{find, is_some}
@@ -18,33 +19,33 @@ use Rattle.machine.specs.Actions.{if_answered}
 use Rattle.machine.specs.Events.{bringing}
 use Rattle.srp.specs.declared.Refusal.{Refusal}
 use Rattle.srp.specs.declared.Refusal.TheVariants.{Fields}
-use Rattle.srp.specs.declared.Reply.TheVariants.{Refused, Performed}
+use Rattle.srp.specs.declared.Reply.TheVariants.{Performed}
 use Rattle.srp.proofs.Checks.{passes}
 use Rattle.srp.proofs.ListLaws.{all_find}
 use Rattle.srp.proofs.Refusing.{unrefused, tables_as, tables_iff, answered_open}
-use Rattle.machine.proofs.Invariant.{Sound, Ok, open_same, Fine, Obeys, obeying, quiet, codes}
+use Rattle.machine.proofs.Invariant.{Sound, InStep, open_same, Fine, Obeys, obeying, quiet, codes}
 use Rattle.machine.proofs.Waiting.{brought_request, brought_same, brought_sound, brought_none}
 use Rattle.machine.proofs.Owners.{changes, found, ends, awaited_same}
 
-module _ {L : Login} {m : Machine} {p : Port} (h : Ok L m p) (room tag : ℕ) (t : Tables) where
+module _ {L : Login} {m : Machine} {p : Port} (h : InStep L m p) (room tag : ℕ) (t : Tables) where
   -- a refusal
   record Bad (k : Conduct) (r : Refusal) : Type 0 where
     fine : Fine L (if_answered k (ended_by m tag) m) false (tables_refused k p tag r)
     wrote : map type_of (tables_refused k p tag r).wrote ≡ if_answered k (rsp.code ∷ []) []
 
   bad : (k : Conduct) (r : Refusal) → (k ≡ answered → is_open_lem p tag ≡ true) → Bad k r
-  bad (hangs_up reason) r e = record { fine = quiet h (Refused r); wrote = refl }
+  bad (hangs_up reason) r e = record { fine = quiet h (Err r); wrote = refl }
   bad answered r e = responding (find (has_tag tag) p.held) refl (e refl)
     where
       responding : (c : Option Open) → find (has_tag tag) p.held ≡ c → is_some c ≡ true → Bad answered r
       responding none f g = absurd (true≢false (sym g))
       responding (some c) f g =
           record {
-            fine = rw f (codes (ends h tag (e refl)) (Refused r) c.request.ucsolnt c.request.tag 0x02);
+            fine = rw f (codes (ends h tag (e refl)) (Err r) c.request.ucsolnt c.request.tag 0x02);
             wrote = rw f;
           }
-  bad stays r e = record { fine = quiet h (Refused r); wrote = refl }
-  bad alters_nothing r e = record { fine = quiet h (Refused r); wrote = refl }
+  bad stays r e = record { fine = quiet h (Err r); wrote = refl }
+  bad alters_nothing r e = record { fine = quiet h (Err r); wrote = refl }
 
   -- the response to 10 is the command's, with code 02h
   answers : (k : Conduct) (r : Refusal) → k ≡ answered → (c : Track) → tracked m tag ≡ some c
@@ -68,8 +69,8 @@ module _ {L : Login} {m : Machine} {p : Port} (h : Ok L m p) (room tag : ℕ) (t
           (changes h tag (brought new_side t) (brought fresh t) (brought_request L.terms t) (λ x f. brought_same L.terms t x)
           (λ x f s. brought_sound L.terms t x s (rw (found h tag x f) at c.0) (rw (found h tag x f) at c.1.0))
           (λ x f. brought_none L.terms t x (all_find (Sound L.terms) (has_tag tag) m.work.tracks x h.work.sound f)))
-          Performed)
-          refl (tables_iff p tag t none _ (sym e ∙ checks_same)) (λ g. absurd (unrefused Performed Fields refl g))
+          (Ok Performed))
+          refl (tables_iff p tag t none _ (sym e ∙ checks_same)) (λ g. absurd (unrefused (Ok Performed) Fields refl g))
       go (some r) e =
           let b = bad (conduct_of r) r (answered_open p tag room t r e) in
           obeying m (bringing room tag t) (tables_by (some r) p tag t) (rw (tables_as p tag r) b.fine) (rw (tables_as p tag r) b.wrote)

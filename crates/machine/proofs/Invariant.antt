@@ -12,6 +12,7 @@ use lib.Dec.{ltb}
 use lib.IntN.{pos, negsuc, sub_ℕ, ◌+ℤ◌}
 use lib.ListN.{length, length-map}
 use borrow.Author.Tests.{le-ltb, ltb-true, ltb-false}
+use Rattle.std.specs.Prelude.{Result, Err}
 use Rattle.srp.specs.Bytes.{type_of}
 use Rattle.srp.specs.Refusals.{first_of_checks}
 use Rattle.srp.specs.Lists.{find, All, is_some}
@@ -32,7 +33,6 @@ use Rattle.srp.specs.declared.Refusal.{Refusal}
 use Rattle.srp.specs.declared.Record.{Record}
 use Rattle.srp.specs.declared.Place.{Place}
 use Rattle.srp.specs.declared.Reply.{Reply}
-use Rattle.srp.specs.declared.Reply.TheVariants.{Refused}
 use Rattle.machine.proofs.Order.{tags_of, Ordered, by_tracks}
 use Rattle.machine.proofs.Moves.{side_in, Steady, each_cut}
 use Rattle.srp.proofs.CutLaws.{Lawful}
@@ -81,7 +81,8 @@ pub record Follows (T : Terms) (w : Work) (cs : List Open) (l : List Place) : Ty
   pub line : l ≡ w.line
   pub lined : Lined (pieces_left T) w.tracks w.line
 
-pub record Ok (L : Login) (m : Machine) (p : Port) : Type 0 where
+-- the port is in step with the machine
+pub record InStep (L : Login) (m : Machine) (p : Port) : Type 0 where
   pub live : p.live ≡ true
   pub terms : p.terms ≡ L.terms
   pub small : p.wanted ≤ 16
@@ -103,7 +104,7 @@ listed_tags : (ts : List Track) → map (λ (r : Record). r.tag) (map shown_as t
 listed_tags [] = refl
 listed_tags (t ∷ ts) = rw (listed_tags ts)
 
-module _ {L : Login} {m : Machine} {p : Port} (h : Ok L m p) where
+module _ {L : Login} {m : Machine} {p : Port} (h : InStep L m p) where
   pub held : length p.held ≡ length m.work.tracks
   held = ap length h.work.commands ∙ length-map m.work.tracks (open_in L.terms)
 
@@ -170,15 +171,15 @@ four_join m (s ∷ ss) = omega (arith, four_join (joined m s) ss, deltas_snoc m.
 -- m is the machine after the endings of a call with the outcome o; `closing`: the initiator's logout was taken
 pub record Fine (L : Login) (m : Machine) (closing : Bool) (o : Outcome) : Type 0 where
   pub lift : Lift L m o.wrote
-  pub keep : Until (closing || says_logout o.wrote) (Ok L (join m o.wrote) o.port)
+  pub keep : Until (closing || says_logout o.wrote) (InStep L (join m o.wrote) o.port)
 
 -- an event's action a on the machine m, with the outcome o of its call: what demand 3 says of it, and the invariant until the channel closes
 pub record Obeys (L : Login) (m : Machine) (a : Action) (o : Outcome) : Type 0 where
   pub then : Then L m a o.reply o.wrote
-  pub keep : Until (a.closes m o.reply || says_logout o.wrote) (Ok L (join (a.effect m o.reply) o.wrote) o.port)
+  pub keep : Until (a.closes m o.reply || says_logout o.wrote) (InStep L (join (a.effect m o.reply) o.wrote) o.port)
 
 pub obeying : {L : Login} (m : Machine) (a : Action) (o : Outcome) → Fine L (a.effect m o.reply) (a.closes m o.reply) o → map type_of o.wrote ≡ a.writes m o.reply
-    → ((f : Refusal) → (o.reply ≡ Refused f) ↔ (first_of_checks (a.checks m) ≡ some f)) → a.answer m o.reply o.wrote → Obeys L m a o
+    → ((f : Refusal) → (o.reply ≡ Err f) ↔ (first_of_checks (a.checks m) ≡ some f)) → a.answer m o.reply o.wrote → Obeys L m a o
 obeying m a o f w r s = record { then = record { lift = f.lift; wrote = w; refuses = r; answer = s }; keep = f.keep }
 
 pub nothing_lifts : {L : Login} (m : Machine) → Lift L m []
@@ -189,34 +190,34 @@ lifts m s l = record { by_lack = (l, tt); rises = four_join m (s ∷ []) }
 
 -- ── the invariant when a part moves
 
-module _ {L : Login} {m : Machine} {p : Port} (h : Ok L m p) where
+module _ {L : Login} {m : Machine} {p : Port} (h : InStep L m p) where
   -- other commands and counts of requests, another line, and another queue to the port
   pub with_work_lem : (a : ℕ) (cs : List Open) (l : List Place) (queue : List (List ℕ)) (w : Work) → a ≡ m.wire.limit + requests queue + deltas m.wire.to_initiator
-      → a + length cs ≤ most_buffers → Follows L.terms w cs l → Ok L (with_work (with_queue m queue) w) (with_moves p a cs l)
+      → a + length cs ≤ most_buffers → Follows L.terms w cs l → InStep L (with_work (with_queue m queue) w) (with_moves p a cs l)
   with_work_lem a cs l queue w e r f =
       record { live = h.live; terms = h.terms; small = h.small; credit = e; wanted = h.wanted; room = r; work = f; unanswered = h.unanswered }
 
   -- another limit and other queues, and whether a credit request is unanswered
   pub with_wire_lem : (w : Wire) (a : ℕ) (u : Bool) → a ≡ w.limit + requests w.to_port + deltas w.to_initiator → a + length p.held ≤ most_buffers
-      → u ≡ w.waiting → Ok L (with_wire m w) (with_credit p p.wanted a p.held u p.line)
+      → u ≡ w.waiting → InStep L (with_wire m w) (with_credit p p.wanted a p.held u p.line)
   with_wire_lem w a u e r f =
       record { live = h.live; terms = h.terms; small = h.small; credit = e; wanted = h.wanted; room = r; work = h.work; unanswered = f }
 
   -- another number of wanted buffers
-  pub with_wanted_lem : (w a k : ℕ) → w ≤ 16 → w + k ≡ L.buffers + a → Ok L (with_buffers m a k) (with_wanted p w)
+  pub with_wanted_lem : (w a k : ℕ) → w ≤ 16 → w + k ≡ L.buffers + a → InStep L (with_buffers m a k) (with_wanted p w)
   with_wanted_lem w a k small e =
       record { live = h.live; terms = h.terms; small = small; credit = h.credit; wanted = e; room = h.room; work = h.work; unanswered = h.unanswered }
 
-module _ {L : Login} {m : Machine} {p : Port} (h : Ok L m p) where
+module _ {L : Login} {m : Machine} {p : Port} (h : InStep L m p) where
   -- a call that writes nothing and leaves the invariant
-  pub quiet : (r : Reply) → Fine L m false (silent p r)
+  pub quiet : (r : Result Reply Refusal) → Fine L m false (silent p r)
   quiet r = record { lift = nothing_lifts m; keep = h }
 
   pub few : due p < 256 ^ 4
   few = omega (arith, h.small)
 
   -- a message that carries what is due lifts by it, and leaves the invariant; b says whether a credit request is then unanswered
-  pub pays : (b c : Bool) (r : Reply) (message : ℕ → List ℕ) → Carries (due p) c (message (due p)) → b ≡ (m.wire.waiting || c)
+  pub pays : (b c : Bool) (r : Result Reply Refusal) (message : ℕ → List ℕ) → Carries (due p) c (message (due p)) → b ≡ (m.wire.waiting || c)
       → Fine L m false (answering (with_unanswered p b) r message)
   pays b c r message k w =
       record {
@@ -230,9 +231,9 @@ module _ {L : Login} {m : Machine} {p : Port} (h : Ok L m p) where
       }
 
   -- a response
-  pub responds : (r : Reply) (message : ℕ → List ℕ) → Carries (due p) false (message (due p)) → Fine L m false (answering p r message)
+  pub responds : (r : Result Reply Refusal) (message : ℕ → List ℕ) → Carries (due p) false (message (due p)) → Fine L m false (answering p r message)
   responds r message k = pays p.unanswered false r message k (h.unanswered ∙ sym (or-false m.wire.waiting))
 
   -- a response with an RSP_CODE
-  pub codes : (r : Reply) (solnt : Bool) (tag code : ℕ) → Fine L m false (answering p r (answer solnt tag code))
+  pub codes : (r : Result Reply Refusal) (solnt : Bool) (tag code : ℕ) → Fine L m false (answering p r (answer solnt tag code))
   codes r solnt tag code = responds r (answer solnt tag code) (answer_carries solnt tag code (due p) few)

@@ -8,6 +8,7 @@ use native.Mathlib.Omega.{arith}
 use lib.Dec.{lit≤, ltb}
 use borrow.Author.Tests.{ltb-false}
 use lib.IntN.{ℤ, pos, negsuc, ◌+ℤ◌}
+use Rattle.std.specs.Prelude.{Result, Ok}
 use Rattle.srp.specs.Requests.{read_message_lem}
 use Rattle.srp.specs.Cutting.{bad_boundary}
 use Rattle.srp.specs.Credit.{Port, owed}
@@ -21,9 +22,10 @@ use Rattle.srp.specs.Rows.{login_req_lem, own, settings, no_data_lem}
 use Rattle.srp.specs.declared.Reply.{Reply}
 use Rattle.srp.specs.declared.Reply.TheVariants.{Accepted}
 use Rattle.machine.proofs.Demand.{demand_3, turns_served}
+use Rattle.srp.specs.declared.Refusal.{Refusal}
 
 module _ (L : Login) where
-  abbrev pub Call : Port → Machine → Event → Reply → List (List ℕ) → Port → Type 0
+  abbrev pub Call : Port → Machine → Event → Result Reply Refusal → List (List ℕ) → Port → Type 0
   Call p m e r ss q = (action_of L e).call p m ≡ record { reply = r; port = q; wrote = ss }
 
   -- the definitions are equal to themselves
@@ -37,7 +39,7 @@ module _ (L : Login) where
       let o : Outcome = (action_of L e).call p m in
       record { reply = o.reply; wrote = o.wrote; left = o.port; made = refl; rest = run es o.port (after L m e o.reply o.wrote) }
 
-module _ (c : Settings) (own : List ℕ) (room : ℕ) (l : List ℕ) (agreed : (login_def c own room l).reply ≡ Accepted) where
+module _ (c : Settings) (own : List ℕ) (room : ℕ) (l : List ℕ) (agreed : (login_def c own room l).reply ≡ Ok Accepted) where
   abbrev pub itself : (es : List Event) → Run (login_of c l) (λ p. p) (Call (login_of c l)) (login_def c own room l).port (start c.buffers) es
   itself es = run (login_of c l) es (login_def c own room l).port (start c.buffers)
 
@@ -63,7 +65,7 @@ abbrev pub p8 : List Event
 p8 = sends (no_data_lem 1) ∷ takes 132 ∷ sends (no_data_lem 2) ∷ takes 132 ∷ withdraws 3 ∷ []
 
 -- the login is accepted
-agreed4 : (login_def c4 own 132 l4).reply ≡ Accepted
+agreed4 : (login_def c4 own 132 l4).reply ≡ Ok Accepted
 unfolding bad_boundary
 agreed4 = refl
 

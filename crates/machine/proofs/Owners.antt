@@ -8,6 +8,7 @@ use mathlib.Core.Option.{Option, none, some, none-ne-some, some-injective}
 use Prim.Native.Nat.{ℕ, ◌+◌, ◌-◌, ◌≤◌}
 use native.Mathlib.Omega.{arith}
 use borrow.Author.Tests.{ltb-false, leb-false, not-false}
+use Rattle.std.specs.Prelude.{Ok, Err}
 use Rattle.srp.specs.Bytes.{type_of}
 use lib.ListN.{length}
 use Rattle.srp.specs.Lists.{find, change, without, is_some, All}
@@ -31,7 +32,7 @@ use Rattle.srp.specs.declared.Refusal.{Refusal}
 use Rattle.srp.specs.declared.Direction.{Direction}
 use Rattle.srp.specs.declared.Direction.TheVariants.{Out, In}
 use Rattle.srp.specs.declared.Place.{Place}
-use Rattle.srp.specs.declared.Reply.TheVariants.{Refused, Performed}
+use Rattle.srp.specs.declared.Reply.TheVariants.{Performed}
 use Rattle.srp.proofs.Checks.{passes}
 use Rattle.srp.proofs.ListLaws.{length_change, length_without, without_map, change_map, all_without, all_change}
 use Rattle.srp.proofs.Lines.{lined_change, lined_endings}
@@ -40,7 +41,7 @@ use Rattle.machine.proofs.Order.{Ordered, ordered_without, tags_change}
 use Rattle.machine.proofs.Deltas.{response_carries, request_carries}
 use Rattle.srp.proofs.Refusing.{unrefused, unless_iff}
 use Rattle.machine.proofs.Moves.{plan_steady}
-use Rattle.machine.proofs.Invariant.{open_in, Sound, Follows, Ok, find_same, open_same, left_same, lacks, wanted_same, with_work_lem, with_wire_lem, with_wanted_lem, Fine, Obeys, obeying, quiet, few, pays, responds}
+use Rattle.machine.proofs.Invariant.{open_in, Sound, Follows, InStep, find_same, open_same, left_same, lacks, wanted_same, with_work_lem, with_wire_lem, with_wanted_lem, Fine, Obeys, obeying, quiet, few, pays, responds}
 
 -- ── a plan
 
@@ -66,22 +67,22 @@ affordable true l a = a refl
 affordable false l a = omega arith
 
 -- an event without a call leaves the port, and what it does to the machine obeying the invariant
-without_call : {L : Login} {p : Port} (m : Machine) (A : Machine → Type 0) (f : Machine → Machine) → Ok L (f m) p → Obeys L m (between A f) (silent p Performed)
+without_call : {L : Login} {p : Port} (m : Machine) (A : Machine → Type 0) (f : Machine → Machine) → InStep L (f m) p → Obeys L m (between A f) (silent p (Ok Performed))
 without_call m A f o =
-    obeying m (between A f) (silent _ Performed) (quiet o Performed) refl
-    (λ r. ((λ g. absurd (unrefused Performed r refl g)), λ g. absurd (none-ne-some r g))) tt
+    obeying m (between A f) (silent _ (Ok Performed)) (quiet o (Ok Performed)) refl
+    (λ r. ((λ g. absurd (unrefused (Ok Performed) r refl g)), λ g. absurd (none-ne-some r g))) tt
 
-module _ {L : Login} {m : Machine} {p : Port} (h : Ok L m p) where
-  pub send_obeys : (s : List ℕ) → (sending s).allowed m → Obeys L m (sending s) (silent p Performed)
+module _ {L : Login} {m : Machine} {p : Port} (h : InStep L m p) where
+  pub send_obeys : (s : List ℕ) → (sending s).allowed m → Obeys L m (sending s) (silent p (Ok Performed))
   send_obeys s a =
       without_call m _ _
-      (with_wire_lem h ((sending s).effect m Performed).wire p.announced p.unanswered
+      (with_wire_lem h ((sending s).effect m (Ok Performed)).wire p.announced p.unanswered
       (omega (arith, h.credit, requests_snoc m.wire.to_port s, affordable (is_request s) m.wire.limit a)) h.room h.unanswered)
 
-  pub deliver_obeys : Obeys L m delivering (silent p Performed)
+  pub deliver_obeys : Obeys L m delivering (silent p (Ok Performed))
   deliver_obeys = without_call m _ _ (go m.wire.to_initiator refl)
     where
-      go : (q : List (List ℕ)) → m.wire.to_initiator ≡ q → Ok L (at_front q m (delivered m)) p
+      go : (q : List (List ℕ)) → m.wire.to_initiator ≡ q → InStep L (at_front q m (delivered m)) p
       go [] e = h
       go (s ∷ ss) e = with_wire_lem h (delivered m s ss).wire p.announced p.unanswered (omega (arith, h.credit, ap deltas e)) h.room h.unanswered
 
@@ -100,11 +101,11 @@ module _ {L : Login} {m : Machine} {p : Port} (h : Ok L m p) where
       let g = f refl in
       obeying m (by_owner c) x (rw u g.fine) (rw u g.wrote) (unless_iff p none _ x e u) (λ _. g.answer)
   owned c (some r) x e u f =
-      obeying m (by_owner c) (silent p (Refused r)) (quiet h (Refused r)) refl (unless_iff p (some r) _ x e u) (λ z. absurd (none-ne-some r (sym z)))
+      obeying m (by_owner c) (silent p (Err r)) (quiet h (Err r)) refl (unless_iff p (some r) _ x e u) (λ z. absurd (none-ne-some r (sym z)))
 
   -- the invariant at other commands and another line, with other counts of requests
   recast : (cs : List Open) (l : List Place) (w : Work) → length cs ≤ length p.held → Follows L.terms w cs l
-      → Ok L (with_work m w) (with_moves p p.announced cs l)
+      → InStep L (with_work m w) (with_moves p p.announced cs l)
   recast cs l w r f = with_work_lem h p.announced cs l m.wire.to_port w h.credit (omega (arith, h.room)) f
 
   -- the first command with the tag changes as g in the port and as g' in the machine
@@ -124,7 +125,7 @@ module _ {L : Login} {m : Machine} {p : Port} (h : Ok L m p) where
     sound' = all_change (Sound L.terms) (has_tag tag) g' m.work.tracks h.work.sound keep
 
     -- with the lines l and l'
-    pub lines : (l l' : List Place) → l ≡ l' → Lined (pieces_left L.terms) ts' l' → Ok L (with_moving m ts' l') (with_moves p p.announced cs' l)
+    pub lines : (l l' : List Place) → l ≡ l' → Lined (pieces_left L.terms) ts' l' → InStep L (with_moving m ts' l') (with_moves p p.announced cs' l)
     lines l l' e r =
         recast cs' l (with_moving m ts' l').work (omega (arith, length_change (has_tag tag) g p.held))
         (record {
@@ -139,7 +140,7 @@ module _ {L : Login} {m : Machine} {p : Port} (h : Ok L m p) where
 
     -- the line stays where no pieces come or go
     pub changes : ((t : Track) → find (has_tag tag) m.work.tracks ≡ some t → (d : Direction) → pieces_left L.terms (of d (g' t).sides) ≡ pieces_left L.terms (of d t.sides))
-        → Ok L (with_tracks m ts') (with_held p p.announced cs')
+        → InStep L (with_tracks m ts') (with_held p p.announced cs')
     changes k =
         lines p.line m.work.line h.work.line
         (lined_change (pieces_left L.terms) tag g' same m.work.tracks m.work.line k h.work.lined)
@@ -149,7 +150,7 @@ module _ {L : Login} {m : Machine} {p : Port} (h : Ok L m p) where
       owned (adding L k) (first_of_checks (add_checks p k)) _ (rw (h.live, wanted_same h)) refl λ z.
       let c = passes (add_checks p k) z in
       record {
-        fine = quiet (with_wanted_lem h (p.wanted + k) (m.added + k) m.withdrawn (ltb-false 16 (p.wanted + k) c.1.1.0) (omega (arith, h.wanted))) Performed;
+        fine = quiet (with_wanted_lem h (p.wanted + k) (m.added + k) m.withdrawn (ltb-false 16 (p.wanted + k) c.1.1.0) (omega (arith, h.wanted))) (Ok Performed);
         wrote = refl;
         answer = tt;
       }
@@ -159,14 +160,14 @@ module _ {L : Login} {m : Machine} {p : Port} (h : Ok L m p) where
       owned (withdrawing L k) (first_of_checks (withdraw_checks p k)) _ (rw (h.live, wanted_same h)) refl λ z.
       let c = passes (withdraw_checks p k) z in
       let e : p.wanted - k + (m.withdrawn + k) ≡ L.buffers + m.added = omega (arith, h.wanted, leb-false p.wanted k c.1.1.0) in
-      record { fine = quiet (with_wanted_lem h (p.wanted - k) m.added (m.withdrawn + k) (omega (arith, h.small)) e) Performed; wrote = refl; answer = tt }
+      record { fine = quiet (with_wanted_lem h (p.wanted - k) m.added (m.withdrawn + k) (omega (arith, h.small)) e) (Ok Performed); wrote = refl; answer = tt }
 
   pub grant_obeys : (room : ℕ) → Obeys L m (by_owner (granting L room)) (grant_def p room)
   grant_obeys room =
       owned (granting L room) (first_of_checks (grant_checks p room)) _ (rw (h.live, h.unanswered, lacks h)) refl λ z.
       let solnt = p.terms.crsolnt in
       record {
-        fine = pays h true true Performed (credit_request solnt) (request_carries solnt (due p) (few h)) (sym (or-true m.wire.waiting));
+        fine = pays h true true (Ok Performed) (credit_request solnt) (request_carries solnt (due p) (few h)) (sym (or-true m.wire.waiting));
         wrote = refl;
         answer = tt;
       }
@@ -176,7 +177,7 @@ module _ {L : Login} {m : Machine} {p : Port} (h : Ok L m p) where
   found tag t f = find_same h tag ∙ ap (Option.map (open_in L.terms)) f
 
   -- the command with the tag ends
-  pub ends : (tag : ℕ) → is_open_lem p tag ≡ true → Ok L (ended_by m tag) (leaving p p.announced (has_tag tag))
+  pub ends : (tag : ℕ) → is_open_lem p tag ≡ true → InStep L (ended_by m tag) (leaving p p.announced (has_tag tag))
   ends tag e =
       recast (without (has_tag tag) p.held) (left_by (has_tag tag) p.held p.line) (ended_by m tag).work (length_without (has_tag tag) p.held)
       (record {
@@ -206,11 +207,11 @@ module _ {L : Login} {m : Machine} {p : Port} (h : Ok L m p) where
       p' : Port
       p' = leaving p p.announced (has_tag tag)
 
-      responding : (c : Option Open) → find (has_tag tag) p.held ≡ c → is_some c ≡ true → Ok L (ended_by m tag) p' → Unrefused (finishing room tag st se) (answering p' Performed (final_response c st se))
+      responding : (c : Option Open) → find (has_tag tag) p.held ≡ c → is_some c ≡ true → InStep L (ended_by m tag) p' → Unrefused (finishing room tag st se) (answering p' (Ok Performed) (final_response c st se))
       responding none f e o = absurd (true≢false (sym e))
       responding (some c) f e o =
           record {
-            fine = responds o Performed (final_response (some c) st se) (response_carries (final_of c st se (due p')) (few o));
+            fine = responds o (Ok Performed) (final_response (some c) st se) (response_carries (final_of c st se (due p')) (few o));
             wrote = refl;
             answer = λ t g. (due p', ap (λ (x : Open). response (final_of x st se (due p')) ∷ []) (some-injective c (open_in L.terms t) (sym f ∙ found tag t g)));
           }
@@ -232,7 +233,7 @@ module _ {L : Login} {m : Machine} {p : Port} (h : Ok L m p) where
             (changes tag (planned a b) (planned_for a b) (λ t. refl) (λ t f. refl)
             (λ t f s. sound_plan L.terms a b t s (sym (ap is_waiting (found tag t f)) ∙ c.1.1.0) (sym (ap is_planned (found tag t f)) ∙ c.1.1.1.0))
             (λ t f d. plan_keeps t d))
-            Performed;
+            (Ok Performed);
         wrote = refl;
         answer = tt;
       }

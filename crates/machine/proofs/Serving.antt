@@ -7,6 +7,7 @@ use mathlib.Core.List.{List, [], ◌∷◌}
 use mathlib.Core.Option.{Option, none, some}
 use Prim.Native.Nat.{ℕ, ◌+◌}
 use native.Mathlib.Omega.{arith}
+use Rattle.std.specs.Prelude.{Result, Ok}
 use Rattle.srp.specs.Lists.{find}
 use Rattle.srp.specs.Refusals.{first_of_checks}
 use Rattle.srp.specs.Both.{of}
@@ -32,9 +33,10 @@ use Rattle.srp.proofs.Places.{place_self}
 use Rattle.srp.proofs.Lines.{lined_turn}
 use Rattle.machine.proofs.Moves.{Steady}
 use Rattle.machine.proofs.Answers.{no_pieces, none_left, handed_out}
-use Rattle.machine.proofs.Invariant.{Sound, Ok, Fine, Obeys, quiet}
+use Rattle.machine.proofs.Invariant.{Sound, InStep, Fine, Obeys, quiet}
 use Rattle.machine.proofs.Owners.{Unrefused, owned, found}
 use Rattle.machine.proofs.Steps.{here, steady_of, offered, number, number_of, next_of_lem, unwrapped, hands_on}
+use Rattle.srp.specs.declared.Refusal.{Refusal}
 
 -- a command with pieces left was planned
 has_plan : (T : Terms) (d : Direction) (t : Track) → Sound T t → pieces_left T (of d t.sides) ≡ true → t.planned ≡ true
@@ -45,25 +47,25 @@ has_plan T d t s e = go t.planned refl
     go false f = absurd (true≢false (sym e ∙ no_pieces T (of d t.sides) (each_of (λ g. g.moves ≡ []) d t.sides (s.unplanned f))))
 
 -- where the first of the line is served, or idle said, the rest follows of a line that is each move with pieces
-right : (T : Terms) (m : Machine) → Lined (pieces_left T) m.work.tracks m.work.line → (r : Reply) → ByLine T m m.work.line r → TurnRight T m r
+right : (T : Terms) (m : Machine) → Lined (pieces_left T) m.work.tracks m.work.line → (r : Result Reply Refusal) → ByLine T m m.work.line r → TurnRight T m r
 right T m r said b = record { first = b; idle = idles m.work.line b; no_pieces = pieces m.work.line refl b }
   where
-    idles : (l : List Place) → ByLine T m l said → (said ≡ Idle) ↔ (l ≡ [])
+    idles : (l : List Place) → ByLine T m l said → (said ≡ Ok Idle) ↔ (l ≡ [])
     idles [] b = ((λ _. refl), λ _. b)
     idles (x ∷ others) b = ((λ e. let z : ◌≡◌ {A = ℕ} 0 1 = cc b.says in absurd (omega arith)), λ e. let z : ◌≡◌ {A = ℕ} 0 1 = cc in absurd (omega arith))
 
-    pieces : (l : List Place) → m.work.line ≡ l → ByLine T m l said → (said ≡ Idle) ↔ ((tag : ℕ) (d : Direction) → is_unfinished T d (tracked m tag) ≡ false)
+    pieces : (l : List Place) → m.work.line ≡ l → ByLine T m l said → (said ≡ Ok Idle) ↔ ((tag : ℕ) (d : Direction) → is_unfinished T d (tracked m tag) ≡ false)
     pieces [] q b = ((λ _ tag d. sym (r.each tag d) ∙ rw q), λ _. b)
     pieces (x ∷ others) q b = (
       (λ e. let z : ◌≡◌ {A = ℕ} 0 1 = cc b.says in absurd (omega arith)),
       λ f. absurd (true≢false (sym (rw (q, place_self x)) ∙ r.each x.tag x.direction ∙ f x.tag x.direction)),
     )
 
-module _ {L : Login} {m : Machine} {p : Port} (h : Ok L m p) (cut : Lawful (rule_of L.terms)) where
+module _ {L : Login} {m : Machine} {p : Port} (h : InStep L m p) (cut : Lawful (rule_of L.terms)) where
   abbrev T : Terms
   T = L.terms
 
-  turned : (r : Reply) → ByLine T m m.work.line r → TurnRight T m r
+  turned : (r : Result Reply Refusal) → ByLine T m m.work.line r → TurnRight T m r
   turned r b = right T m h.work.lined r b
 
   -- the first of the line, (tag, d), has a piece, and is served
@@ -102,11 +104,11 @@ module _ {L : Login} {m : Machine} {p : Port} (h : Ok L m p) (cut : Lawful (rule
               record {
                 fine =
                     subst (λ (l : List Place). Fine L (after_turn T m l (some o')) false (serve p (place tag d) others (number h cut tag d) (some o))) (sym e)
-                    (quiet ok (Served tag d o' n));
+                    (quiet ok (Ok (Served tag d o' n)));
                 wrote = refl;
                 answer =
-                    turned (Served tag d o' n)
-                    (subst (λ (l : List Place). ByLine T m l (Served tag d o' n)) (sym e) (record { track = t; is_open = f; piece = o'; number = n; says = refl; handed = out }));
+                    turned (Ok (Served tag d o' n))
+                    (subst (λ (l : List Place). ByLine T m l (Ok (Served tag d o' n))) (sym e) (record { track = t; is_open = f; piece = o'; number = n; says = refl; handed = out }));
               }
 
   serve_unrefused : (x : Place) (others : List Place) (n : ℕ) (v : Option Piece) → refusal_in (serve p x others n v).reply ≡ none
@@ -127,8 +129,8 @@ module _ {L : Login} {m : Machine} {p : Port} (h : Ok L m p) (cut : Lawful (rule
       go : (l : List Place) → m.work.line ≡ l → Unrefused h (turning L) (serve_first p l)
       go [] e =
           record {
-            fine = subst (λ (l : List Place). Fine L (after_turn T m l none) false (silent p Idle)) (sym e) (quiet h Idle);
+            fine = subst (λ (l : List Place). Fine L (after_turn T m l none) false (silent p (Ok Idle))) (sym e) (quiet h (Ok Idle));
             wrote = refl;
-            answer = turned Idle (subst (λ (l : List Place). ByLine T m l Idle) (sym e) refl);
+            answer = turned (Ok Idle) (subst (λ (l : List Place). ByLine T m l (Ok Idle)) (sym e) refl);
           }
       go (x ∷ others) e = serves x.tag x.direction others e

@@ -10,6 +10,7 @@ use native.Mathlib.Omega.{arith}
 use lib.Dec.{ltb}
 use lib.ListN.{length}
 use borrow.Author.Tests.{ltb-false, not-false}
+use Rattle.std.specs.Prelude.{Ok}
 use Rattle.srp.specs.Limits.{most_buffers}
 use Rattle.srp.specs.Lists.{find, change, is_some, All}
 use Rattle.srp.specs.Refusals.{first_of_checks}
@@ -37,7 +38,7 @@ use Rattle.srp.proofs.CutLaws.{Lawful}
 use Rattle.srp.proofs.Pieces.{wrapped_same}
 use Rattle.machine.proofs.Moves.{side_in, at_of, end_of, Steady, coming, same_left, step_steady, step_side, move_steady, move_side}
 use Rattle.machine.proofs.Answers.{some_left, next_right, last_right}
-use Rattle.machine.proofs.Invariant.{open_in, Sound, Ok, held, find_same, open_same, Obeys, quiet}
+use Rattle.machine.proofs.Invariant.{open_in, Sound, InStep, held, find_same, open_same, Obeys, quiet}
 use Rattle.machine.proofs.Owners.{Unrefused, owned, commands', sound', lines, found, awaited_same, plan_same}
 
 -- a direction's move has pieces in the port just where it has in the machine
@@ -53,7 +54,7 @@ more_same T cut tag d ts s = ap (unfinished d) (find_map (open_in T) (has_tag ta
 
 -- ── one direction of an open command
 
-module _ {L : Login} {m : Machine} {p : Port} (h : Ok L m p) (cut : Lawful (rule_of L.terms)) (tag : ℕ) (d : Direction) where
+module _ {L : Login} {m : Machine} {p : Port} (h : InStep L m p) (cut : Lawful (rule_of L.terms)) (tag : ℕ) (d : Direction) where
   abbrev pub T : Terms
   T = L.terms
 
@@ -81,7 +82,7 @@ module _ {L : Login} {m : Machine} {p : Port} (h : Ok L m p) (cut : Lawful (rule
       → ((t : Track) → tracked m tag ≡ some t → f (side_in T (of d t.sides)) ≡ side_in T (g (of d t.sides)))
       → ((t : Track) → tracked m tag ≡ some t → Steady T (g (of d t.sides)))
       → (F G : Bool → List Place) → F (still_moves g) ≡ G (still_moves g) → Lined (pieces_left T) (moved_tracks g) (G (still_moves g))
-      → Ok L (with_moving m (moved_tracks g) (G (still_moves g))) (altered p tag d f F)
+      → InStep L (with_moving m (moved_tracks g) (G (still_moves g))) (altered p tag d f F)
   alters f g z same steady F G e r =
       lines h tag (on_side d f) (on_side d g) (λ t. refl) agree keep (F (unfinished d (find (has_tag tag) cs))) (G (still_moves g)) (ap F now_same ∙ e) r
     where
@@ -150,7 +151,7 @@ module _ {L : Login} {m : Machine} {p : Port} (h : Ok L m p) (cut : Lawful (rule
             (λ more. joins more (place tag d) p.line) (λ more. put_back more (place tag d) m.work.line)
             (ap (joins (still_moves (with_move offset count)) (place tag d)) h.work.line ∙ joins_end (pieces_left T) tag d (with_move offset count) m.work.tracks some_room m.work.line h.work.lined (absent done))
             (lined_end (pieces_left T) tag d (with_move offset count) m.work.tracks m.work.line h.work.lined (absent done)))
-            Performed;
+            (Ok Performed);
         wrote = refl;
         answer = tt;
       }
@@ -179,16 +180,16 @@ module _ {L : Login} {m : Machine} {p : Port} (h : Ok L m p) (cut : Lawful (rule
 
     -- a step hands out the next of the command's own cuts, or says done when there is none
     right : (v : Option Piece) → offered ≡ v → Right T d (here t f) (hand_out_lem p tag d number v).reply
-    right none e = subst (λ (k : ℕ). Right T d (here t f) (Done k)) number_of (last_right T cut (here t f) (steady_of t f) d (next_of_lem none e))
+    right none e = subst (λ (k : ℕ). Right T d (here t f) (Ok (Done k))) number_of (last_right T cut (here t f) (steady_of t f) d (next_of_lem none e))
     right (some o) e =
-        subst (λ (k : ℕ). Right T d (here t f) (Operation (kind_of d) (wrapped o) (k + 1))) number_of
-        (subst (λ (x : Piece). Right T d (here t f) (Operation (kind_of d) x (so_far (here t f) + 1))) (sym (unwrapped o e))
+        subst (λ (k : ℕ). Right T d (here t f) (Ok (Operation (kind_of d) (wrapped o) (k + 1)))) number_of
+        (subst (λ (x : Piece). Right T d (here t f) (Ok (Operation (kind_of d) x (so_far (here t f) + 1)))) (sym (unwrapped o e))
         (next_right T cut (here t f) (steady_of t f) d o (next_of_lem (some o) e)))
 
   -- the piece goes to the command's operations, in the port and in the machine, and the lines change by F and G
   pub hands_on : (o : Piece) → offered ≡ some o → is_planned (find (has_tag tag) p.held) ≡ true
       → (F G : Bool → List Place) → let g = with_operation (wrapped o) in F (still_moves g) ≡ G (still_moves g) → Lined (pieces_left T) (moved_tracks g) (G (still_moves g))
-      → Ok L (with_moving m (moved_tracks g) (G (still_moves g))) (altered p tag d (handing o.len) F)
+      → InStep L (with_moving m (moved_tracks g) (G (still_moves g))) (altered p tag d (handing o.len) F)
   hands_on o e z F G q r =
       alters (handing o.len) (with_operation (wrapped o)) z
       (λ t f.
@@ -217,7 +218,7 @@ module _ {L : Login} {m : Machine} {p : Port} (h : Ok L m p) (cut : Lawful (rule
       hands (passes (step_checks p tag) z) offered refl
     where
       hands : All (λ c. c.0 ≡ false) (step_checks p tag) → (v : Option Piece) → offered ≡ v → Unrefused h (stepping L tag d) (hand_out_lem p tag d number v)
-      hands c none e = record { fine = quiet h (Done number); wrote = refl; answer = λ t f. right t f none e }
+      hands c none e = record { fine = quiet h (Ok (Done number)); wrote = refl; answer = λ t f. right t f none e }
       hands c (some o) e =
           record {
             fine =
@@ -225,7 +226,7 @@ module _ {L : Login} {m : Machine} {p : Port} (h : Ok L m p) (cut : Lawful (rule
                 (hands_on o e (not-false _ c.1.1.1.0) (λ more. keeps_place more (place tag d) p.line) (λ more. keeps_place more (place tag d) m.work.line)
                 (ap (keeps_place (still_moves (with_operation (wrapped o))) (place tag d)) h.work.line)
                 (lined_step (pieces_left T) tag d (with_operation (wrapped o)) m.work.tracks m.work.line h.work.lined (has_place o e (not-false _ c.1.0))))
-                (Operation (kind_of d) (wrapped o) (number + 1));
+                (Ok (Operation (kind_of d) (wrapped o) (number + 1)));
             wrote = refl;
             answer = λ t f. right t f (some o) e;
           }

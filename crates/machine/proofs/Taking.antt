@@ -10,6 +10,7 @@ use Prim.Native.Nat.{ℕ, suc, ◌+◌, ◌-◌, ◌≤◌}
 use native.Mathlib.Omega.{arith}
 use lib.Dec.{eqb}
 use borrow.Author.Tests.{eqb-true}
+use Rattle.std.specs.Prelude.{Result, Ok, Err}
 use Rattle.srp.specs.Bytes.{type_of}
 use Rattle.srp.specs.Lists.{without}
 use Rattle.srp.specs.Refusals.{Conduct, hangs_up, answered, stays, alters_nothing, number_of, conduct_of, first_of_checks, short}
@@ -30,7 +31,7 @@ use Rattle.srp.specs.declared.Message.{Message}
 use Rattle.srp.specs.declared.Message.TheVariants.{Bad, Cmd, TskMgmt, CredRsp, ILogout}
 use Rattle.srp.specs.declared.Place.{Place}
 use Rattle.srp.specs.declared.Reply.{Reply}
-use Rattle.srp.specs.declared.Reply.TheVariants.{Refused, Performed, NewCommand, TaskAnswered, CreditSettled}
+use Rattle.srp.specs.declared.Reply.TheVariants.{Performed, NewCommand, TaskAnswered, CreditSettled}
 use Rattle.srp.proofs.Checks.{passes}
 use Rattle.srp.proofs.ListLaws.{length_without, without_map, map_snoc, all_snoc, all_without}
 use Rattle.srp.proofs.Lines.{lined_snoc, lined_endings}
@@ -38,10 +39,10 @@ use Rattle.srp.proofs.Tags.{distinct_snoc, distinct_without}
 use Rattle.machine.proofs.Order.{ordered_snoc, ordered_without}
 use Rattle.srp.proofs.Refusing.{unrefused, refused_as, read_iff, Suits, drawn, passed}
 use Rattle.srp.proofs.Reading.{ByType, read_by_type}
-use Rattle.machine.proofs.Invariant.{open_in, Sound, Follows, Ok, open_same, left_same, with_work_lem, with_wire_lem, Fine, Obeys, obeying, nothing_lifts, lifts, quiet, codes}
+use Rattle.machine.proofs.Invariant.{open_in, Sound, Follows, InStep, open_same, left_same, with_work_lem, with_wire_lem, Fine, Obeys, obeying, nothing_lifts, lifts, quiet, codes}
 use Rattle.machine.proofs.Waiting.{new_track_lem}
 
-module _ {L : Login} {m : Machine} {p : Port} (h : Ok L m p) (s : List ℕ) (ss : List (List ℕ)) (e : m.wire.to_port ≡ s ∷ ss) where
+module _ {L : Login} {m : Machine} {p : Port} (h : InStep L m p) (s : List ℕ) (ss : List (List ℕ)) (e : m.wire.to_port ≡ s ∷ ss) where
   some_credit : is_request s ≡ true → p.announced ≡ suc (m.wire.limit + requests ss + deltas m.wire.to_initiator)
   some_credit b = omega (arith, h.credit, ap requests e, ap {B = ℕ} (λ (b : Bool). cond b 1 0) b)
 
@@ -54,7 +55,7 @@ module _ {L : Login} {m : Machine} {p : Port} (h : Ok L m p) (s : List ℕ) (ss 
   module _ (room : ℕ) where
     -- the invariant after a request has left the queue
     spent : is_request s ≡ true → (cs : List Open) (l : List Place) (w : Work) → length cs ≤ length p.held + 1 → Follows L.terms w cs l
-        → Ok L (with_work (with_queue m ss) w) (with_moves p (p.announced - 1) cs l)
+        → InStep L (with_work (with_queue m ss) w) (with_moves p (p.announced - 1) cs l)
     spent b cs l w r f = with_work_lem h (p.announced - 1) cs l ss w (omega (arith, some_credit b)) (omega (arith, some_credit b, h.room)) f
 
     -- a target's logout ends the list
@@ -82,7 +83,7 @@ module _ {L : Login} {m : Machine} {p : Port} (h : Ok L m p) (s : List ℕ) (ss 
           line = h.work.line;
           lined = lined_snoc (pieces_left L.terms) (new_track c s) m.work.tracks m.work.line n.no_pieces h.work.lined;
         }) in
-        quiet o (NewCommand c.request.tag c.request.lun c.cdb (waits c))
+        quiet o (Ok (NewCommand c.request.tag c.request.lun c.cdb (waits c)))
     accept (TskMgmt c) k z =
         let left : List Track = without (aborted c) m.work.tracks in
         let o = spent k (without (aborted c) p.held) (left_by (aborted c) p.held p.line)
@@ -96,8 +97,8 @@ module _ {L : Login} {m : Machine} {p : Port} (h : Ok L m p) (s : List ℕ) (ss 
           line = left_same h (aborted c) (aborted c) (λ t. refl);
           lined = lined_endings (pieces_left L.terms) (aborted c) m.work.tracks m.work.line h.work.distinct h.work.lined;
         }) in
-        codes o (TaskAnswered c.request.tag c.request.lun) (solicited c.request (task_code c.function)) c.request.tag (task_code c.function)
-    accept (CredRsp g) k z = quiet (with_wire_lem h ((reading s (CredRsp g)).effect (with_queue m ss)).wire p.announced false (same_credit k) (omega (arith, h.room)) refl) CreditSettled
+        codes o (Ok (TaskAnswered c.request.tag c.request.lun)) (solicited c.request (task_code c.function)) c.request.tag (task_code c.function)
+    accept (CredRsp g) k z = quiet (with_wire_lem h ((reading s (CredRsp g)).effect (with_queue m ss)).wire p.announced false (same_credit k) (omega (arith, h.room)) refl) (Ok CreditSettled)
     accept ILogout k z = record { lift = nothing_lifts ((reading s ILogout).effect (with_queue m ss)); keep = tt }
 
     -- a refusal: the message stays in its queue, is answered, or closes the channel
@@ -118,8 +119,8 @@ module _ {L : Login} {m : Machine} {p : Port} (h : Ok L m p) (s : List ℕ) (ss 
               line = h.work.line;
               lined = h.work.lined;
             }))
-            (Refused r) (request_in d).ucsolnt (request_in d).tag 0x02
-        go stays y = quiet h (Refused r)
+            (Err r) (request_in d).ucsolnt (request_in d).tag 0x02
+        go stays y = quiet h (Err r)
         go alters_nothing y = absurd (true≢false (sym h.live ∙ y))
 
     taking : (d : Message) → ByType (is_request s) d
@@ -132,17 +133,17 @@ module _ {L : Login} {m : Machine} {p : Port} (h : Ok L m p) (s : List ℕ) (ss 
         go (some r) f = refuse d k r f
 
     -- the reply is no refusal for credit
-    credited : (d : Message) → ByType (is_request s) d → (take_read p room s d).reply ≡ Refused NoCredit → ⊥
+    credited : (d : Message) → ByType (is_request s) d → (take_read p room s d).reply ≡ Err NoCredit → ⊥
     credited d k = go (first_of_checks (take_checks p room s d)) refl d k
       where
-        first : (d : Message) → ByType (is_request s) d → (accepted p s d).reply ≡ Refused NoCredit → ⊥
+        first : (d : Message) → ByType (is_request s) d → (accepted p s d).reply ≡ Err NoCredit → ⊥
         first (Bad r) k g = k.not_credit (ap number_of (let q : r ≡ NoCredit = cc (refused_as p (Bad r) r) in q))
         first (Cmd c) k g = let z : ◌≡◌ {A = ℕ} 0 1 = cc in omega arith
         first (TskMgmt c) k g = let z : ◌≡◌ {A = ℕ} 0 1 = cc in omega arith
         first (CredRsp c) k g = let z : ◌≡◌ {A = ℕ} 0 1 = cc in omega arith
         first ILogout k g = let z : ◌≡◌ {A = ℕ} 0 1 = cc in omega arith
 
-        go : (v : Option Refusal) → first_of_checks (take_checks p room s d) ≡ v → (d' : Message) → ByType (is_request s) d' → (take_by v p s d').reply ≡ Refused NoCredit → ⊥
+        go : (v : Option Refusal) → first_of_checks (take_checks p room s d) ≡ v → (d' : Message) → ByType (is_request s) d' → (take_by v p s d').reply ≡ Err NoCredit → ⊥
         go none f d' k' g = first d' k' g
         go (some r) f d' k' g =
             let q : r ≡ NoCredit = cc (refused_as p d' r) in
@@ -170,9 +171,9 @@ module _ (p : Port) (room : ℕ) (s : List ℕ) (ss : List (List ℕ)) where
 
       go : (v : Option Refusal) → first_of_checks (take_checks p room s d) ≡ v → map type_of (take_by v p s d).wrote ≡ front_writes s ss d (refusal_in (take_by v p s d).reply)
       go none z = accepts d z
-      go (some r) z = by (conduct_of r) r ∙ sym (ap (λ (x : Reply). front_writes s ss d (refusal_in x)) (refused_as p d r))
+      go (some r) z = by (conduct_of r) r ∙ sym (ap (λ (x : Result Reply Refusal). front_writes s ss d (refusal_in x)) (refused_as p d r))
 
-module _ {L : Login} {m : Machine} {p : Port} (h : Ok L m p) (room : ℕ) where
+module _ {L : Login} {m : Machine} {p : Port} (h : InStep L m p) (room : ℕ) where
   -- the checks, by the port's state and by what the machine has counted
   seen_same : (s : List ℕ) (d : Message) → first_of_checks (take_checks p room s d) ≡ first_of_checks (short room ∷ (reading s d).checks m)
   seen_same s (Bad r) = rw h.live
@@ -188,11 +189,11 @@ module _ {L : Login} {m : Machine} {p : Port} (h : Ok L m p) (room : ℕ) where
   -- ── of a queue's front
 
   abbrev outcome : List (List ℕ) → Outcome
-  outcome q = at_front q (silent p Performed) (λ s ss. take_def p room s)
+  outcome q = at_front q (silent p (Ok Performed)) (λ s ss. take_def p room s)
 
   fine : (q : List (List ℕ)) → m.wire.to_port ≡ q
       → Fine L (at_front q m (λ s ss. front_effect s ss (read L s) m (refusal_in (outcome q).reply))) (at_front q false (λ s ss. front_closes s ss (read L s) (refusal_in (outcome q).reply))) (outcome q)
-  fine [] e = quiet h Performed
+  fine [] e = quiet h (Ok Performed)
   fine (s ∷ ss) e =
       subst (λ (o : Outcome). Fine L (front_effect s ss (read L s) m (refusal_in o.reply)) (front_closes s ss (read L s) (refusal_in o.reply)) o) (sym (take_same s))
       (taking h s ss e room (read L s) (read_by_type L.terms.agreed L.terms.formats s))
@@ -202,16 +203,16 @@ module _ {L : Login} {m : Machine} {p : Port} (h : Ok L m p) (room : ℕ) where
   wrote (s ∷ ss) =
       subst (λ (o : Outcome). map type_of o.wrote ≡ front_writes s ss (read L s) (refusal_in o.reply)) (sym (take_same s)) (wrote_same p room s ss (read L s))
 
-  refuses : (q : List (List ℕ)) (f : Refusal) → ((outcome q).reply ≡ Refused f) ↔ (first_of_checks (at_front q [] (λ s ss. short room ∷ (reading s (read L s)).checks m)) ≡ some f)
-  refuses [] f = ((λ g. absurd (unrefused Performed f refl g)), λ g. absurd (none-ne-some f g))
+  refuses : (q : List (List ℕ)) (f : Refusal) → ((outcome q).reply ≡ Err f) ↔ (first_of_checks (at_front q [] (λ s ss. short room ∷ (reading s (read L s)).checks m)) ≡ some f)
+  refuses [] f = ((λ g. absurd (unrefused (Ok Performed) f refl g)), λ g. absurd (none-ne-some f g))
   refuses (s ∷ ss) f =
-      subst (λ (o : Outcome). (o.reply ≡ Refused f) ↔ (first_of_checks (short room ∷ (reading s (read L s)).checks m) ≡ some f)) (sym (take_same s))
+      subst (λ (o : Outcome). (o.reply ≡ Err f) ↔ (first_of_checks (short room ∷ (reading s (read L s)).checks m) ≡ some f)) (sym (take_same s))
       (read_iff p room s (read L s) _ (seen_same s (read L s)) f)
 
-  paying : (q : List (List ℕ)) → m.wire.to_port ≡ q → (outcome q).reply ≡ Refused NoCredit → ⊥
+  paying : (q : List (List ℕ)) → m.wire.to_port ≡ q → (outcome q).reply ≡ Err NoCredit → ⊥
   paying [] e r = let z : ◌≡◌ {A = ℕ} 0 1 = cc in omega arith
   paying (s ∷ ss) e r =
-      credited h s ss e room (read L s) (read_by_type L.terms.agreed L.terms.formats s) (subst (λ (o : Outcome). o.reply ≡ Refused NoCredit) (take_same s) r)
+      credited h s ss e room (read L s) (read_by_type L.terms.agreed L.terms.formats s) (subst (λ (o : Outcome). o.reply ≡ Err NoCredit) (take_same s) r)
 
   pub take_obeys : Obeys L m (taking_of L room) (outcome m.wire.to_port)
   take_obeys =

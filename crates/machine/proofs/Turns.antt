@@ -9,6 +9,7 @@ use mathlib.Core.Option.{Option, none, some, none-ne-some, some-injective}
 use Prim.Native.Nat.{ℕ, zero, suc, ◌≤◌}
 use native.Mathlib.Omega.{arith}
 use lib.ListN.{get_elem?}
+use Rattle.std.specs.Prelude.{Result, Ok, Err}
 use Rattle.srp.specs.Lists.{find, change, without}
 use Rattle.srp.specs.Refusals.{Conduct, hangs_up, answered, stays, alters_nothing, conduct_of, first_of_checks}
 use Rattle.srp.specs.Credit.{on_side, has_tag, place}
@@ -28,7 +29,6 @@ use Rattle.srp.specs.declared.Refusal.{Refusal}
 use Rattle.srp.specs.declared.Message.{Message}
 use Rattle.srp.specs.declared.Message.TheVariants.{Bad, Cmd, TskMgmt, CredRsp, ILogout}
 use Rattle.srp.specs.declared.Reply.{Reply}
-use Rattle.srp.specs.declared.Reply.TheVariants.{Refused, Performed, NewCommand, TaskAnswered, CreditSettled, LoggedOut, Operation, Done, Served, Idle, Accepted, Rejected, Counts, Listed}
 use Rattle.srp.proofs.Places.{same_place, in_without}
 
 -- ── places in a line
@@ -137,7 +137,7 @@ module _ (L : Login) (m : Machine) where
   stays_put [] = refl
   stays_put (s ∷ ss) = refl
 
-  moved : (e : Event) → is_turn e ≡ false → (r : Reply) → Keeps (line m) (line ((action_of L e).effect m r))
+  moved : (e : Event) → is_turn e ≡ false → (r : Result Reply Refusal) → Keeps (line m) (line ((action_of L e).effect m r))
   moved (sends s) t r = keeps_same (line m)
   moved delivers t r = subst (Keeps (line m)) (sym (stays_put m.wire.to_initiator)) (keeps_same (line m))
   moved (takes room) t r = front m.wire.to_port (refusal_in r)
@@ -152,48 +152,36 @@ module _ (L : Login) (m : Machine) where
   moved (grants room) t r = either (refusal_in r) _ (keeps_same (line m))
 
   -- so it is with what is written
-  pub others_keep : (e : Event) → is_turn e ≡ false → (r : Reply) (ss : List (List ℕ)) → Keeps (line m) (line (after L m e r ss))
+  pub others_keep : (e : Event) → is_turn e ≡ false → (r : Result Reply Refusal) (ss : List (List ℕ)) → Keeps (line m) (line (after L m e r ss))
   others_keep e t r ss = subst (Keeps (line m)) (ap (λ (w : Work). w.line) (sym (join_work ((action_of L e).effect m r) ss))) (moved e t r)
 
   -- ── a turn
 
   -- serves the first, and the others come forward by one
-  abbrev pub Comes : Place → ℕ → Reply → List Place → Type 0
+  abbrev pub Comes : Place → ℕ → Result Reply Refusal → List Place → Type 0
   Comes x zero r l = Serves L.terms m x r
   Comes x (suc j) r l = get_elem? l j ≡ some x
 
-  first_served : (l : List Place) → line m ≡ l → (r : Reply) → ByLine L.terms m l r → (x : Place) (k : ℕ) → get_elem? l k ≡ some x
+  first_served : (l : List Place) → line m ≡ l → (r : Result Reply Refusal) → ByLine L.terms m l r → (x : Place) (k : ℕ) → get_elem? l k ≡ some x
       → Comes x k r (line (after_turn L.terms m l (operation_in r)))
   first_served [] q r a x k e = absurd (none-ne-some x e)
   first_served (y ∷ others) q r a x zero e = subst (λ (z : Place). Serves L.terms m z r) (some-injective y x e) a
   first_served (y ∷ others) q r a x (suc j) e =
-      subst (λ (z : Reply). get_elem? (line (after_turn L.terms m (y ∷ others) (operation_in z))) j ≡ some x) (sym a.says)
+      subst (λ (z : Result Reply Refusal). get_elem? (line (after_turn L.terms m (y ∷ others) (operation_in z))) j ≡ some x) (sym a.says)
       (at_back (is_unfinished L.terms y.direction (find (has_tag y.tag) (change (has_tag y.tag) (on_side y.direction (with_operation a.piece)) m.work.tracks))) y others j x e)
 
-  turn_serves : (r : Reply) (ss : List (List ℕ)) → refusal_in r ≡ none → ByLine L.terms m (line m) r → (x : Place) (k : ℕ) → get_elem? (line m) k ≡ some x
+  turn_serves : (r : Result Reply Refusal) (ss : List (List ℕ)) → refusal_in r ≡ none → ByLine L.terms m (line m) r → (x : Place) (k : ℕ) → get_elem? (line m) k ≡ some x
       → Comes x k r (line (after L m turns r ss))
   turn_serves r ss u a x k e =
       subst (Comes x k r) (ap (λ (w : Work). w.line) (sym (join_work ((action_of L turns).effect m r) ss)))
       (subst (λ (v : Option Refusal). Comes x k r (line (unless_refused v m (after_turn L.terms m (line m) (operation_in r))))) (sym u) (first_served (line m) refl r a x k e))
 
   -- a turn is not refused
-  refusal_is : (r : Reply) (f : Refusal) → refusal_in r ≡ some f → r ≡ Refused f
-  refusal_is (Refused g) f e = ap Refused (some-injective g f e)
-  refusal_is Performed f e = absurd (none-ne-some f e)
-  refusal_is (NewCommand tag lun cdb w) f e = absurd (none-ne-some f e)
-  refusal_is (TaskAnswered tag lun) f e = absurd (none-ne-some f e)
-  refusal_is CreditSettled f e = absurd (none-ne-some f e)
-  refusal_is LoggedOut f e = absurd (none-ne-some f e)
-  refusal_is (Operation k o n) f e = absurd (none-ne-some f e)
-  refusal_is (Done n) f e = absurd (none-ne-some f e)
-  refusal_is (Served tag d o n) f e = absurd (none-ne-some f e)
-  refusal_is Idle f e = absurd (none-ne-some f e)
-  refusal_is Accepted f e = absurd (none-ne-some f e)
-  refusal_is (Rejected n) f e = absurd (none-ne-some f e)
-  refusal_is (Counts c) f e = absurd (none-ne-some f e)
-  refusal_is (Listed n) f e = absurd (none-ne-some f e)
+  refusal_is : (r : Result Reply Refusal) (f : Refusal) → refusal_in r ≡ some f → r ≡ Err f
+  refusal_is (Err g) f e = ap Err (some-injective g f e)
+  refusal_is (Ok r) f e = absurd (none-ne-some f e)
 
-  pub at_turn : (e : Event) → is_turn e ≡ true → (r : Reply) (ss : List (List ℕ)) → ((f : Refusal) → (r ≡ Refused f) ↔ (first_of_checks ((action_of L e).checks m) ≡ some f))
+  pub at_turn : (e : Event) → is_turn e ≡ true → (r : Result Reply Refusal) (ss : List (List ℕ)) → ((f : Refusal) → (r ≡ Err f) ↔ (first_of_checks ((action_of L e).checks m) ≡ some f))
       → (action_of L e).answer m r ss → (x : Place) (k : ℕ) → get_elem? (line m) k ≡ some x → Comes x k r (line (after L m e r ss))
   at_turn (sends s) t = absurd (true≢false (sym t))
   at_turn delivers t = absurd (true≢false (sym t))
@@ -206,7 +194,7 @@ module _ (L : Login) (m : Machine) where
       let u : refusal_in r ≡ none = unrefused r i (refusal_in r) refl in
       turn_serves r ss u (a u).first x k h
     where
-      unrefused : (r : Reply) → ((f : Refusal) → (r ≡ Refused f) ↔ (◌≡◌ {A = Option Refusal} none (some f))) → (v : Option Refusal) → refusal_in r ≡ v → refusal_in r ≡ none
+      unrefused : (r : Result Reply Refusal) → ((f : Refusal) → (r ≡ Err f) ↔ (◌≡◌ {A = Option Refusal} none (some f))) → (v : Option Refusal) → refusal_in r ≡ v → refusal_in r ≡ none
       unrefused r i none e = e
       unrefused r i (some f) e = absurd (none-ne-some f ((i f).0 (refusal_is r f e)))
   at_turn (finishes room tag st se) t = absurd (true≢false (sym t))

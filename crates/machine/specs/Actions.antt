@@ -1,6 +1,6 @@
 -- What an event of demand 3 is: when it may happen, the call that it makes, that call's checks by the machine's own counts, what it does to the machine,
 -- what it writes, and what its reply must be; and what is the same in many of them. The events themselves are specs/Events.antt.
-use Rattle.std.specs.Prelude.{◌≡◌, Bool, false, List, [], ◌∷◌, ℕ}
+use Rattle.std.specs.Prelude.{◌≡◌, Bool, false, List, [], ◌∷◌, ℕ, Result, Ok}
 use Rattle.std.proofs.Math.Option.{Option, none, some}
 use Rattle.srp.specs.Refusals.{Conduct, hangs_up, answered, stays, alters_nothing, conduct_of, Check}
 use Rattle.srp.specs.Credit.{Port}
@@ -19,19 +19,19 @@ pub record Action : Type 1 where
   -- the papers' checks of that call, by the machine's own counts; 21 is not among them, since closing ends the list
   pub checks : Machine → List Check
   -- the machine after it, by the call's reply, before what was written joins the queue
-  pub effect : Machine → Reply → Machine
+  pub effect : Machine → Result Reply Refusal → Machine
   -- the types of the messages written, by the reply: what document 01 has the call write, and nothing else
-  pub writes : Machine → Reply → List ℕ
+  pub writes : Machine → Result Reply Refusal → List ℕ
   -- whether the channel is closed by what was taken
-  pub closes : Machine → Reply → Bool
+  pub closes : Machine → Result Reply Refusal → Bool
   -- what demand 3 asks of the reply and of the messages written
-  pub answer : Machine → Reply → List (List ℕ) → Type 0
+  pub answer : Machine → Result Reply Refusal → List (List ℕ) → Type 0
 
 -- where nothing is said
 abbrev pub always : Machine → Type 0
 always m = Unit {0}
 
-abbrev pub anything : Machine → Reply → List (List ℕ) → Type 0
+abbrev pub anything : Machine → Result Reply Refusal → List (List ℕ) → Type 0
 anything m r ss = Unit {0}
 
 -- the one or the other, by whether a call was refused
@@ -61,7 +61,7 @@ abbrev pub between : (Machine → Type 0) → (Machine → Machine) → Action
 between allowed effect =
     record {
       allowed = allowed;
-      call = λ p m. silent p Performed;
+      call = λ p m. silent p (Ok Performed);
       checks = λ m. [];
       effect = λ m r. effect m;
       writes = λ m r. [];
@@ -74,9 +74,9 @@ between allowed effect =
 pub record Owners : Type 1 where
   pub call : Port → Outcome
   pub checks : Machine → List Check
-  pub effect : Machine → Reply → Machine
+  pub effect : Machine → Result Reply Refusal → Machine
   pub writes : List ℕ
-  pub answer : Machine → Reply → List (List ℕ) → Type 0
+  pub answer : Machine → Result Reply Refusal → List (List ℕ) → Type 0
 
 abbrev pub by_owner : Owners → Action
 by_owner o =

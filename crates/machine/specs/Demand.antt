@@ -1,6 +1,6 @@
 -- Demand 3, of lists of events: what holds at the start and after every event, and of each event with its call's reply and message. The customer's
 -- words stand beside each part. The theorem is proofs/Demand.antt.
-use Rattle.std.specs.Prelude.{◌≡◌, ◌↔◌, ◌⊎◌, Bool, true, false, ◌||◌, List, [], ◌∷◌, map, ℕ, zero, suc, ◌+◌, ◌-◌, ◌≤◌, ℤ, pos, ◌+ℤ◌, length, take}
+use Rattle.std.specs.Prelude.{◌≡◌, ◌↔◌, ◌⊎◌, Bool, true, false, ◌||◌, List, [], ◌∷◌, map, ℕ, zero, suc, ◌+◌, ◌-◌, ◌≤◌, ℤ, pos, ◌+ℤ◌, length, take, Result, Ok, Err}
 use Rattle.std.proofs.Math.Option.{some}
 use Rattle.std.proofs.Math.IntN.{sub_ℕ}
 use Rattle.std.proofs.Math.ListN.{get_elem?}
@@ -17,7 +17,7 @@ use Rattle.srp.specs.declared.Terms.{Terms}
 use Rattle.srp.specs.Calls.{listing, list_def, counters_def}
 use Rattle.srp.specs.declared.Refusal.{Refusal}
 use Rattle.srp.specs.declared.Reply.{Reply}
-use Rattle.srp.specs.declared.Reply.TheVariants.{Refused, Counts, Listed}
+use Rattle.srp.specs.declared.Reply.TheVariants.{Counts, Listed}
 use Rattle.srp.specs.declared.Counters.{Counters}
 use Rattle.srp.specs.declared.Place.{Place}
 use Rattle.machine.specs.Machine.{is_response, is_credit_request, delta_of_lem, deltas, Progress, Track, shown_as, Machine, requests_held, four, lack, unused, wanted_by, tracked, oldest_first, join, Login}
@@ -77,9 +77,9 @@ module _ (L : Login) where
   -- with its own h, and stand as their commands were taken
   pub record Now (m : Machine) (p : Port) : Type 0 where
     pub sum : Sum m (owed p)
-    pub reports : (counters_def p).reply ≡ Counts (counted m (owed p))
+    pub reports : (counters_def p).reply ≡ Ok (Counts (counted m (owed p)))
     pub commands : m.work.taken ≡ m.work.ended + length m.work.tracks
-    pub lists : (list_def p most_buffers).reply ≡ Listed (requests_held m)
+    pub lists : (list_def p most_buffers).reply ≡ Ok (Listed (requests_held m))
     pub listed : listing p ≡ map shown_as m.work.tracks
     pub oldest_first_lem : map (λ r. r.tag) (listing p) ≡ oldest_first (λ tag. is_some (tracked m tag)) m.work.tags
     pub distinct : Distinct m.work.tracks
@@ -90,19 +90,19 @@ module _ (L : Login) where
     pub moves : All (CutAsNamed L.terms) m.work.tracks
 
   -- what holds of an event whose call gave the reply r and wrote ss
-  pub record Then (m : Machine) (a : Action) (r : Reply) (ss : List (List ℕ)) : Type 0 where
+  pub record Then (m : Machine) (a : Action) (r : Result Reply Refusal) (ss : List (List ℕ)) : Type 0 where
     pub lift : Lift (a.effect m r) ss
     -- so a finished command, a task and refusal 10 have their response, a grant its request, and the channel closes just where document 01 has it
     pub wrote : map type_of ss ≡ a.writes m r
     -- "Calls are refused just where document 01 has it"
-    pub refuses : (f : Refusal) → (r ≡ Refused f) ↔ (first_of_checks (a.checks m) ≡ some f)
+    pub refuses : (f : Refusal) → (r ≡ Err f) ↔ (first_of_checks (a.checks m) ≡ some f)
     pub answer : a.answer m r ss
 
   -- S is what the code keeps of a port, and Call s m e r ss s' says that the event's call, made on s, gave r, wrote ss and left s'
-  module _ {S : Type 0} (view : S → Port) (Call : S → Machine → Event → Reply → List (List ℕ) → S → Type 0) where
+  module _ {S : Type 0} (view : S → Port) (Call : S → Machine → Event → Result Reply Refusal → List (List ℕ) → S → Type 0) where
     -- an event's call on s: its reply, what it wrote and what it left, and how the list goes on from there
     pub record Going (s : S) (m : Machine) (e : Event) (Rest : S → Machine → Type 0) : Type 0 where
-      pub reply : Reply
+      pub reply : Result Reply Refusal
       pub wrote : List (List ℕ)
       pub left : S
       pub made : Call s m e reply wrote left
@@ -129,7 +129,7 @@ module _ (L : Login) where
 
     -- each call is equal to its definition
     abbrev pub Meets : Type 0
-    Meets = (s : S) (m : Machine) (e : Event) (r : Reply) (ss : List (List ℕ)) (s' : S)
+    Meets = (s : S) (m : Machine) (e : Event) (r : Result Reply Refusal) (ss : List (List ℕ)) (s' : S)
         → Call s m e r ss s' → (action_of L e).call (view s) m ≡ record { reply = r; port = view s'; wrote = ss }
 
     -- ── "a move in it is served within 32 of these calls unless it has left the line before, for every list of other calls between"

@@ -1,6 +1,6 @@
 -- Document 01, "Credit", and document 02, jobs 1, 4, 5, 7 and 8: the events of demand 3, each in one definition. What an event is, is
 -- specs/Actions.antt; plan, move, step and turn are specs/Transfers.antt.
-use Rattle.std.specs.Prelude.{◌≡◌, Bool, true, false, cond, not, ◌&&◌, ◌||◌, List, [], ◌∷◌, ◌++◌, ℕ, ◌+◌, ◌-◌, ◌≤◌, eqb, ltb, leb, length}
+use Rattle.std.specs.Prelude.{◌≡◌, Bool, true, false, cond, not, ◌&&◌, ◌||◌, List, [], ◌∷◌, ◌++◌, ℕ, ◌+◌, ◌-◌, ◌≤◌, eqb, ltb, leb, length, Result, Ok, Err}
 use Rattle.std.proofs.Math.Option.{Option, none, some}
 use Rattle.srp.specs.Limits.{most_buffers, credit_tag}
 use Rattle.srp.specs.Messages.{rsp, cred_req, t_logout}
@@ -22,7 +22,7 @@ use Rattle.srp.specs.declared.Direction.{Direction}
 use Rattle.srp.specs.declared.Message.{Message}
 use Rattle.srp.specs.declared.Message.TheVariants.{Bad, Cmd, TskMgmt, CredRsp, ILogout}
 use Rattle.srp.specs.declared.Reply.{Reply}
-use Rattle.srp.specs.declared.Reply.TheVariants.{Refused, Performed}
+use Rattle.srp.specs.declared.Reply.TheVariants.{Performed}
 
 -- ── send, delivery
 
@@ -125,12 +125,12 @@ abbrev pub taking : Login → ℕ → Action
 taking L room =
     record {
       allowed = always;
-      call = λ p m. at_front m.wire.to_port (silent p Performed) (λ s ss. take_def p room s);
+      call = λ p m. at_front m.wire.to_port (silent p (Ok Performed)) (λ s ss. take_def p room s);
       checks = λ m. at_front m.wire.to_port [] (λ s ss. short room ∷ (reading s (read L s)).checks m);
       effect = λ m r. at_front m.wire.to_port m (λ s ss. front_effect s ss (read L s) m (refusal_in r));
       writes = λ m r. at_front m.wire.to_port [] (λ s ss. front_writes s ss (read L s) (refusal_in r));
       closes = λ m r. at_front m.wire.to_port false (λ s ss. front_closes s ss (read L s) (refusal_in r));
-      answer = λ m r ss. r ≡ Refused NoCredit → ⊥;
+      answer = λ m r ss. r ≡ Err NoCredit → ⊥;
     }
 
 -- ── tables
@@ -153,7 +153,7 @@ bringing room tag t =
       writes = λ m r. by_tables (refusal_in r) [] (rsp.code ∷ []) [];
       closes = λ m r. false;
       answer = λ m r ss.
-          r ≡ Refused Fields → (c : Track) → tracked m tag ≡ some c
+          r ≡ Err Fields → (c : Track) → tracked m tag ≡ some c
           → (delta : ℕ) × (ss ≡ answer c.request.ucsolnt c.request.tag 0x02 delta ∷ []);
     }
 
@@ -248,9 +248,9 @@ action_of L (withdraws k) = by_owner (withdrawing L k)
 action_of L (grants room) = by_owner (granting L room)
 
 -- the machine after an event whose call gave the reply r and wrote ss
-abbrev pub after : Login → Machine → Event → Reply → List (List ℕ) → Machine
+abbrev pub after : Login → Machine → Event → Result Reply Refusal → List (List ℕ) → Machine
 after L m e r ss = join ((action_of L e).effect m r) ss
 
 -- "Closing ends the list"
-abbrev pub closes : Login → Machine → Event → Reply → List (List ℕ) → Bool
+abbrev pub closes : Login → Machine → Event → Result Reply Refusal → List (List ℕ) → Bool
 closes L m e r ss = (action_of L e).closes m r || says_logout ss

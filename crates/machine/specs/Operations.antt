@@ -1,6 +1,6 @@
 -- Document 01, "Cutting", and document 02, jobs 1, 4, 6 and 8: the operations of an open command as demand 3 has them, by the machine's own moves and segments,
 -- and what a step and a turn must say.
-use Rattle.std.specs.Prelude.{◌≡◌, ◌↔◌, Bool, false, List, [], ◌∷◌, ◌++◌, ℕ, ◌+◌, ◌-◌, ◌≤◌, ltb, length}
+use Rattle.std.specs.Prelude.{◌≡◌, ◌↔◌, Bool, false, List, [], ◌∷◌, ◌++◌, ℕ, ◌+◌, ◌-◌, ◌≤◌, ltb, length, Result, Ok}
 use Rattle.std.proofs.Math.Option.{Option, none, some}
 use Rattle.std.proofs.Math.ListN.{get_elem?}
 use Rattle.srp.specs.Both.{of}
@@ -20,6 +20,7 @@ use Rattle.srp.specs.declared.Piece.{Piece}
 use Rattle.srp.specs.declared.Place.{Place}
 use Rattle.srp.specs.declared.Reply.{Reply}
 use Rattle.srp.specs.declared.Reply.TheVariants.{Operation, Done, Served, Idle}
+use Rattle.srp.specs.declared.Refusal.{Refusal}
 
 -- "those that document 01 cuts from its own segments": "A command's operations are now the cuts of its moves in the order named, and demand 3 is read so"
 abbrev pub cuts_of_all : Rule → List Segment → List Move → List Piece
@@ -46,9 +47,9 @@ is_unfinished T d t = more_in (pieces_left T) d t
 -- ── what a step says
 
 -- of the piece whose turn it is: "the number handed out so far for the current move, their own piece included"; n is the number without it
-abbrev pub said_of : Direction → (n : ℕ) → Option Piece → Reply
-said_of d n none = Done n
-said_of d n (some o) = Operation (kind_of d) o (n + 1)
+abbrev pub said_of : Direction → (n : ℕ) → Option Piece → Result Reply Refusal
+said_of d n none = Ok (Done n)
+said_of d n (some o) = Ok (Operation (kind_of d) o (n + 1))
 
 -- "For a finished move this is the length of its cut list, and every other list .. has at least as many". So many adapter slots are enough for the move
 pub record Finished (T : Terms) (ss : List Segment) (m : Move) (n : ℕ) : Type 0 where
@@ -69,31 +70,31 @@ pub record HandedOut (T : Terms) (g : Progress) (o : Piece) (n : ℕ) : Type 0 w
 
 -- an unrefused step's reply r is the next of them, in its direction's kind, with the number, "0 before any move"; it "says done exactly when all those of its
 -- command and direction were handed out before it"; and the number that comes with done is a finished move's
-pub record Right (T : Terms) (d : Direction) (g : Progress) (r : Reply) : Type 0 where
+pub record Right (T : Terms) (d : Direction) (g : Progress) (r : Result Reply Refusal) : Type 0 where
   pub in_turn : r ≡ said_of d (so_far g) (get_elem? (whole_of T g) (length g.operations))
-  pub before : g.moves ≡ [] → r ≡ Done 0
-  pub done_iff : ((n : ℕ) × (r ≡ Done n)) ↔ (g.operations ≡ whole_of T g)
-  pub finished : (n : ℕ) → r ≡ Done n → CurrentFinished T g n
-  pub handed : (k : Kind) (o : Piece) (n : ℕ) → r ≡ Operation k o n → HandedOut T g o n
+  pub before : g.moves ≡ [] → r ≡ Ok (Done 0)
+  pub done_iff : ((n : ℕ) × (r ≡ Ok (Done n))) ↔ (g.operations ≡ whole_of T g)
+  pub finished : (n : ℕ) → r ≡ Ok (Done n) → CurrentFinished T g n
+  pub handed : (k : Kind) (o : Piece) (n : ℕ) → r ≡ Ok (Operation k o n) → HandedOut T g o n
 
 -- ── what a turn says
 
 -- it serves the move x of an open command: "A piece comes with its tag, direction and Job 4's number"
-pub record Serves (T : Terms) (m : Machine) (x : Place) (r : Reply) : Type 0 where
+pub record Serves (T : Terms) (m : Machine) (x : Place) (r : Result Reply Refusal) : Type 0 where
   pub track : Track
   pub is_open : tracked m x.tag ≡ some track
   pub piece : Piece
   pub number : ℕ
-  pub says : r ≡ Served x.tag x.direction piece number
+  pub says : r ≡ Ok (Served x.tag x.direction piece number)
   pub handed : HandedOut T (of x.direction track.sides) piece number
 
 -- "the call serves the first"
-abbrev pub ByLine : Terms → Machine → (line : List Place) → Reply → Type 0
-ByLine T m [] r = r ≡ Idle
+abbrev pub ByLine : Terms → Machine → (line : List Place) → Result Reply Refusal → Type 0
+ByLine T m [] r = r ≡ Ok Idle
 ByLine T m (x ∷ others) r = Serves T m x r
 
 -- "The call says idle only with an empty line", and always then; which is where no open command has a move with pieces
-pub record TurnRight (T : Terms) (m : Machine) (r : Reply) : Type 0 where
+pub record TurnRight (T : Terms) (m : Machine) (r : Result Reply Refusal) : Type 0 where
   pub first : ByLine T m m.work.line r
-  pub idle : (r ≡ Idle) ↔ (m.work.line ≡ [])
-  pub no_pieces : (r ≡ Idle) ↔ ((tag : ℕ) (d : Direction) → is_unfinished T d (tracked m tag) ≡ false)
+  pub idle : (r ≡ Ok Idle) ↔ (m.work.line ≡ [])
+  pub no_pieces : (r ≡ Ok Idle) ↔ ((tag : ℕ) (d : Direction) → is_unfinished T d (tracked m tag) ≡ false)

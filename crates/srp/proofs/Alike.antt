@@ -10,6 +10,7 @@ use lib.Dec.{leb, eqb}
 use lib.ListN.{length, drop}
 use lib.Seq.{drop-drop}
 use borrow.Author.Tests.{leb-true}
+use Rattle.std.specs.Prelude.{Ok}
 use Rattle.srp.specs.Bytes.{Field, get, put, gets, kind, type_of, inside, apart_from}
 use Rattle.srp.specs.Messages.{tag, lun, ucsolnt, scsolnt, out_format, in_format, out_count, in_count_lem, additional, task_function, task_tag, format_bits, requested_length, login_crsolnt, login_losolnt, channel_action, tsk_mgmt, cmd, i_logout, cred_rsp}
 use Rattle.srp.specs.Lists.{All}
@@ -201,7 +202,7 @@ module _ (p : Port) (s s' : List ℕ) where
       let q : request_of_lem s ≡ request_of_lem s' = cc in
       let f : get task_function s ≡ get task_function s' = cc in
       let done : accepted p s (TskMgmt (task_of s)) ≡ accepted p s' (TskMgmt (task_of s')) =
-      λ j. answering (w j) (TaskAnswered (q j).tag (q j).lun) (answer (solicited (q j) (task_code (f j))) (q j).tag (task_code (f j))) in
+      λ j. answering (w j) (Ok (TaskAnswered (q j).tag (q j).lun)) (answer (solicited (q j) (task_code (f j))) (q j).tag (task_code (f j))) in
       record { checks = cc; done = done; request = q }
     where
       managed : (b : Bool) (g : ℕ) → cond b (get task_tag s) 0 ≡ cond b (get task_tag s') 0 → (b && eqb (get task_tag s) g) ≡ (b && eqb (get task_tag s') g)

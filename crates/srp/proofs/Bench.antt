@@ -4,6 +4,7 @@ use mathlib.Core.Path.{◌≡◌, refl}
 use mathlib.Core.List.{List, [], ◌∷◌, map}
 use Prim.Native.Nat.{ℕ, ◌+◌, ◌^◌}
 use lib.ListN.{length, replicate}
+use Rattle.std.specs.Prelude.{Result}
 use Rattle.srp.specs.Bytes.{number, bytes_of, Layout}
 use Rattle.srp.specs.Messages.{layouts}
 use Rattle.srp.specs.Requests.{read_message_lem}
@@ -20,6 +21,7 @@ use Rattle.srp.specs.Rows.{found, expected, no_data_lem, cmd_bytes}
 use Rattle.srp.specs.Table.{table, two_entries}
 use Rattle.srp.specs.FurtherRows.{rows}
 use Rattle.srp.specs.Written.{written_by_layout, written_by_hand, answers, answer_values}
+use Rattle.srp.specs.declared.Refusal.{Refusal}
 
 pub rows_hold : map found rows ≡ map expected rows
 unfolding read_message_lem longest_at_lem bad_boundary
@@ -54,5 +56,5 @@ pub wraps : wrapped (piece (2 ^ 64 + 5) 7 512 1024) ≡ piece 5 7 512 1024
 wraps = refl
 
 -- each answer's number and values
-pub answers_hold : map (λ (r : Reply). (returned r, values_of r)) answers ≡ answer_values
+pub answers_hold : map (λ (r : Result Reply Refusal). (returned r, values_of r)) answers ≡ answer_values
 answers_hold = refl

@@ -8,6 +8,7 @@ use Prim.Native.Nat.{ℕ, ◌+◌, ◌≤◌}
 use native.Mathlib.Omega.{arith}
 use lib.ListN.{length, take, drop, get_or, length-append, length-drop, length-map}
 use lib.Seq.{take_at, drop_at, get_or-drop}
+use Rattle.std.specs.Prelude.{Result, Ok}
 use Rattle.srp.specs.Limits.{most_buffers}
 use Rattle.srp.specs.Refusals.{first_of_checks}
 use Rattle.srp.specs.Lists.{over}
@@ -19,15 +20,15 @@ use Rattle.srp.specs.declared.Reply.TheVariants.{Listed}
 
 module _ (p : Port) (room : ℕ) where
   -- an unrefused listing says how many commands are open, and writes the record of each
-  pub listed_all : (n : ℕ) → Listed n ≡ (list_def p room).reply → (n ≡ length p.held) × (records_for p room ≡ listing p)
+  pub listed_all : (n : ℕ) → Ok (Listed n) ≡ (list_def p room).reply → (n ≡ length p.held) × (records_for p room ≡ listing p)
   listed_all n = go (first_of_checks (list_checks p room))
     where
-      go : (x : Option Refusal) → Listed n ≡ (unless x p (list_outcome p)).reply → (n ≡ length p.held) × (records_by x p ≡ listing p)
+      go : (x : Option Refusal) → Ok (Listed n) ≡ (unless x p (list_outcome p)).reply → (n ≡ length p.held) × (records_by x p ≡ listing p)
       go none q = (cc, refl)
       go (some f) q = let z : ◌≡◌ {A = ℕ} 0 1 = cc in absurd (omega arith)
 
   -- a refused one writes none
-  pub refused_none : (r : Reply) → r ≡ (list_def p room).reply → ((n : ℕ) → r ≡ Listed n → ⊥) → records_for p room ≡ []
+  pub refused_none : (r : Result Reply Refusal) → r ≡ (list_def p room).reply → ((n : ℕ) → r ≡ Ok (Listed n) → ⊥) → records_for p room ≡ []
   refused_none r q k = go (first_of_checks (list_checks p room)) q
     where
       go : (x : Option Refusal) → r ≡ (unless x p (list_outcome p)).reply → records_by x p ≡ []

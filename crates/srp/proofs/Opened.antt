@@ -5,6 +5,7 @@ use mathlib.Core.List.{List}
 use mathlib.Core.Option.{Option, none, some}
 use Prim.Native.Nat.{ℕ}
 use native.Mathlib.Omega.{arith}
+use Rattle.std.specs.Prelude.{Ok}
 use Rattle.srp.specs.Refusals.{first_of_checks}
 use Rattle.srp.specs.Login.{login_checks, rejections, opened, judged, login_by, login_def, bad_settings_lem}
 use Rattle.srp.specs.declared.Refusal.{Refusal}
@@ -19,14 +20,14 @@ use Rattle.srp.specs.Ranges.{Ranged}
 use Rattle.srp.proofs.Checks.{passes, both_false}
 
 -- an accepted login opens the port
-pub opens : (c : Settings) (own : List ℕ) (room : ℕ) (l : List ℕ) → (login_def c own room l).reply ≡ Accepted → (login_def c own room l).port ≡ opened c l
+pub opens : (c : Settings) (own : List ℕ) (room : ℕ) (l : List ℕ) → (login_def c own room l).reply ≡ Ok Accepted → (login_def c own room l).port ≡ opened c l
 opens c own room l = go (first_of_checks (login_checks c room l))
   where
-    unrejected : (w : Option ℕ) → (judged w c l).reply ≡ Accepted → (judged w c l).port ≡ opened c l
+    unrejected : (w : Option ℕ) → (judged w c l).reply ≡ Ok Accepted → (judged w c l).port ≡ opened c l
     unrejected none e = refl
     unrejected (some n) e = let z : ◌≡◌ {A = ℕ} 0 1 = cc in absurd (omega arith)
 
-    go : (v : Option Refusal) → (login_by v c own l).reply ≡ Accepted → (login_by v c own l).port ≡ opened c l
+    go : (v : Option Refusal) → (login_by v c own l).reply ≡ Ok Accepted → (login_by v c own l).port ≡ opened c l
     go none e = unrejected (first_of_checks (rejections c own l)) e
     go (some r) e = let z : ◌≡◌ {A = ℕ} 0 1 = cc in absurd (omega arith)
 

@@ -10,6 +10,7 @@ use native.Mathlib.Omega.{arith}
 use lib.Dec.{ltb, eqb}
 use lib.ListN.{length}
 use borrow.Author.Tests.{eqb-true, not-true, not-false}
+use Rattle.std.specs.Prelude.{Result, Err}
 use Rattle.srp.specs.Lists.{All, find, is_some}
 use Rattle.srp.specs.Bytes.{get, type_of}
 use Rattle.srp.specs.Messages.{tag}
@@ -28,19 +29,18 @@ use Rattle.srp.specs.declared.Command.{Command}
 use Rattle.srp.specs.declared.Message.{Message}
 use Rattle.srp.specs.declared.Message.TheVariants.{Bad, Cmd, TskMgmt, CredRsp, ILogout}
 use Rattle.srp.specs.declared.Reply.{Reply}
-use Rattle.srp.specs.declared.Reply.TheVariants.{Refused}
 use Rattle.srp.proofs.Checks.{passes, hit}
 use Rattle.srp.proofs.Reading.{ByType}
 
 -- a reply that is no refusal
-pub unrefused : (r : Reply) (f : Refusal) → refusal_in r ≡ none → r ≡ Refused f → ⊥
+pub unrefused : (r : Result Reply Refusal) (f : Refusal) → refusal_in r ≡ none → r ≡ Err f → ⊥
 unrefused r f e g = none-ne-some f (sym e ∙ ap refusal_in g)
 
 -- a refusal is what the reply says, whatever else it does
-pub refused_as : (p : Port) (m : Message) (r : Refusal) → (refused_by p m r).reply ≡ Refused r
+pub refused_as : (p : Port) (m : Message) (r : Refusal) → (refused_by p m r).reply ≡ Err r
 refused_as p m r = go (conduct_of r)
   where
-    go : (c : Conduct) → (conducted c p m r).reply ≡ Refused r
+    go : (c : Conduct) → (conducted c p m r).reply ≡ Err r
     go (hangs_up reason) = refl
     go answered = refl
     go stays = refl
@@ -48,27 +48,27 @@ refused_as p m r = go (conduct_of r)
 
 -- a call whose first check that hits is v, of checks that come to k
 pub unless_iff : (p : Port) (v k : Option Refusal) (o : Outcome) → v ≡ k → refusal_in o.reply ≡ none → (f : Refusal)
-    → ((unless v p o).reply ≡ Refused f) ↔ (k ≡ some f)
+    → ((unless v p o).reply ≡ Err f) ↔ (k ≡ some f)
 unless_iff p none k o e u f = ((λ g. absurd (unrefused o.reply f u g)), λ g. absurd (none-ne-some f (e ∙ g)))
-unless_iff p (some r) k o e u f = ((λ g. sym e ∙ (let z : r ≡ f = cc in ap some z)), λ g. ap Refused (some-injective r f (e ∙ g)))
+unless_iff p (some r) k o e u f = ((λ g. sym e ∙ (let z : r ≡ f = cc in ap some z)), λ g. ap Err (some-injective r f (e ∙ g)))
 
 module _ (p : Port) (room : ℕ) (s : List ℕ) where
   -- take of a message that is read
-  pub read_iff : (d : Message) (k : Option Refusal) → first_of_checks (take_checks p room s d) ≡ k → (f : Refusal) → ((take_read p room s d).reply ≡ Refused f) ↔ (k ≡ some f)
+  pub read_iff : (d : Message) (k : Option Refusal) → first_of_checks (take_checks p room s d) ≡ k → (f : Refusal) → ((take_read p room s d).reply ≡ Err f) ↔ (k ≡ some f)
   read_iff d k e f = go (first_of_checks (take_checks p room s d)) refl
     where
-      first : (d : Message) → first_of_checks (take_checks p room s d) ≡ none → (accepted p s d).reply ≡ Refused f → ⊥
+      first : (d : Message) → first_of_checks (take_checks p room s d) ≡ none → (accepted p s d).reply ≡ Err f → ⊥
       first (Bad r) z g = true≢false (passes (take_checks p room s (Bad r)) z).1.1.0
       first (Cmd c) z g = unrefused _ f refl g
       first (TskMgmt c) z g = unrefused _ f refl g
       first (CredRsp c) z g = unrefused _ f refl g
       first ILogout z g = unrefused _ f refl g
 
-      go : (v : Option Refusal) → first_of_checks (take_checks p room s d) ≡ v → ((take_by v p s d).reply ≡ Refused f) ↔ (k ≡ some f)
+      go : (v : Option Refusal) → first_of_checks (take_checks p room s d) ≡ v → ((take_by v p s d).reply ≡ Err f) ↔ (k ≡ some f)
       go none z = ((λ g. absurd (first d z g)), λ g. absurd (none-ne-some f (sym z ∙ e ∙ g)))
       go (some r) z = (
         (λ g. sym e ∙ z ∙ (let q : r ≡ f = cc (refused_as p d r) in ap some q)),
-        λ g. refused_as p d r ∙ ap Refused (some-injective r f (sym z ∙ e ∙ g)),
+        λ g. refused_as p d r ∙ ap Err (some-injective r f (sym z ∙ e ∙ g)),
       )
 
   -- what take does at a refusal that it draws: a reason fits its field, only a request is answered, and only a closed port leaves the message alone
@@ -182,25 +182,25 @@ module _ (p : Port) (room : ℕ) (s : List ℕ) where
       (sym (reading_first (length_checks p.terms.agreed s) (by_type (type_of s) p.terms.formats s)))
 
   -- demand 1: take draws the refusal that document 01 names, and no other
-  pub take_refused : (f : Refusal) → ((take_def p room s).reply ≡ Refused f) ↔ (first_of_checks (take_order p room s) ≡ some f)
+  pub take_refused : (f : Refusal) → ((take_def p room s).reply ≡ Err f) ↔ (first_of_checks (take_order p room s) ≡ some f)
   take_refused f = read_iff (read_message_lem p.terms.agreed p.terms.formats s) (first_of_checks (take_order p room s)) (sym take_order_lem) f
 
 -- ── tables
 
 module _ (p : Port) (tag : ℕ) where
   -- a refusal is what the reply says, whether the command is answered or not
-  pub tables_as : (r : Refusal) → (tables_refused (conduct_of r) p tag r).reply ≡ Refused r
+  pub tables_as : (r : Refusal) → (tables_refused (conduct_of r) p tag r).reply ≡ Err r
   tables_as r = go (conduct_of r)
     where
-      go : (c : Conduct) → (tables_refused c p tag r).reply ≡ Refused r
+      go : (c : Conduct) → (tables_refused c p tag r).reply ≡ Err r
       go (hangs_up reason) = refl
       go answered = refl
       go stays = refl
       go alters_nothing = refl
 
-  pub tables_iff : (t : Tables) (v k : Option Refusal) → v ≡ k → (f : Refusal) → ((tables_by v p tag t).reply ≡ Refused f) ↔ (k ≡ some f)
+  pub tables_iff : (t : Tables) (v k : Option Refusal) → v ≡ k → (f : Refusal) → ((tables_by v p tag t).reply ≡ Err f) ↔ (k ≡ some f)
   tables_iff t none k e f = ((λ g. absurd (unrefused _ f refl g)), λ g. absurd (none-ne-some f (e ∙ g)))
-  tables_iff t (some r) k e f = ((λ g. sym e ∙ (let q : r ≡ f = cc (tables_as r) in ap some q)), λ g. tables_as r ∙ ap Refused (some-injective r f (e ∙ g)))
+  tables_iff t (some r) k e f = ((λ g. sym e ∙ (let q : r ≡ f = cc (tables_as r) in ap some q)), λ g. tables_as r ∙ ap Err (some-injective r f (e ∙ g)))
 
   module _ (room : ℕ) (t : Tables) where
     bad_open : (c : Option Open) → bad_tables (awaited_by c) t ≡ true → is_some c ≡ true

@@ -7,6 +7,7 @@ use mathlib.Core.List.{List, [], ◌∷◌}
 use mathlib.Core.Option.{Option, none, some}
 use Prim.Native.Nat.{ℕ}
 use native.Mathlib.Omega.{arith}
+use Rattle.std.specs.Prelude.{Ok}
 use Rattle.srp.specs.Lists.{find, is_some}
 use Rattle.srp.specs.Refusals.{first_of_checks}
 use Rattle.srp.specs.Both.{of}
@@ -45,11 +46,11 @@ idle_turns p v =
     }
   where
     -- one that has a piece is served
-    served : (x : Place) (others : List Place) (n : ℕ) (o : Option Piece) → is_some o ≡ true → (serve p x others n o).reply ≡ Idle → p.line ≡ []
+    served : (x : Place) (others : List Place) (n : ℕ) (o : Option Piece) → is_some o ≡ true → (serve p x others n o).reply ≡ Ok Idle → p.line ≡ []
     served x others n none h e = absurd (true≢false (sym h))
     served x others n (some o) h e = let z : ◌≡◌ {A = ℕ} 0 1 = cc in absurd (omega arith)
 
-    first : (l : List Place) → p.line ≡ l → (serve_first p l).reply ≡ Idle → p.line ≡ []
+    first : (l : List Place) → p.line ≡ l → (serve_first p l).reply ≡ Ok Idle → p.line ≡ []
     first [] q e = q
     first (x ∷ others) q e =
         let c = find (has_tag x.tag) p.held in
@@ -59,7 +60,7 @@ idle_turns p v =
     passed = rw v.live
 
     SaysIdle : Option Refusal → Type 0
-    SaysIdle r = (unless r p (serve_first p p.line)).reply ≡ Idle
+    SaysIdle r = (unless r p (serve_first p p.line)).reply ≡ Ok Idle
 
     empty : (l : List Place) → p.line ≡ l → ((tag : ℕ) (d : Direction) → unfinished d (find (has_tag tag) p.held) ≡ false) → p.line ≡ []
     empty [] q h = q

@@ -1,6 +1,6 @@
 -- Document 01, and document 02, jobs 1, 4, 5, 7 and 8: the other calls on a port. "Other calls: 1, 21, 11, 24, 30, 29, 26, 27, 28, those that apply"; a
 -- refusal alters nothing.
-use Rattle.std.specs.Prelude.{Bool, true, false, not, ◌&&◌, ◌||◌, List, [], ◌∷◌, ◌++◌, map, ℕ, ◌+◌, ◌-◌, ◌%◌, ◌^◌, max, ltb, leb, eqb, length}
+use Rattle.std.specs.Prelude.{Bool, true, false, not, ◌&&◌, ◌||◌, List, [], ◌∷◌, ◌++◌, map, ℕ, ◌+◌, ◌-◌, ◌%◌, ◌^◌, max, ltb, leb, eqb, length, Ok, Err}
 use Rattle.std.proofs.Math.Option.{Option, none, some}
 use Rattle.srp.specs.Limits.{most_buffers, longest_sense}
 use Rattle.srp.specs.Lists.{find, change, over}
@@ -23,12 +23,12 @@ use Rattle.srp.specs.declared.Kind.TheVariants.{Read, Write}
 use Rattle.srp.specs.declared.Piece.{Piece}
 use Rattle.srp.specs.declared.Counters.{Counters}
 use Rattle.srp.specs.declared.Record.{Record}
-use Rattle.srp.specs.declared.Reply.TheVariants.{Refused, Performed, Operation, Done, Served, Idle, Counts, Listed}
+use Rattle.srp.specs.declared.Reply.TheVariants.{Performed, Operation, Done, Served, Idle, Counts, Listed}
 
 -- the outcome o, where no check hits
 abbrev pub unless : Option Refusal → Port → Outcome → Outcome
 unless none p o = o
-unless (some r) p o = silent p (Refused r)
+unless (some r) p o = silent p (Err r)
 
 -- "33 plan, move, step or finish on a waiting command .. directly after 24"
 abbrev pub open_checks : Port → ℕ → List Check
@@ -51,7 +51,7 @@ plan_checks p tag = closed p ∷ open_checks p tag ++ ((is_planned (find (has_ta
 
 -- "Plan states once per command, for each direction, R"
 abbrev pub plan_outcome : Port → ℕ → ℕ → ℕ → Outcome
-plan_outcome p tag out inn = silent (with_held p p.announced (change (has_tag tag) (planned out inn) p.held)) Performed
+plan_outcome p tag out inn = silent (with_held p p.announced (change (has_tag tag) (planned out inn) p.held)) (Ok Performed)
 
 abbrev pub plan_def : Port → ℕ → ℕ → ℕ → Outcome
 plan_def p tag out inn = unless (first_of_checks (plan_checks p tag)) p (plan_outcome p tag out inn)
@@ -88,7 +88,7 @@ altered p tag d f line =
 
 -- "After plan, the owner names a move: direction, offset, count"; "Each named move with pieces joins a line at its end"
 abbrev pub move_outcome : Port → ℕ → Direction → ℕ → ℕ → Outcome
-move_outcome p tag d offset count = silent (altered p tag d (moving offset count) (λ more. joins more (place tag d) p.line)) Performed
+move_outcome p tag d offset count = silent (altered p tag d (moving offset count) (λ more. joins more (place tag d) p.line)) (Ok Performed)
 
 abbrev pub move_def : Port → ℕ → Direction → ℕ → ℕ → Outcome
 move_def p tag d offset count = unless (first_of_checks (move_checks p tag d offset)) p (move_outcome p tag d offset count)
@@ -126,9 +126,9 @@ wrapped o = piece (o.address % 2 ^ 64) o.handle o.len o.offset
 -- "Step's answers carry the number handed out so far for the current move, their own piece included": n is the number without it. "a single step's last
 -- piece" removes the move from the line
 abbrev pub hand_out_lem : Port → ℕ → Direction → (n : ℕ) → Option Piece → Outcome
-hand_out_lem p tag d n none = silent p (Done n)
+hand_out_lem p tag d n none = silent p (Ok (Done n))
 hand_out_lem p tag d n (some o) =
-    silent (altered p tag d (handing o.len) (λ more. keeps_place more (place tag d) p.line)) (Operation (kind_of d) (wrapped o) (n + 1))
+    silent (altered p tag d (handing o.len) (λ more. keeps_place more (place tag d) p.line)) (Ok (Operation (kind_of d) (wrapped o) (n + 1)))
 
 abbrev pub step_checks : Port → ℕ → List Check
 step_checks p tag = closed p ∷ open_checks p tag ++ ((not (is_planned (find (has_tag tag) p.held)), Unplanned) ∷ [])
@@ -147,13 +147,13 @@ step_def p tag d = unless (first_of_checks (step_checks p tag)) p (step_outcome 
 -- x stood before the others: "serves the first and puts it back at the end if pieces remain". "A piece comes with its tag, direction and Job 4's number".
 -- In a port that a login made it has one; where it has none, nothing is altered
 abbrev pub serve : Port → (x : Place) (others : List Place) (n : ℕ) → Option Piece → Outcome
-serve p x others n none = silent p Idle
+serve p x others n none = silent p (Ok Idle)
 serve p x others n (some o) =
-    silent (altered p x.tag x.direction (handing o.len) (λ more. put_back more x others)) (Served x.tag x.direction (wrapped o) (n + 1))
+    silent (altered p x.tag x.direction (handing o.len) (λ more. put_back more x others)) (Ok (Served x.tag x.direction (wrapped o) (n + 1)))
 
 -- "The call says idle only with an empty line"
 abbrev pub serve_first : Port → List Place → Outcome
-serve_first p [] = silent p Idle
+serve_first p [] = silent p (Ok Idle)
 serve_first p (x ∷ others) =
     let c : Option Open = find (has_tag x.tag) p.held in
     serve p x others (number_in x.direction c) (next_of p.terms x.direction c)
@@ -195,7 +195,7 @@ finish_checks p room tag status sense = short room ∷ closed p ∷ (bad_sense_l
 
 abbrev pub finish_outcome : Port → ℕ → ℕ → List ℕ → Outcome
 finish_outcome p tag status sense =
-    answering (leaving p p.announced (has_tag tag)) Performed (final_response (find (has_tag tag) p.held) status sense)
+    answering (leaving p p.announced (has_tag tag)) (Ok Performed) (final_response (find (has_tag tag) p.held) status sense)
 
 abbrev pub finish_def : Port → ℕ → ℕ → ℕ → List ℕ → Outcome
 finish_def p room tag status sense = unless (first_of_checks (finish_checks p room tag status sense)) p (finish_outcome p tag status sense)
@@ -207,7 +207,7 @@ abbrev pub add_checks : Port → ℕ → List Check
 add_checks p k = closed p ∷ (eqb k 0, Argument) ∷ (ltb most_buffers (p.wanted + k), Wanted) ∷ []
 
 abbrev pub add_outcome : Port → ℕ → Outcome
-add_outcome p k = silent (with_wanted p (p.wanted + k)) Performed
+add_outcome p k = silent (with_wanted p (p.wanted + k)) (Ok Performed)
 
 abbrev pub add_def : Port → ℕ → Outcome
 add_def p k = unless (first_of_checks (add_checks p k)) p (add_outcome p k)
@@ -217,7 +217,7 @@ abbrev pub withdraw_checks : Port → ℕ → List Check
 withdraw_checks p k = closed p ∷ (eqb k 0, Argument) ∷ (leb p.wanted k, Wanted) ∷ []
 
 abbrev pub withdraw_outcome : Port → ℕ → Outcome
-withdraw_outcome p k = silent (with_wanted p (p.wanted - k)) Performed
+withdraw_outcome p k = silent (with_wanted p (p.wanted - k)) (Ok Performed)
 
 abbrev pub withdraw_def : Port → ℕ → Outcome
 withdraw_def p k = unless (first_of_checks (withdraw_checks p k)) p (withdraw_outcome p k)
@@ -227,7 +227,7 @@ abbrev pub grant_checks : Port → ℕ → List Check
 grant_checks p room = short room ∷ closed p ∷ (p.unanswered, Unanswered) ∷ (eqb (due p) 0, NotOwed) ∷ []
 
 abbrev pub grant_outcome : Port → Outcome
-grant_outcome p = answering (with_unanswered p true) Performed (credit_request p.terms.crsolnt)
+grant_outcome p = answering (with_unanswered p true) (Ok Performed) (credit_request p.terms.crsolnt)
 
 abbrev pub grant_def : Port → ℕ → Outcome
 grant_def p room = unless (first_of_checks (grant_checks p room)) p (grant_outcome p)
@@ -237,7 +237,7 @@ close_checks p room = short room ∷ closed p ∷ []
 
 -- "The owner may also close with a reason"
 abbrev pub close_outcome : Port → ℕ → Outcome
-close_outcome p reason = record { reply = Performed; port = closed_port; wrote = target_logout p.terms.losolnt reason ∷ [] }
+close_outcome p reason = record { reply = Ok Performed; port = closed_port; wrote = target_logout p.terms.losolnt reason ∷ [] }
 
 abbrev pub close_def : Port → ℕ → ℕ → Outcome
 close_def p room reason = unless (first_of_checks (close_checks p room)) p (close_outcome p reason)
@@ -252,7 +252,7 @@ abbrev pub counters_checks : Port → List Check
 counters_checks p = closed p ∷ []
 
 abbrev pub counters_outcome : Port → Outcome
-counters_outcome p = silent p (Counts (counters_of p))
+counters_outcome p = silent p (Ok (Counts (counters_of p)))
 
 abbrev pub counters_def : Port → Outcome
 counters_def p = unless (first_of_checks (counters_checks p)) p (counters_outcome p)
@@ -271,7 +271,7 @@ abbrev pub list_checks : Port → ℕ → List Check
 list_checks p room = closed p ∷ (ltb room most_buffers, Argument) ∷ []
 
 abbrev pub list_outcome : Port → Outcome
-list_outcome p = silent p (Listed (length p.held))
+list_outcome p = silent p (Ok (Listed (length p.held)))
 
 abbrev pub list_def : Port → ℕ → Outcome
 list_def p room = unless (first_of_checks (list_checks p room)) p (list_outcome p)

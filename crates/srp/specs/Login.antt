@@ -1,5 +1,5 @@
 -- Document 01, "Login", and document 02, job 6: the settings, the refusals and rejections, and the port that a login makes.
-use Rattle.std.specs.Prelude.{Bool, true, false, cond, not, ◌||◌, List, [], ◌∷◌, ◌++◌, ℕ, ltb, eqb, length}
+use Rattle.std.specs.Prelude.{Bool, true, false, cond, not, ◌||◌, List, [], ◌∷◌, ◌++◌, ℕ, ltb, eqb, length, Ok}
 use Rattle.std.proofs.Math.Option.{Option, none, some}
 use Rattle.srp.specs.Limits.{buffer_size, most_buffers, shortest_agreed, direct_only, both_formats}
 use Rattle.srp.specs.Bytes.{bit, get, part, type_of, write}
@@ -57,8 +57,8 @@ login_reject c t reason = write login_rej (reason ∷ t ∷ supported c ∷ [])
 
 -- accepted, or rejected with a reason
 abbrev pub judged_by : Option ℕ → (c : Settings) (t n : ℕ) → Terms → Outcome
-judged_by none c t n terms = record { reply = Accepted; port = opened_with c.buffers terms; wrote = login_response c t n ∷ [] }
-judged_by (some reason) c t n terms = record { reply = Rejected reason; port = closed_port; wrote = login_reject c t reason ∷ [] }
+judged_by none c t n terms = record { reply = Ok Accepted; port = opened_with c.buffers terms; wrote = login_response c t n ∷ [] }
+judged_by (some reason) c t n terms = record { reply = Ok (Rejected reason); port = closed_port; wrote = login_reject c t reason ∷ [] }
 
 -- "Refused 1, 2" whatever the message
 abbrev pub setting_checks : Settings → ℕ → List Check

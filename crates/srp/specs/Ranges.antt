@@ -1,6 +1,6 @@
 -- What every port has that a login made and calls changed, whatever they answered. The laws are `reached` of proofs/Ranges.antt, `has_pieces_lem` of
 -- proofs/Moves.antt, `operations_at_most` of proofs/Segments.antt, and those of proofs/Turns.antt.
-use Rattle.std.specs.Prelude.{◌≡◌, ◌⊎◌, ◌↔◌, true, false, cond, List, [], ◌∷◌, ℕ, ◌+◌, ◌-◌, ◌/◌, ◌^◌, ◌≤◌, ◌<◌, eqb, length}
+use Rattle.std.specs.Prelude.{◌≡◌, ◌⊎◌, ◌↔◌, true, false, cond, List, [], ◌∷◌, ℕ, ◌+◌, ◌-◌, ◌/◌, ◌^◌, ◌≤◌, ◌<◌, eqb, length, Ok}
 use Rattle.std.proofs.Math.Option.{some}
 use Rattle.srp.specs.Limits.{most_buffers, most_moves, largest_piece, most_copies}
 use Rattle.srp.specs.Lists.{find, All, is_some}
@@ -91,7 +91,7 @@ FirstHasPiece = (p : Port) → Ranges p → (x : Place) (others : List Place) �
 
 -- "The call says idle only with an empty line", and with an empty line always; it is empty just where no open command has a move with pieces
 pub record IdleTurn (p : Port) : Type 0 where
-  pub says : ((turn_def p).reply ≡ Idle) ↔ (p.line ≡ [])
+  pub says : ((turn_def p).reply ≡ Ok Idle) ↔ (p.line ≡ [])
   pub means : (p.line ≡ []) ↔ ((tag : ℕ) (d : Direction) → unfinished d (find (has_tag tag) p.held) ≡ false)
 
 abbrev pub IdleTurns : Type 0

@@ -1,6 +1,6 @@
 -- How a row of the table is run: what is done, what is seen, and messages and answers built byte by byte from document 01's text and not by the
 -- layouts. The rows are specs/Table.antt.
-use Rattle.std.specs.Prelude.{Bool, true, false, cond, List, [], ◌∷◌, ◌++◌, map, ℕ, zero, suc, ℤ, length, replicate}
+use Rattle.std.specs.Prelude.{Bool, true, false, cond, List, [], ◌∷◌, ◌++◌, map, ℕ, zero, suc, ℤ, length, replicate, Result, Ok, Err}
 use Rattle.srp.specs.Bytes.{bytes_of}
 use Rattle.srp.specs.Refusals.{number_of}
 use Rattle.srp.specs.Requests.{cdb_def, segments_def}
@@ -18,7 +18,8 @@ use Rattle.srp.specs.declared.Kind.TheVariants.{Read, Write}
 use Rattle.srp.specs.declared.Piece.{Piece}
 use Rattle.srp.specs.declared.Record.{Record}
 use Rattle.srp.specs.declared.Reply.{Reply}
-use Rattle.srp.specs.declared.Reply.TheVariants.{Refused, Performed, NewCommand, TaskAnswered, CreditSettled, LoggedOut, Operation, Done, Served, Idle, Accepted, Rejected, Counts, Listed}
+use Rattle.srp.specs.declared.Reply.TheVariants.{Performed, NewCommand, TaskAnswered, CreditSettled, LoggedOut, Operation, Done, Served, Idle, Accepted, Rejected, Counts, Listed}
+use Rattle.srp.specs.declared.Refusal.{Refusal}
 
 -- ── what is done and seen
 
@@ -73,24 +74,24 @@ operation Write o n = writes o.handle o.address o.len o.offset n
 abbrev pub row : Record → List ℕ
 row r = r.tag ∷ r.lun ∷ r.out ∷ r.inn ∷ []
 
-abbrev pub seen_of : Port → Reply → Seen
-seen_of p (Refused r) = refused (number_of r)
-seen_of p Performed = performed
-seen_of p (NewCommand tag lun cdb waits) = cond waits (waiting tag lun cdb) (command tag lun cdb)
-seen_of p (TaskAnswered tag lun) = task tag lun
-seen_of p CreditSettled = settled
-seen_of p LoggedOut = logged_out_lem
-seen_of p (Operation k o n) = operation k o n
-seen_of p (Done n) = done n
-seen_of p (Served tag d o n) = served tag (operation (kind_of d) o n)
-seen_of p Idle = idle
-seen_of p Accepted = accepted
-seen_of p (Rejected n) = rejected n
-seen_of p (Counts c) = counters c.wanted c.announced c.held c.owed
-seen_of p (Listed n) = records n (map row (listing p))
+abbrev pub seen_of : Port → Result Reply Refusal → Seen
+seen_of p (Err r) = refused (number_of r)
+seen_of p (Ok Performed) = performed
+seen_of p (Ok (NewCommand tag lun cdb waits)) = cond waits (waiting tag lun cdb) (command tag lun cdb)
+seen_of p (Ok (TaskAnswered tag lun)) = task tag lun
+seen_of p (Ok CreditSettled) = settled
+seen_of p (Ok LoggedOut) = logged_out_lem
+seen_of p (Ok (Operation k o n)) = operation k o n
+seen_of p (Ok (Done n)) = done n
+seen_of p (Ok (Served tag d o n)) = served tag (operation (kind_of d) o n)
+seen_of p (Ok Idle) = idle
+seen_of p (Ok Accepted) = accepted
+seen_of p (Ok (Rejected n)) = rejected n
+seen_of p (Ok (Counts c)) = counters c.wanted c.announced c.held c.owed
+seen_of p (Ok (Listed n)) = records n (map row (listing p))
 
 abbrev pub returned_c : Port → CReturn → Outcome × Seen
-returned_c p a = (record { reply = Performed; port = p; wrote = a.wrote }, cond (is_zero a.returns) performed (refused a.returns))
+returned_c p a = (record { reply = Ok Performed; port = p; wrote = a.wrote }, cond (is_zero a.returns) performed (refused a.returns))
   where
     is_zero : ℕ → Bool
     is_zero zero = true
@@ -100,7 +101,7 @@ abbrev pub called : Outcome → Outcome × Seen
 called o = (o, seen_of o.port o.reply)
 
 abbrev pub asked : Port → Seen → Outcome × Seen
-asked p s = (record { reply = Performed; port = p; wrote = [] }, s)
+asked p s = (record { reply = Ok Performed; port = p; wrote = [] }, s)
 
 -- the port's own identifier
 abbrev pub own : List ℕ

@@ -1,5 +1,5 @@
 -- Document 02, job 7: "a new call brings the tables by tag". "Refusals 9 and 10 are made there in such cases, 10 still answering the command".
-use Rattle.std.specs.Prelude.{Bool, false, not, List, [], ◌∷◌, ℕ}
+use Rattle.std.specs.Prelude.{Bool, false, not, List, [], ◌∷◌, ℕ, Ok, Err}
 use Rattle.std.proofs.Math.Option.{Option, none, some}
 use Rattle.srp.specs.Lists.{find, change, is_some}
 use Rattle.srp.specs.Both.{Both}
@@ -10,7 +10,7 @@ use Rattle.srp.specs.Writing.{answer}
 use Rattle.srp.specs.Take.{Outcome, silent, answering, closed, is_open_lem, leaving, Tables, tables_fit, fields_fit, ready, new_side}
 use Rattle.srp.specs.declared.Refusal.{Refusal}
 use Rattle.srp.specs.declared.Refusal.TheVariants.{TableLength, Fields, TagNotOpen, Waiting}
-use Rattle.srp.specs.declared.Reply.TheVariants.{Refused, Performed}
+use Rattle.srp.specs.declared.Reply.TheVariants.{Performed}
 
 -- what the tables of a command that waits are judged by
 abbrev pub awaited_by : {S : Type 0} → Option (Held S) → Option (Both Given)
@@ -57,15 +57,15 @@ bad_response (some c) delta = answer c.request.ucsolnt c.request.tag 0x02 delta
 
 -- "10 still answering the command", which it ends; "every other refusal returns its number and alters nothing"
 abbrev pub tables_refused : Conduct → Port → ℕ → Refusal → Outcome
-tables_refused (hangs_up reason) p tag r = silent p (Refused r)
+tables_refused (hangs_up reason) p tag r = silent p (Err r)
 tables_refused answered p tag r =
-    answering (leaving p p.announced (has_tag tag)) (Refused r) (bad_response (find (has_tag tag) p.held))
-tables_refused stays p tag r = silent p (Refused r)
-tables_refused alters_nothing p tag r = silent p (Refused r)
+    answering (leaving p p.announced (has_tag tag)) (Err r) (bad_response (find (has_tag tag) p.held))
+tables_refused stays p tag r = silent p (Err r)
+tables_refused alters_nothing p tag r = silent p (Err r)
 
 -- the command waits no longer
 abbrev pub tables_outcome : Port → ℕ → Tables → Outcome
-tables_outcome p tag t = silent (with_held p p.announced (change (has_tag tag) (brought new_side t) p.held)) Performed
+tables_outcome p tag t = silent (with_held p p.announced (change (has_tag tag) (brought new_side t) p.held)) (Ok Performed)
 
 abbrev pub tables_by : Option Refusal → Port → ℕ → Tables → Outcome
 tables_by none p tag t = tables_outcome p tag t

@@ -1,5 +1,5 @@
 -- Document 01, and document 02, jobs 7 and 8: take, with its checks, hang_ups, refusal 10, task management, credit responses and the initiator's logout.
-use Rattle.std.specs.Prelude.{Bool, true, false, cond, not, ◌&&◌, ◌||◌, List, [], ◌∷◌, ◌++◌, ℕ, ◌+◌, ◌-◌, eqb, length}
+use Rattle.std.specs.Prelude.{Bool, true, false, cond, not, ◌&&◌, ◌||◌, List, [], ◌∷◌, ◌++◌, ℕ, ◌+◌, ◌-◌, eqb, length, Result, Ok, Err}
 use Rattle.std.proofs.Math.Option.{Option, none, some}
 use Rattle.srp.specs.Limits.{credit_tag}
 use Rattle.srp.specs.Lists.{find, without, is_some}
@@ -18,27 +18,27 @@ use Rattle.srp.specs.declared.TaskRequest.{TaskRequest}
 use Rattle.srp.specs.declared.Message.{Message}
 use Rattle.srp.specs.declared.Message.TheVariants.{Bad, Cmd, TskMgmt, CredRsp, ILogout}
 use Rattle.srp.specs.declared.Reply.{Reply}
-use Rattle.srp.specs.declared.Reply.TheVariants.{Refused, NewCommand, TaskAnswered, CreditSettled, LoggedOut}
+use Rattle.srp.specs.declared.Reply.TheVariants.{NewCommand, TaskAnswered, CreditSettled, LoggedOut}
 
 -- ── what a call does
 
 -- its reply, the port after it, and what it wrote: no message or one
 pub record Outcome : Type 0 where
-  pub reply : Reply
+  pub reply : Result Reply Refusal
   pub port : Port
   pub wrote : List (List ℕ)
 
 -- nothing is written
-abbrev pub silent : Port → Reply → Outcome
+abbrev pub silent : Port → Result Reply Refusal → Outcome
 silent p r = record { reply = r; port = p; wrote = [] }
 
 -- p has the endings of the call already: "delta = the larger of D and 0, after the endings of that call; then A + delta, D - delta"
-abbrev pub answering : Port → Reply → (ℕ → List ℕ) → Outcome
+abbrev pub answering : Port → Result Reply Refusal → (ℕ → List ℕ) → Outcome
 answering p r message = record { reply = r; port = with_held p (p.announced + due p) p.held; wrote = message (due p) ∷ [] }
 
 -- "write SRP_T_LOGOUT, drop all commands and close"
 abbrev pub hang_up_lem : Port → Refusal → ℕ → Outcome
-hang_up_lem p r reason = record { reply = Refused r; port = closed_port; wrote = target_logout p.terms.losolnt reason ∷ [] }
+hang_up_lem p r reason = record { reply = Err r; port = closed_port; wrote = target_logout p.terms.losolnt reason ∷ [] }
 
 abbrev pub closed : Port → Check
 closed p = (not p.live, Closed)
@@ -136,14 +136,14 @@ request_in ILogout = no_request
 
 -- "Refusal 10 is taken and answered in the same call", with code 02h
 abbrev pub answer_bad_lem : Port → Message → Refusal → Outcome
-answer_bad_lem p m r = answering (with_held p (p.announced - 1) p.held) (Refused r) (answer (request_in m).ucsolnt (request_in m).tag 0x02)
+answer_bad_lem p m r = answering (with_held p (p.announced - 1) p.held) (Err r) (answer (request_in m).ucsolnt (request_in m).tag 0x02)
 
 -- "Every other refusal returns its number and alters nothing"
 abbrev pub conducted : Conduct → Port → Message → Refusal → Outcome
 conducted (hangs_up reason) p m r = hang_up_lem p r reason
 conducted answered p m r = answer_bad_lem p m r
-conducted stays p m r = silent p (Refused r)
-conducted alters_nothing p m r = silent p (Refused r)
+conducted stays p m r = silent p (Err r)
+conducted alters_nothing p m r = silent p (Err r)
 
 abbrev pub refused_by : Port → Message → Refusal → Outcome
 refused_by p m r = conducted (conduct_of r) p m r
@@ -153,15 +153,15 @@ abbrev pub accepted : Port → List ℕ → Message → Outcome
 accepted p s (Bad r) = refused_by p (Bad r) r
 -- "Taking a request: A - 1, H + 1"; the commands stand in the order of taking; one that waits "counts as held from the moment it was taken"
 accepted p s (Cmd c) =
-    silent (with_held p (p.announced - 1) (p.held ++ (new_open c s ∷ []))) (NewCommand c.request.tag c.request.lun c.cdb (waits c))
+    silent (with_held p (p.announced - 1) (p.held ++ (new_open c s ∷ []))) (Ok (NewCommand c.request.tag c.request.lun c.cdb (waits c)))
 -- a task request ends in the same call, as do the commands that it aborts
 accepted p s (TskMgmt k) =
-    answering (leaving p (p.announced - 1) (aborted k)) (TaskAnswered k.request.tag k.request.lun)
+    answering (leaving p (p.announced - 1) (aborted k)) (Ok (TaskAnswered k.request.tag k.request.lun))
     (answer (solicited k.request (task_code k.function)) k.request.tag (task_code k.function))
 -- "settles it and uses no credit"
-accepted p s (CredRsp g) = silent (with_unanswered p false) CreditSettled
+accepted p s (CredRsp g) = silent (with_unanswered p false) (Ok CreditSettled)
 -- "Logout closes the channel, drops open commands, writes nothing"
-accepted p s ILogout = silent closed_port LoggedOut
+accepted p s ILogout = silent closed_port (Ok LoggedOut)
 
 abbrev pub take_by : Option Refusal → Port → List ℕ → Message → Outcome
 take_by none p s m = accepted p s m

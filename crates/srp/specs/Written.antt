@@ -1,15 +1,16 @@
 -- Messages of an initiator as the layouts and as document 01's text have them, and the answers with their numbers and values.
-use Rattle.std.specs.Prelude.{true, List, [], ◌∷◌, ℕ, ℤ, pos, negsuc, replicate}
+use Rattle.std.specs.Prelude.{true, List, [], ◌∷◌, ℕ, ℤ, pos, negsuc, replicate, Result, Ok, Err}
 use Rattle.srp.specs.Cutting.{piece}
 use Rattle.srp.specs.declared.Direction.TheVariants.{Out, In}
 use Rattle.srp.specs.declared.Kind.TheVariants.{Read, Write}
 use Rattle.srp.specs.declared.Refusal.TheVariants.{TagOpen}
 use Rattle.srp.specs.declared.Reply.{Reply}
-use Rattle.srp.specs.declared.Reply.TheVariants.{Refused, Performed, NewCommand, TaskAnswered, CreditSettled, LoggedOut, Operation, Done, Served, Idle, Accepted, Rejected, Counts, Listed}
+use Rattle.srp.specs.declared.Reply.TheVariants.{Performed, NewCommand, TaskAnswered, CreditSettled, LoggedOut, Operation, Done, Served, Idle, Accepted, Rejected, Counts, Listed}
 use Rattle.srp.specs.Bytes.{number, write}
 use Rattle.srp.specs.Messages
 use Rattle.srp.specs.Messages.{login_req, tsk_mgmt, i_logout, cred_rsp}
 use Rattle.srp.specs.Rows.{tag_only, login_req_lem, own, tsk_mgmt_lem}
+use Rattle.srp.specs.declared.Refusal.{Refusal}
 
 -- ── the initiator's layouts
 
@@ -34,24 +35,24 @@ written_by_hand =
 
 -- ── the answers' numbers and values
 
-abbrev pub answers : List Reply
+abbrev pub answers : List (Result Reply Refusal)
 answers =
-    Refused TagOpen
-    ∷ Performed
-    ∷ NewCommand 9 5 20 true
-    ∷ TaskAnswered 9 5
-    ∷ CreditSettled
-    ∷ LoggedOut
-    ∷ Operation Read (piece 0x1000 7 512 1024) 3
-    ∷ Operation Write (piece 0x1000 7 512 1024) 3
-    ∷ Done 4
-    ∷ Served 9 Out (piece 0x1000 7 512 1024) 3
-    ∷ Served 9 In (piece 0x1000 7 512 1024) 4
-    ∷ Idle
-    ∷ Accepted
-    ∷ Rejected 0x10003
-    ∷ Counts (record { wanted = 1; announced = 2; held = 2; owed = negsuc 2 })
-    ∷ Listed 3
+    Err TagOpen
+    ∷ Ok Performed
+    ∷ Ok (NewCommand 9 5 20 true)
+    ∷ Ok (TaskAnswered 9 5)
+    ∷ Ok CreditSettled
+    ∷ Ok LoggedOut
+    ∷ Ok (Operation Read (piece 0x1000 7 512 1024) 3)
+    ∷ Ok (Operation Write (piece 0x1000 7 512 1024) 3)
+    ∷ Ok (Done 4)
+    ∷ Ok (Served 9 Out (piece 0x1000 7 512 1024) 3)
+    ∷ Ok (Served 9 In (piece 0x1000 7 512 1024) 4)
+    ∷ Ok Idle
+    ∷ Ok Accepted
+    ∷ Ok (Rejected 0x10003)
+    ∷ Ok (Counts (record { wanted = 1; announced = 2; held = 2; owed = negsuc 2 }))
+    ∷ Ok (Listed 3)
     ∷ []
 
 abbrev pub answer_values : List (ℕ × List ℤ)

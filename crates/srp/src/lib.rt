@@ -2,35 +2,38 @@
 // The papers' numbers and values for each case stand in specs/Refusals.antt and specs/Answers.antt. A field `inn` is data-in's: `in` is a keyword.
 #![tactic(auto)]
 
+ghost use Rattle.std.specs.Prelude.{◌≡◌};
+ghost use Rattle.srp.specs.Calls.{kind_of};
+
 pub mod limits;
 
-// Why a call is refused, in the order of the papers' numbers.
+// Why a call is refused, with the papers' numbers.
 #[derive(Clone, Copy)]
 pub enum Refusal {
-    ShortBuffer,
-    Setting,
-    Length,
-    OtherType,
-    OutFormat,
-    InFormat,
-    OutCount,
-    InCount,
-    TableLength,
-    Fields,
-    Argument,
-    Closed,
-    NoCredit,
-    TagOpen,
-    TagNotOpen,
-    CreditResponse,
-    Unanswered,
-    NotOwed,
-    Wanted,
-    Unplanned,
-    Planned,
-    Offset,
-    Unfinished,
-    Waiting,
+    ShortBuffer = 1,
+    Setting = 2,
+    Length = 3,
+    OtherType = 4,
+    OutFormat = 5,
+    InFormat = 6,
+    OutCount = 7,
+    InCount = 8,
+    TableLength = 9,
+    Fields = 10,
+    Argument = 11,
+    Closed = 21,
+    NoCredit = 22,
+    TagOpen = 23,
+    TagNotOpen = 24,
+    CreditResponse = 25,
+    Unanswered = 26,
+    NotOwed = 27,
+    Wanted = 28,
+    Unplanned = 29,
+    Planned = 30,
+    Offset = 31,
+    Unfinished = 32,
+    Waiting = 33,
 }
 
 // Data-out, which RDMA Reads fetch, and data-in, which RDMA Writes bring.
@@ -40,10 +43,22 @@ pub enum Direction {
     In,
 }
 
+// Which RDMA operation, with the papers' numbers.
 #[derive(Clone, Copy)]
 pub enum Kind {
-    Read,
-    Write,
+    Read = 1,
+    Write = 2,
+}
+
+impl From<Direction> for Kind {
+    fn from(direction: Direction) -> Kind
+        ensures { result ≡ kind_of direction }
+    {
+        match direction {
+            Direction::Out => Kind::Read,
+            Direction::In => Kind::Write,
+        }
+    }
 }
 
 // A data buffer descriptor: its format and count, its place in the message; for format 2 the table's length and the total length.
@@ -188,10 +203,9 @@ pub struct Record {
     pub inn: u32,
 }
 
-// What a call on the port answers.
+// What a call on the port answers that is not refused.
 #[derive(Clone, Copy)]
 pub enum Reply {
-    Refused(Refusal),
     // tables, a plan, move, add, withdraw, finish, grant or close
     Performed,
     // a take: a command with its CDB's length, and whether it waits for its tables; a task request; a settled credit request; the initiator's logout
@@ -221,9 +235,9 @@ pub enum Reply {
     Listed(usize),
 }
 
-// A reply, and the length of the message in the lent buffer, 0 where none was written.
+// A reply or why there is none, and the length of the message in the lent buffer, 0 where none was written.
 #[derive(Clone, Copy)]
 pub struct Answer {
-    pub reply: Reply,
+    pub reply: Result<Reply, Refusal>,
     pub wrote: usize,
 }
