@@ -13,7 +13,7 @@ pub fn is_bad(q: u64) -> bool
     if q == 0 {
         return false;
     }
-    let exponent = u64::trailing_zeros(q);
+    let exponent = q.trailing_zeros();
     if exponent < LEAST_EXPONENT {
         return true;
     }
@@ -31,5 +31,5 @@ pub fn longest_at(most: u32, q: u64, address: u64) -> u32
     if q == 0 {
         return most;
     }
-    wire::least(most as u64, q - (address & (q - 1))) as u32
+    (most as u64).min(q - (address & (q - 1))) as u32
 }

@@ -14,9 +14,9 @@ use Rattle.std.specs.Prelude.{Ok}
 use Rattle.srp.specs.Bytes.{Field, get, put, gets, kind, type_of, inside, apart_from}
 use Rattle.srp.specs.Messages.{tag, lun, ucsolnt, scsolnt, out_format, in_format, out_count, in_count_lem, additional, task_function, task_tag, format_bits, requested_length, login_crsolnt, login_losolnt, channel_action, tsk_mgmt, cmd, i_logout, cred_rsp}
 use Rattle.srp.specs.Lists.{All}
-use Rattle.srp.specs.Refusals.{Conduct, hangs_up, answered, stays, alters_nothing, conduct_of, Check, first_of_checks}
+use Rattle.srp.specs.Refusals.{Conduct, hangs_up, answered, stays, alters_nothing, conduct_of, Check, first_of_checks, unless_bad}
 use Rattle.srp.specs.Descriptors.{descriptor_size, descriptor_of_lem, fetch_of, given}
-use Rattle.srp.specs.Requests.{request_of_lem, out_at, in_at, out_descriptor, in_descriptor, command_of_lem, command_checks, task_of, unless_bad, sized, length_checks, read_message_lem, look_def}
+use Rattle.srp.specs.Requests.{Reading, request_of_lem, out_at, in_at, out_descriptor, in_descriptor, command_of_lem, command_checks, task_of, sized, length_checks, read_message_lem, look_def}
 use Rattle.srp.specs.Credit.{Open, Port}
 use Rattle.srp.specs.Take.{answering, leaving, given_in, task_code, aborted, later_checks, accepted, request_in, conducted, take_by, take_checks, take_read, take_def}
 use Rattle.srp.specs.Writing.{answer, solicited}
@@ -27,8 +27,8 @@ use Rattle.srp.specs.declared.Refusal.{Refusal}
 use Rattle.srp.specs.declared.Refusal.TheVariants.{Length, OtherType}
 use Rattle.srp.specs.declared.Descriptor.{Descriptor}
 use Rattle.srp.specs.declared.Command.{Command}
-use Rattle.srp.specs.declared.Message.{Message}
-use Rattle.srp.specs.declared.Message.TheVariants.{Bad, Cmd, TskMgmt, CredRsp, ILogout}
+use Rattle.srp.specs.declared.Message.TheVariants.{Cmd, TskMgmt, CredRsp, ILogout}
+use Rattle.std.specs.declared.result.Result.TheVariants.{Err}
 use Rattle.srp.specs.declared.Reply.TheVariants.{TaskAnswered}
 use Rattle.srp.proofs.FieldLaws.{both, ends, length_put, drop_put}
 use Rattle.srp.proofs.Layouts.{gets_apart}
@@ -158,33 +158,33 @@ module _ (s s' : List ℕ) (a : Alike (command_reads_in s') (out_at s') s s') wh
 -- ── take
 
 -- by_type, by the tests
-abbrev read_as_lem : Bool → Bool → Bool → Bool → ℕ → List ℕ → Message
+abbrev read_as_lem : Bool → Bool → Bool → Bool → ℕ → List ℕ → Reading
 read_as_lem b₁ b₂ b₃ b₄ formats s =
-    pick b₁ b₂ b₃ b₄ (unless_bad (first_of_checks (command_checks formats s)) (Cmd (command_of_lem s))) (sized 48 s (TskMgmt (task_of s))) (sized 16 s ILogout)
-    (sized 16 s (CredRsp (get tag s))) (Bad OtherType)
+    pick b₁ b₂ b₃ b₄ (unless_bad (first_of_checks (command_checks formats s)) (Ok (Cmd (command_of_lem s)))) (sized 48 s (Ok (TskMgmt (task_of s)))) (sized 16 s (Ok ILogout))
+    (sized 16 s (Ok (CredRsp (get tag s)))) (Err OtherType)
 
 module _ (p : Port) (s s' : List ℕ) where
   -- what is read of s and what is read of s' are treated alike
-  record Same (m m' : Message) : Type 0 where
+  record Same (m m' : Reading) : Type 0 where
     checks : later_checks p s m ≡ later_checks p s' m'
     done : accepted p s m ≡ accepted p s' m'
     request : request_in m ≡ request_in m'
 
-  same_bad : (r : Refusal) → Same (Bad r) (Bad r)
+  same_bad : (r : Refusal) → Same (Err r) (Err r)
   same_bad r = record { checks = refl; done = refl; request = refl }
 
-  same_unless : (cs cs' : List Check) {m m' : Message} → cs ≡ cs' → Same m m' → Same (unless_bad (first_of_checks cs) m) (unless_bad (first_of_checks cs') m')
+  same_unless : (cs cs' : List Check) {m m' : Reading} → cs ≡ cs' → Same m m' → Same (unless_bad (first_of_checks cs) m) (unless_bad (first_of_checks cs') m')
   same_unless cs cs' {m} {m'} e h = rw e (go (first_of_checks cs'))
     where
       go : (o : Option Refusal) → Same (unless_bad o m) (unless_bad o m')
       go none = h
       go (some r) = same_bad r
 
-  same_sized : (b : Bool) {m m' : Message} → Same m m' → Same (cond b m (Bad Length)) (cond b m' (Bad Length))
+  same_sized : (b : Bool) {m m' : Reading} → Same m m' → Same (cond b m (Err Length)) (cond b m' (Err Length))
   same_sized true h = h
   same_sized false h = same_bad Length
 
-  same_command : Alike (command_reads_in s') (out_at s') s s' → Same (Cmd (command_of_lem s)) (Cmd (command_of_lem s'))
+  same_command : Alike (command_reads_in s') (out_at s') s s' → Same (Ok (Cmd (command_of_lem s))) (Ok (Cmd (command_of_lem s')))
   same_command a =
       let o = given_same s s' a.far (out_descriptor s') (omega arith) in
       let i = given_same s s' a.far (in_descriptor s') (omega arith) in
@@ -192,7 +192,7 @@ module _ (p : Port) (s s' : List ℕ) where
       let g : given_in (command_of_lem s) s ≡ given_in (command_of_lem s') s' = ap (λ (c : Command). given_in c s) e ∙ (λ j. record { out = o j; inn = i j }) in
       record { checks = cc; done = cc; request = cc }
 
-  same_task : gets (task_reads (eqb (get task_function s') 1)) s ≡ gets (task_reads (eqb (get task_function s') 1)) s' → Same (TskMgmt (task_of s)) (TskMgmt (task_of s'))
+  same_task : gets (task_reads (eqb (get task_function s') 1)) s ≡ gets (task_reads (eqb (get task_function s') 1)) s' → Same (Ok (TskMgmt (task_of s))) (Ok (TskMgmt (task_of s')))
   same_task e =
       let a = also_same (eqb (get task_function s') 1) task_tag (task_reads false) s s' e in
       let r : gets (task_reads false) s ≡ gets (task_reads false) s' = a.1 in
@@ -201,7 +201,7 @@ module _ (p : Port) (s s' : List ℕ) where
       let w = ap (λ (f : Open → Bool). leaving p (p.announced - 1) f) (fun_ext b) in
       let q : request_of_lem s ≡ request_of_lem s' = cc in
       let f : get task_function s ≡ get task_function s' = cc in
-      let done : accepted p s (TskMgmt (task_of s)) ≡ accepted p s' (TskMgmt (task_of s')) =
+      let done : accepted p s (Ok (TskMgmt (task_of s))) ≡ accepted p s' (Ok (TskMgmt (task_of s'))) =
       λ j. answering (w j) (Ok (TaskAnswered (q j).tag (q j).lun)) (answer (solicited (q j) (task_code (f j))) (q j).tag (task_code (f j))) in
       record { checks = cc; done = done; request = q }
     where
@@ -217,7 +217,7 @@ module _ (p : Port) (s s' : List ℕ) where
   same_as false false false true formats a = rw a.long (same_sized (eqb (length s') 16) (record { checks = cc; done = refl; request = refl }))
   same_as false false false false formats a = same_bad OtherType
 
-  same_take : (room : ℕ) (m m' : Message) → Same m m' → take_read p room s m ≡ take_read p room s' m'
+  same_take : (room : ℕ) (m m' : Reading) → Same m m' → take_read p room s m ≡ take_read p room s' m'
   same_take room m m' h = cc (by (first_of_checks (take_checks p room s' m')))
     where
       refused : (c : Conduct) (r : Refusal) → conducted c p m r ≡ conducted c p m' r

@@ -13,13 +13,13 @@ use Rattle.srp.specs.Bytes.{Bytes, bytes, number, get, behind}
 use Rattle.srp.specs.Messages.{tag, out_format, in_format, out_count, in_count_lem, segment_length}
 use Rattle.srp.specs.Refusals.{first_of_checks}
 use Rattle.srp.specs.Descriptors.{descriptor_size, agrees, bad_count, segments_in, fetched, Given, given, segments, sum_of, reachable, descriptor_of_lem, good_table_lem, copies_agree_lem, good_indirect, good_format, good_fields}
-use Rattle.srp.specs.Requests.{request_of_lem, out_at, in_at, exact_length, command_checks, command_of_lem, read_message_lem}
+use Rattle.srp.specs.Requests.{Reading, request_of_lem, out_at, in_at, exact_length, command_checks, command_of_lem, read_message_lem}
 use Rattle.srp.specs.Both.{Both, Each}
 use Rattle.srp.specs.Take.{Tables, no_tables, given_in, tables_fit, fields_fit, waits, ready, waiting, new_side, new_open}
 use Rattle.srp.specs.Ranges.{SideRanges, GivenRanges, OpenRanges}
 use Rattle.srp.specs.declared.Request.{Request}
-use Rattle.srp.specs.declared.Message.{Message}
-use Rattle.srp.specs.declared.Message.TheVariants.{Bad, Cmd, TskMgmt, CredRsp, ILogout}
+use Rattle.srp.specs.declared.Message.TheVariants.{Cmd, TskMgmt, CredRsp, ILogout}
+use Rattle.std.specs.declared.result.Result.TheVariants.{Ok, Err}
 use Rattle.srp.proofs.FieldLaws.{both, get_below}
 use Rattle.srp.proofs.ListLaws.{all_take, all_drop}
 use Rattle.srp.proofs.Checks.{passes}
@@ -134,12 +134,12 @@ module _ (formats f count at : ℕ) (s : List ℕ) (b : Bytes s) where
       sized false false h = refl
 
 -- a command that is read from it and passes take's checks
-abbrev pub Sane : List ℕ → Message → Type 0
-Sane s (Bad r) = Unit {0}
-Sane s (Cmd c) = (waits c ≡ false → fields_fit (given_in c s) no_tables ≡ true) → OpenRanges (new_open c s)
-Sane s (TskMgmt k) = Unit {0}
-Sane s (CredRsp g) = Unit {0}
-Sane s ILogout = Unit {0}
+abbrev pub Sane : List ℕ → Reading → Type 0
+Sane s (Err r) = Unit {0}
+Sane s (Ok (Cmd c)) = (waits c ≡ false → fields_fit (given_in c s) no_tables ≡ true) → OpenRanges (new_open c s)
+Sane s (Ok (TskMgmt k)) = Unit {0}
+Sane s (Ok (CredRsp g)) = Unit {0}
+Sane s (Ok ILogout) = Unit {0}
 
 -- no table is lent where none is to be fetched
 pub none_fit : (m n : ℕ) → not (eqb m 0 && eqb n 0) ≡ false → (eqb 0 m && eqb 0 n) ≡ true
@@ -148,7 +148,7 @@ none_fit m n e =
     rw (eqb-true m 0 q.0, eqb-true n 0 q.1) refl
 
 module _ (s : List ℕ) (b : Bytes s) where
-  command_sane : (formats : ℕ) → first_of_checks (command_checks formats s) ≡ none → Sane s (Cmd (command_of_lem s))
+  command_sane : (formats : ℕ) → first_of_checks (command_checks formats s) ≡ none → Sane s (Ok (Cmd (command_of_lem s)))
   command_sane formats e = go (waits (command_of_lem s)) refl
     where
       g : Both Given

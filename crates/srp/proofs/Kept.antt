@@ -13,7 +13,7 @@ use Rattle.srp.specs.Bytes.{Bytes}
 use Rattle.srp.specs.Lists.{find, change, without, is_some, All}
 use Rattle.srp.specs.Refusals.{Conduct, hangs_up, answered, stays, alters_nothing, conduct_of, first_of_checks}
 use Rattle.srp.specs.Descriptors.{Given}
-use Rattle.srp.specs.Requests.{read_message_lem}
+use Rattle.srp.specs.Requests.{Reading, read_message_lem}
 use Rattle.srp.specs.Both.{Both, of}
 use Rattle.srp.specs.Credit.{Side, Open, has_tag, Distinct, rule_of, Port, due, with_moves, with_held, with_wanted, with_unanswered}
 use Rattle.srp.specs.Line.{Lined, left_by}
@@ -23,8 +23,8 @@ use Rattle.srp.specs.Calls.{unless, planned as with_plan, plan_checks, plan_def,
 use Rattle.srp.specs.Ranges.{SideRanges, OpenRanges, Ranges, Ranged}
 use Rattle.srp.specs.declared.Refusal.{Refusal}
 use Rattle.srp.specs.declared.Command.{Command}
-use Rattle.srp.specs.declared.Message.{Message}
-use Rattle.srp.specs.declared.Message.TheVariants.{Bad, Cmd, TskMgmt, CredRsp, ILogout}
+use Rattle.srp.specs.declared.Message.TheVariants.{Cmd, TskMgmt, CredRsp, ILogout}
+use Rattle.std.specs.declared.result.Result.TheVariants.{Ok, Err}
 use Rattle.srp.specs.declared.Direction.{Direction}
 use Rattle.srp.specs.declared.Direction.TheVariants.{Out, In}
 use Rattle.srp.specs.declared.Place.{Place}
@@ -123,15 +123,15 @@ module _ {p : Port} (v : Ranges p) where
   pub take_kept : (room : ℕ) (s : List ℕ) → Bytes s → Ranged (take_def p room s).port
   take_kept room s b = go (read_message_lem p.terms.agreed p.terms.formats s) (read_sane s b p.terms.agreed p.terms.formats)
     where
-      by : (c : Conduct) (m : Message) (r : Refusal) → Ranged (conducted c p m r).port
+      by : (c : Conduct) (m : Reading) (r : Refusal) → Ranged (conducted c p m r).port
       by (hangs_up reason) m r = inl refl
       by answered m r = inr (paid (fewer v (p.announced - 1) p.held p.line (omega (arith, v.room)) v.commands v.distinct v.line))
       by stays m r = inr v
       by alters_nothing m r = inr v
 
-      accept : (m : Message) → Sane s m → first_of_checks (take_checks p room s m) ≡ none → Ranged (accepted p s m).port
-      accept (Bad r) k e = by (conduct_of r) (Bad r) r
-      accept (Cmd c) k e =
+      accept : (m : Reading) → Sane s m → first_of_checks (take_checks p room s m) ≡ none → Ranged (accepted p s m).port
+      accept (Err r) k e = by (conduct_of r) (Err r) r
+      accept (Ok (Cmd c)) k e =
           let q = passed p room s c e in
           inr
           (fewer v (p.announced - 1) (p.held ++ (new_open c s ∷ [])) p.line
@@ -139,15 +139,15 @@ module _ {p : Port} (v : Ranges p) where
           (all_snoc OpenRanges p.held (new_open c s) v.commands (k q.fields))
           (distinct_snoc p.held (new_open c s) v.distinct (rw (new_request c s) q.fresh))
           (lined_snoc has_pieces (new_open c s) p.held p.line (new_none c s) v.line))
-      accept (TskMgmt k) a e = inr (paid (shorter v (p.announced - 1) (aborted k) (omega arith)))
-      accept (CredRsp g) k e = inr (asking v false)
-      accept ILogout k e = inl refl
+      accept (Ok (TskMgmt k)) a e = inr (paid (shorter v (p.announced - 1) (aborted k) (omega arith)))
+      accept (Ok (CredRsp g)) k e = inr (asking v false)
+      accept (Ok ILogout) k e = inl refl
 
-      end : (r : Option Refusal) (m : Message) → Sane s m → first_of_checks (take_checks p room s m) ≡ r → Ranged (take_by r p s m).port
+      end : (r : Option Refusal) (m : Reading) → Sane s m → first_of_checks (take_checks p room s m) ≡ r → Ranged (take_by r p s m).port
       end none m k e = accept m k e
       end (some r) m k e = by (conduct_of r) m r
 
-      go : (m : Message) → Sane s m → Ranged (take_by (first_of_checks (take_checks p room s m)) p s m).port
+      go : (m : Reading) → Sane s m → Ranged (take_by (first_of_checks (take_checks p room s m)) p s m).port
       go m k = end (first_of_checks (take_checks p room s m)) m k refl
 
   pub tables_kept : (room tag : ℕ) (t : Tables) → Ranged (tables_def p room tag t).port

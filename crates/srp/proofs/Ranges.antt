@@ -16,7 +16,7 @@ use Rattle.srp.specs.Tables.{tables_by, tables_def}
 use Rattle.srp.specs.Calls.{unless, plan_def, move_def, next_of, wrapped, step_def, turn_def, finish_def, add_def, withdraw_def, grant_def, close_def}
 use Rattle.srp.specs.Ranges.{SideRanges, OpenRanges, Ranges, Reached, logged_in_lem, took, brought, planned, moved, stepped, turned, finished, added, withdrew, granted, hung_up, Ranged}
 use Rattle.srp.specs.declared.Refusal.TheVariants.{ShortBuffer, Closed}
-use Rattle.srp.specs.declared.Message.{Message}
+use Rattle.srp.specs.Requests.{Reading}
 use Rattle.srp.specs.declared.Direction.{Direction}
 use Rattle.srp.specs.declared.Piece.{Piece}
 use Rattle.srp.proofs.ListLaws.{all_find}
@@ -31,7 +31,7 @@ carry : {p : Port} (f : Port → Port) → f closed_port ≡ closed_port → (Ra
 carry f z g k = ⊎_elim (λ e. inl (ap f e ∙ z)) g k
 
 -- the closed port stays, whatever the room
-take_shut : (b : Bool) (s : List ℕ) (m : Message) → (take_by (cond b (some ShortBuffer) (some Closed)) closed_port s m).port ≡ closed_port
+take_shut : (b : Bool) (s : List ℕ) (m : Reading) → (take_by (cond b (some ShortBuffer) (some Closed)) closed_port s m).port ≡ closed_port
 take_shut true s m = refl
 take_shut false s m = refl
 

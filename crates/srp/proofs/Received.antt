@@ -13,19 +13,17 @@ use borrow.Author.Tests.{le-ltb, eq-eqb}
 use Rattle.srp.specs.Limits.{both_formats}
 use Rattle.srp.specs.Bytes.{bytes_of, get, part, put, gets, zeros, kind, type_of, write, InRange}
 use Rattle.srp.specs.Messages.{tag, format_bits, requested_length, login_crsolnt, login_losolnt, channel_action, initiator_identifier, target_identifier, out_format, in_format, login_req, tsk_mgmt, cmd, i_logout, cred_rsp}
-use Rattle.srp.specs.Refusals.{Check, first_of_checks}
-use Rattle.srp.specs.Descriptors.{agrees, descriptor_of_lem, bad_count, fetch_of}
-use Rattle.srp.specs.Requests.{flag, exact_length, out_descriptor, in_descriptor, command_of_lem, command_checks, task_of, unless_bad, length_checks, by_type, read_message_lem, other_formats_lem, look_checks, look_def, bad_length}
+use Rattle.srp.specs.Refusals.{Check, first_of_checks, unless_bad}
+use Rattle.srp.specs.Descriptors.{agrees, descriptor_of_lem, bad_count}
+use Rattle.srp.specs.Requests.{Reading, flag, exact_length, out_descriptor, in_descriptor, command_of_lem, command_checks, task_of, length_checks, by_type, read_message_lem, other_formats_lem, look_checks, look_outcome, look_def, bad_length}
 use Rattle.srp.specs.Initiator.{Buffer, no_data, direct, indirect, format_of, count_of, CommandFields, values, command_bytes, Fit, Copied, Says, command_in, Reads}
 use Rattle.srp.specs.Login.{login_by_values, setting_checks, login_checks, login_def}
 use Rattle.srp.specs.declared.Settings.{Settings}
 use Rattle.srp.specs.declared.Refusal.{Refusal}
 use Rattle.srp.specs.declared.Refusal.TheVariants.{OtherType}
 use Rattle.srp.specs.declared.Descriptor.{Descriptor}
-use Rattle.srp.specs.declared.Look.{Look}
-use Rattle.srp.specs.declared.Look.TheVariants.{LookRefused, Fetches}
-use Rattle.srp.specs.declared.Message.{Message}
-use Rattle.srp.specs.declared.Message.TheVariants.{Bad, Cmd, TskMgmt, CredRsp, ILogout}
+use Rattle.srp.specs.declared.Message.TheVariants.{Cmd, TskMgmt, CredRsp, ILogout}
+use Rattle.std.specs.declared.result.Result.TheVariants.{Ok, Err}
 use Rattle.srp.proofs.Checks.{clear}
 use Rattle.srp.specs.ReadBack.{Written}
 use Rattle.srp.proofs.FieldLaws.{part_put}
@@ -41,30 +39,30 @@ module _ (agreed formats : ℕ) where
   by_length s h k = rw (clear (length_checks agreed s) (le-ltb (length s) 16 h, (le-ltb agreed (length s) k, tt)))
 
   task_read : (s : List ℕ) (u c t l f m : ℕ) → length s ≡ 48 → type_of s ≡ 0x01 → gets tsk_mgmt.fields s ≡ u ∷ c ∷ t ∷ l ∷ f ∷ m ∷ [] → 48 ≤ agreed
-      → read_message_lem agreed formats s ≡ TskMgmt (record { request = record { tag = t; lun = l; ucsolnt = flag u; scsolnt = flag c }; function = f; managed = m })
+      → read_message_lem agreed formats s ≡ Ok (TskMgmt (record { request = record { tag = t; lun = l; ucsolnt = flag u; scsolnt = flag c }; function = f; managed = m }))
   task_read s u c t l f m n k v h =
       let e : task_of s ≡ record { request = record { tag = t; lun = l; ucsolnt = flag u; scsolnt = flag c }; function = f; managed = m } = cc in
       by_length s (omega arith) (omega arith) ∙ rw (k, n, e)
 
   -- a task management request is read as it was written
   pub task_received : (u c t l f m : ℕ) → InRange tsk_mgmt.fields (u ∷ c ∷ t ∷ l ∷ f ∷ m ∷ []) → 48 ≤ agreed
-      → read_message_lem agreed formats (write tsk_mgmt (u ∷ c ∷ t ∷ l ∷ f ∷ m ∷ [])) ≡ TskMgmt (record { request = record { tag = t; lun = l; ucsolnt = flag u; scsolnt = flag c }; function = f; managed = m })
+      → read_message_lem agreed formats (write tsk_mgmt (u ∷ c ∷ t ∷ l ∷ f ∷ m ∷ [])) ≡ Ok (TskMgmt (record { request = record { tag = t; lun = l; ucsolnt = flag u; scsolnt = flag c }; function = f; managed = m }))
   task_received u c t l f m r h =
       let w : Written tsk_mgmt (u ∷ c ∷ t ∷ l ∷ f ∷ m ∷ []) = written tsk_mgmt refl _ r in
       task_read _ u c t l f m w.long w.code w.values h
 
-  logout_read : (s : List ℕ) → length s ≡ 16 → type_of s ≡ 0x03 → 16 ≤ agreed → read_message_lem agreed formats s ≡ ILogout
+  logout_read : (s : List ℕ) → length s ≡ 16 → type_of s ≡ 0x03 → 16 ≤ agreed → read_message_lem agreed formats s ≡ Ok ILogout
   logout_read s n k h = by_length s (omega arith) (omega arith) ∙ rw (k, n)
 
   -- an initiator's logout is read as one
-  pub logout_received : (vs : List ℕ) → InRange i_logout.fields vs → 16 ≤ agreed → read_message_lem agreed formats (write i_logout vs) ≡ ILogout
+  pub logout_received : (vs : List ℕ) → InRange i_logout.fields vs → 16 ≤ agreed → read_message_lem agreed formats (write i_logout vs) ≡ Ok ILogout
   logout_received vs r h = let w : Written i_logout vs = written i_logout refl vs r in logout_read _ w.long w.code h
 
-  credit_read : (s : List ℕ) (t : ℕ) → length s ≡ 16 → type_of s ≡ 0x41 → gets cred_rsp.fields s ≡ t ∷ [] → 16 ≤ agreed → read_message_lem agreed formats s ≡ CredRsp t
+  credit_read : (s : List ℕ) (t : ℕ) → length s ≡ 16 → type_of s ≡ 0x41 → gets cred_rsp.fields s ≡ t ∷ [] → 16 ≤ agreed → read_message_lem agreed formats s ≡ Ok (CredRsp t)
   credit_read s t n k v h = by_length s (omega arith) (omega arith) ∙ rw (k, n) cc
 
   -- a credit response is read with its tag
-  pub credit_received : (t : ℕ) → InRange cred_rsp.fields (t ∷ []) → 16 ≤ agreed → read_message_lem agreed formats (write cred_rsp (t ∷ [])) ≡ CredRsp t
+  pub credit_received : (t : ℕ) → InRange cred_rsp.fields (t ∷ []) → 16 ≤ agreed → read_message_lem agreed formats (write cred_rsp (t ∷ [])) ≡ Ok (CredRsp t)
   credit_received t r h = let w : Written cred_rsp (t ∷ []) = written cred_rsp refl _ r in credit_read _ t w.long w.code w.values h
 
 -- ── commands
@@ -80,10 +78,10 @@ good_count (indirect a h n t w) at d s k e y =
 -- a command whose formats are agreed, whose copies fit and that is not too long is read as it was written
 pub command_received : (agreed formats : ℕ) (c : CommandFields) → InRange cmd.fields (values c) → length c.cdb ≡ 16 + 4 * c.n → Fit c.out → Fit c.inn
     → Copied c.out → Copied c.inn → agrees formats (format_of c.out) ≡ true → agrees formats (format_of c.inn) ≡ true → length (command_bytes c) ≤ agreed
-    → read_message_lem agreed formats (command_bytes c) ≡ Cmd (command_in c (command_bytes c))
+    → read_message_lem agreed formats (command_bytes c) ≡ Ok (Cmd (command_in c (command_bytes c)))
 command_received agreed formats c h l fo fi ko ki ao ai n = go (command_bytes c) (command_read c h l fo fi) n
   where
-    go : (s : List ℕ) → Reads c s → length s ≤ agreed → read_message_lem agreed formats s ≡ Cmd (command_in c s)
+    go : (s : List ℕ) → Reads c s → length s ≤ agreed → read_message_lem agreed formats s ≡ Ok (Cmd (command_in c s))
     go s r n =
         let v = r.fields in
         let e = r.command in
@@ -126,7 +124,7 @@ login_received c own room t n f r o a i g h =
 
 -- ── look
 
-unless_both : (a b : List Check) (m : Message) → unless_bad (first_of_checks (a ++ b)) m ≡ unless_bad (first_of_checks a) (unless_bad (first_of_checks b) m)
+unless_both : (a b : List Check) (m : Reading) → unless_bad (first_of_checks (a ++ b)) m ≡ unless_bad (first_of_checks a) (unless_bad (first_of_checks b) m)
 unless_both [] b m = refl
 unless_both (c ∷ a) b m = go c.0 (unless_both a b m)
   where
@@ -135,21 +133,18 @@ unless_both (c ∷ a) b m = go c.0 (unless_both a b m)
     go true e = refl
     go false e = e
 
-abbrev look_by : Option Refusal → List ℕ → Look
-look_by o s = elim o [ none ↦ Fetches (fetch_of (out_descriptor s) s) (fetch_of (in_descriptor s) s) | some r ↦ LookRefused r ]
-
 -- a message of type 02h, and settings in range
 module _ (agreed formats : ℕ) (s : List ℕ) (k : type_of s ≡ cmd.code) (e : (bad_length agreed || other_formats_lem both_formats formats) ≡ false) where
   -- take reads it as a command unless one of look's checks hits, and then as bad by that check's refusal
-  pub look_as_take : read_message_lem agreed formats s ≡ unless_bad (first_of_checks (look_checks agreed formats s)) (Cmd (command_of_lem s))
+  pub look_as_take : read_message_lem agreed formats s ≡ unless_bad (first_of_checks (look_checks agreed formats s)) (Ok (Cmd (command_of_lem s)))
   unfolding read_message_lem
   look_as_take =
-      rw (e, unless_both (length_checks agreed s) ((not (eqb (type_of s) cmd.code), OtherType) ∷ command_checks formats s) (Cmd (command_of_lem s)), k)
+      rw (e, unless_both (length_checks agreed s) ((not (eqb (type_of s) cmd.code), OtherType) ∷ command_checks formats s) (Ok (Cmd (command_of_lem s))), k)
 
   -- so look refuses just what take would refuse of the message alone, with the same number
-  pub look_refuses : (r : Refusal) → (look_def agreed formats s ≡ LookRefused r) ↔ (read_message_lem agreed formats s ≡ Bad r)
+  pub look_refuses : (r : Refusal) → (look_def agreed formats s ≡ Err r) ↔ (read_message_lem agreed formats s ≡ Err r)
   look_refuses r = rw look_as_take (go (first_of_checks (look_checks agreed formats s)))
     where
-      go : (o : Option Refusal) → (look_by o s ≡ LookRefused r) ↔ (unless_bad o (Cmd (command_of_lem s)) ≡ Bad r)
+      go : (o : Option Refusal) → (unless_bad o (Ok (look_outcome s)) ≡ Err r) ↔ (unless_bad o (Ok (Cmd (command_of_lem s))) ≡ Err r)
       go none = ((λ q. let z : ◌≡◌ {A = ℕ} 0 1 = cc in absurd (omega arith)), (λ q. let z : ◌≡◌ {A = ℕ} 0 1 = cc in absurd (omega arith)))
       go (some x) = ((λ q. cc), (λ q. cc))

@@ -14,8 +14,8 @@ use Rattle.std.specs.Prelude.{Result, Err}
 use Rattle.srp.specs.Lists.{All, find, is_some}
 use Rattle.srp.specs.Bytes.{get, type_of}
 use Rattle.srp.specs.Messages.{tag}
-use Rattle.srp.specs.Refusals.{Conduct, hangs_up, answered, stays, alters_nothing, number_of, conduct_of, Check, first_of_checks}
-use Rattle.srp.specs.Requests.{command_checks, command_of_lem, task_of, unless_bad, sized, length_checks, by_type, read_message_lem}
+use Rattle.srp.specs.Refusals.{Conduct, hangs_up, answered, stays, alters_nothing, number_of, conduct_of, Check, first_of_checks, unless_bad}
+use Rattle.srp.specs.Requests.{Reading, command_checks, command_of_lem, task_of, sized, length_checks, by_type, read_message_lem}
 use Rattle.srp.specs.Credit.{Open, Port, has_tag}
 use Rattle.srp.specs.Take.{Outcome, conducted, is_open_lem, Tables, no_tables, given_in, fields_fit, waits, later_checks, take_checks, accepted, refused_by, take_by, take_read, take_def}
 use Rattle.srp.specs.Tables.{awaited_by, bad_tables, tables_checks, tables_refused, tables_by}
@@ -26,8 +26,8 @@ use Rattle.srp.specs.declared.Refusal.{Refusal}
 use Rattle.srp.specs.declared.Refusal.TheVariants.{ShortBuffer, Length, Closed, NoCredit, TagOpen}
 use Rattle.srp.specs.Limits.{buffer_size}
 use Rattle.srp.specs.declared.Command.{Command}
-use Rattle.srp.specs.declared.Message.{Message}
-use Rattle.srp.specs.declared.Message.TheVariants.{Bad, Cmd, TskMgmt, CredRsp, ILogout}
+use Rattle.srp.specs.declared.Message.TheVariants.{Cmd, TskMgmt, CredRsp, ILogout}
+use Rattle.std.specs.declared.result.Result.TheVariants.{Ok}
 use Rattle.srp.specs.declared.Reply.{Reply}
 use Rattle.srp.proofs.Checks.{passes, hit}
 use Rattle.srp.proofs.Reading.{ByType}
@@ -37,7 +37,7 @@ pub unrefused : (r : Result Reply Refusal) (f : Refusal) → refusal_in r ≡ no
 unrefused r f e g = none-ne-some f (sym e ∙ ap refusal_in g)
 
 -- a refusal is what the reply says, whatever else it does
-pub refused_as : (p : Port) (m : Message) (r : Refusal) → (refused_by p m r).reply ≡ Err r
+pub refused_as : (p : Port) (m : Reading) (r : Refusal) → (refused_by p m r).reply ≡ Err r
 refused_as p m r = go (conduct_of r)
   where
     go : (c : Conduct) → (conducted c p m r).reply ≡ Err r
@@ -54,15 +54,15 @@ unless_iff p (some r) k o e u f = ((λ g. sym e ∙ (let z : r ≡ f = cc in ap 
 
 module _ (p : Port) (room : ℕ) (s : List ℕ) where
   -- take of a message that is read
-  pub read_iff : (d : Message) (k : Option Refusal) → first_of_checks (take_checks p room s d) ≡ k → (f : Refusal) → ((take_read p room s d).reply ≡ Err f) ↔ (k ≡ some f)
+  pub read_iff : (d : Reading) (k : Option Refusal) → first_of_checks (take_checks p room s d) ≡ k → (f : Refusal) → ((take_read p room s d).reply ≡ Err f) ↔ (k ≡ some f)
   read_iff d k e f = go (first_of_checks (take_checks p room s d)) refl
     where
-      first : (d : Message) → first_of_checks (take_checks p room s d) ≡ none → (accepted p s d).reply ≡ Err f → ⊥
-      first (Bad r) z g = true≢false (passes (take_checks p room s (Bad r)) z).1.1.0
-      first (Cmd c) z g = unrefused _ f refl g
-      first (TskMgmt c) z g = unrefused _ f refl g
-      first (CredRsp c) z g = unrefused _ f refl g
-      first ILogout z g = unrefused _ f refl g
+      first : (d : Reading) → first_of_checks (take_checks p room s d) ≡ none → (accepted p s d).reply ≡ Err f → ⊥
+      first (Err r) z g = true≢false (passes (take_checks p room s (Err r)) z).1.1.0
+      first (Ok (Cmd c)) z g = unrefused _ f refl g
+      first (Ok (TskMgmt c)) z g = unrefused _ f refl g
+      first (Ok (CredRsp c)) z g = unrefused _ f refl g
+      first (Ok ILogout) z g = unrefused _ f refl g
 
       go : (v : Option Refusal) → first_of_checks (take_checks p room s d) ≡ v → ((take_by v p s d).reply ≡ Err f) ↔ (k ≡ some f)
       go none z = ((λ g. absurd (first d z g)), λ g. absurd (none-ne-some f (sym z ∙ e ∙ g)))
@@ -83,7 +83,7 @@ module _ (p : Port) (room : ℕ) (s : List ℕ) where
     pub suits : Suits b (conduct_of r)
     pub unpaid : number_of r ≡ 22 → (b ≡ true) × (eqb p.announced 0 ≡ true)
 
-  pub drawn : (b : Bool) (d : Message) → ByType b d → (r : Refusal) → first_of_checks (take_checks p room s d) ≡ some r → Drawn b r
+  pub drawn : (b : Bool) (d : Reading) → ByType b d → (r : Refusal) → first_of_checks (take_checks p room s d) ≡ some r → Drawn b r
   drawn b d = by d
     where
       -- a refusal other than 22
@@ -103,18 +103,18 @@ module _ (p : Port) (room : ℕ) (s : List ℕ) where
       twice : (tag : ℕ) → is_open_lem p tag ≡ true → Drawn b TagOpen
       twice tag _ = other (omega arith) (λ z. omega arith)
 
-      every : (d : Message) → All (λ c. c.0 ≡ true → Drawn b c.1) (take_checks p room s d)
+      every : (d : Reading) → All (λ c. c.0 ≡ true → Drawn b c.1) (take_checks p room s d)
           → (r : Refusal) → first_of_checks (take_checks p room s d) ≡ some r → Drawn b r
       every d = hit (Drawn b) (take_checks p room s d)
 
-      by : (d : Message) → ByType b d → (r : Refusal) → first_of_checks (take_checks p room s d) ≡ some r → Drawn b r
-      by (Bad r) k = every (Bad r) (small, (shut, ((λ _. other (rw k.hangs k.small) k.not_credit), tt)))
-      by (Cmd c) k =
-          every (Cmd c)
+      by : (d : Reading) → ByType b d → (r : Refusal) → first_of_checks (take_checks p room s d) ≡ some r → Drawn b r
+      by (Err r) k = every (Err r) (small, (shut, ((λ _. other (rw k.hangs k.small) k.not_credit), tt)))
+      by (Ok (Cmd c)) k =
+          every (Ok (Cmd c))
           (small, (shut, (spent k, (twice c.request.tag, ((λ _. other k (λ z. omega arith)), tt)))))
-      by (TskMgmt c) k = every (TskMgmt c) (small, (shut, (spent k, (twice c.request.tag, tt))))
-      by (CredRsp g) k = every (CredRsp g) (small, (shut, ((λ _. other (omega arith) (λ z. omega arith)), tt)))
-      by ILogout k = every ILogout (small, (shut, tt))
+      by (Ok (TskMgmt c)) k = every (Ok (TskMgmt c)) (small, (shut, (spent k, (twice c.request.tag, tt))))
+      by (Ok (CredRsp g)) k = every (Ok (CredRsp g)) (small, (shut, ((λ _. other (omega arith) (λ z. omega arith)), tt)))
+      by (Ok ILogout) k = every (Ok ILogout) (small, (shut, tt))
 
   -- what a command has that draws none
   pub record Passed (c : Command) : Type 0 where
@@ -122,9 +122,9 @@ module _ (p : Port) (room : ℕ) (s : List ℕ) where
     pub fresh : is_open_lem p c.request.tag ≡ false
     pub fields : waits c ≡ false → fields_fit (given_in c s) no_tables ≡ true
 
-  pub passed : (c : Command) → first_of_checks (take_checks p room s (Cmd c)) ≡ none → Passed c
+  pub passed : (c : Command) → first_of_checks (take_checks p room s (Ok (Cmd c))) ≡ none → Passed c
   passed c z =
-      let q = passes (take_checks p room s (Cmd c)) z in
+      let q = passes (take_checks p room s (Ok (Cmd c))) z in
       record { credit = q.1.1.0; fresh = q.1.1.1.0; fields = fits (waits c) (fields_fit (given_in c s) no_tables) q.1.1.1.1.0 }
     where
       fits : (a b : Bool) → (not a && not b) ≡ false → a ≡ false → b ≡ true
@@ -134,7 +134,7 @@ module _ (p : Port) (room : ℕ) (s : List ℕ) where
   -- ── the one list
 
   -- checks of reading stand before those of what was read
-  reading_first : (cs : List Check) (d : Message) → first_of_checks (later_checks p s (unless_bad (first_of_checks cs) d)) ≡ first_of_checks (cs ++ later_checks p s d)
+  reading_first : (cs : List Check) (d : Reading) → first_of_checks (later_checks p s (unless_bad (first_of_checks cs) d)) ≡ first_of_checks (cs ++ later_checks p s d)
   reading_first [] d = refl
   reading_first (c ∷ cs) d = go c.0 (reading_first cs d)
     where
@@ -144,10 +144,10 @@ module _ (p : Port) (room : ℕ) (s : List ℕ) where
       go false ih = ih
 
   -- a message of its type's length, or not
-  sized_first : (n : ℕ) (d : Message) → first_of_checks (later_checks p s (sized n s d)) ≡ cond (not (eqb (length s) n)) (some Length) (first_of_checks (later_checks p s d))
+  sized_first : (n : ℕ) (d : Reading) → first_of_checks (later_checks p s (sized n s d)) ≡ cond (not (eqb (length s) n)) (some Length) (first_of_checks (later_checks p s d))
   sized_first n d = go (eqb (length s) n)
     where
-      go : (b : Bool) → first_of_checks (later_checks p s (cond b d (Bad Length))) ≡ cond (not b) (some Length) (first_of_checks (later_checks p s d))
+      go : (b : Bool) → first_of_checks (later_checks p s (cond b d (Err Length))) ≡ cond (not b) (some Length) (first_of_checks (later_checks p s d))
       go true = refl
       go false = refl
 
@@ -163,10 +163,10 @@ module _ (p : Port) (room : ℕ) (s : List ℕ) where
   same_at : (k : ℕ) → SameAt k
   unfolding SameAt before
   same_at k =
-      by (eqb k 0x02) refl (λ e. subst SameAt (sym (eqb-true k 0x02 e)) (ap before (sym (reading_first (command_checks p.terms.formats s) (Cmd (command_of_lem s)))))) λ e₂.
-      by (eqb k 0x01) refl (λ e. subst SameAt (sym (eqb-true k 0x01 e)) (ap before (sym (sized_first 48 (TskMgmt (task_of s)))))) λ e₁.
-      by (eqb k 0x03) refl (λ e. subst SameAt (sym (eqb-true k 0x03 e)) (ap before (sym (sized_first 16 ILogout)))) λ e₃.
-      by (eqb k 0x41) refl (λ e. subst SameAt (sym (eqb-true k 0x41 e)) (ap before (sym (sized_first 16 (CredRsp (get tag s)))))) λ e₄.
+      by (eqb k 0x02) refl (λ e. subst SameAt (sym (eqb-true k 0x02 e)) (ap before (sym (reading_first (command_checks p.terms.formats s) (Ok (Cmd (command_of_lem s))))))) λ e₂.
+      by (eqb k 0x01) refl (λ e. subst SameAt (sym (eqb-true k 0x01 e)) (ap before (sym (sized_first 48 (Ok (TskMgmt (task_of s))))))) λ e₁.
+      by (eqb k 0x03) refl (λ e. subst SameAt (sym (eqb-true k 0x03 e)) (ap before (sym (sized_first 16 (Ok ILogout))))) λ e₃.
+      by (eqb k 0x41) refl (λ e. subst SameAt (sym (eqb-true k 0x41 e)) (ap before (sym (sized_first 16 (Ok (CredRsp (get tag s))))))) λ e₄.
       rw (e₂, e₁, e₃, e₄)
     where
       by : (b : Bool) {c : Bool} → c ≡ b → (c ≡ true → SameAt k) → (c ≡ false → SameAt k) → SameAt k

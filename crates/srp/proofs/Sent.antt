@@ -17,7 +17,7 @@ use Rattle.srp.specs.Messages.{tag, requested_length, rsp, cred_req, t_logout, l
 use Rattle.srp.specs.Lists.{find, without, is_some, All}
 use Rattle.srp.specs.Limits.{buffer_size}
 use Rattle.srp.specs.Refusals.{Conduct, hangs_up, answered, stays, alters_nothing, conduct_of, first_of_checks}
-use Rattle.srp.specs.Requests.{is_request, read_message_lem}
+use Rattle.srp.specs.Requests.{Reading, is_request, read_message_lem}
 use Rattle.srp.specs.Credit.{Side, Open, Port, due, with_held, has_tag}
 use Rattle.srp.specs.declared.Residual.{Residual}
 use Rattle.srp.specs.declared.Residual.TheVariants.{Even, Over, Under}
@@ -28,8 +28,8 @@ use Rattle.srp.specs.Calls.{unless, final_response, finish_checks, finish_def, g
 use Rattle.srp.specs.Login.{bad_settings_lem, login_checks, supported, rejections, judged, login_by, login_def}
 use Rattle.srp.specs.declared.Settings.{Settings}
 use Rattle.srp.specs.declared.Refusal.{Refusal}
-use Rattle.srp.specs.declared.Message.{Message}
-use Rattle.srp.specs.declared.Message.TheVariants.{Bad, Cmd, TskMgmt, CredRsp, ILogout}
+use Rattle.srp.specs.declared.Message.TheVariants.{Cmd, TskMgmt, CredRsp, ILogout}
+use Rattle.std.specs.declared.result.Result.TheVariants.{Ok, Err}
 use Rattle.srp.specs.Bytes.{Bytes}
 use Rattle.srp.proofs.FieldLaws.{get_below, get_append}
 use Rattle.srp.specs.ReadBack.{Written}
@@ -180,23 +180,23 @@ module _ (p : Port) (w : p.wanted ≤ 16) (o : All OpenRanges p.held) where
       small : get tag s < 2 ^ 64
       small = get_below tag s b
 
-      by : (c : Conduct) → Suits p room s (is_request s) c → (m : Message) (r : Refusal) → (request_in m).tag < 2 ^ 64 → All Sent (conducted c p m r).wrote
+      by : (c : Conduct) → Suits p room s (is_request s) c → (m : Reading) (r : Refusal) → (request_in m).tag < 2 ^ 64 → All Sent (conducted c p m r).wrote
       by (hangs_up reason) y m r k = (logout_sent p.terms.losolnt reason y, tt)
       by answered y m r k = (answer_sent (request_in m).ucsolnt (request_in m).tag 2 _ (due_small (p.announced - 1) p.held) k (inr (inl refl)), tt)
       by stays y m r k = tt
       by alters_nothing y m r k = tt
 
-      end : (r : Option Refusal) (m : Message) → ByType (is_request s) m → first_of_checks (take_checks p room s m) ≡ r → (request_in m).tag < 2 ^ 64 → All Sent (take_by r p s m).wrote
-      end none (Bad r) y e k = absurd (true≢false (passes (take_checks p room s (Bad r)) e).1.1.0)
-      end none (Cmd c) y e k = tt
-      end none (TskMgmt j) y e k =
+      end : (r : Option Refusal) (m : Reading) → ByType (is_request s) m → first_of_checks (take_checks p room s m) ≡ r → (request_in m).tag < 2 ^ 64 → All Sent (take_by r p s m).wrote
+      end none (Err r) y e k = absurd (true≢false (passes (take_checks p room s (Err r)) e).1.1.0)
+      end none (Ok (Cmd c)) y e k = tt
+      end none (Ok (TskMgmt j)) y e k =
           let d = due_small (p.announced - 1) (without (aborted j) p.held) in
           (answer_sent (solicited j.request (task_code j.function)) j.request.tag (task_code j.function) _ d k (task_code_lem j.function), tt)
-      end none (CredRsp g) y e k = tt
-      end none ILogout y e k = tt
+      end none (Ok (CredRsp g)) y e k = tt
+      end none (Ok ILogout) y e k = tt
       end (some r) m y e k = by (conduct_of r) (drawn p room s (is_request s) m y r e).suits m r k
 
-      go : (m : Message) → ByType (is_request s) m → (request_in m).tag < 2 ^ 64 → All Sent (take_by (first_of_checks (take_checks p room s m)) p s m).wrote
+      go : (m : Reading) → ByType (is_request s) m → (request_in m).tag < 2 ^ 64 → All Sent (take_by (first_of_checks (take_checks p room s m)) p s m).wrote
       go m y k = end (first_of_checks (take_checks p room s m)) m y refl k
 
   tables_sent : (room tag : ℕ) (t : Tables) → All Sent (tables_def p room tag t).wrote

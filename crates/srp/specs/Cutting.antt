@@ -1,12 +1,12 @@
 -- Document 01, "Cutting", and document 02, jobs 1 and 6: the pieces of a move in one direction, and the next of them.
-use Rattle.std.specs.Prelude.{◌≡◌, ◌⊎◌, ◌↔◌, Bool, false, cond, not, ◌||◌, List, [], ◌∷◌, ◌++◌, ℕ, zero, suc, ◌+◌, ◌-◌, ◌*◌, ◌/◌, ◌%◌, ◌^◌, ◌≤◌, min, max, ltb, leb, eqb, length}
+use Rattle.std.specs.Prelude.{◌≡◌, ◌⊎◌, ◌↔◌, Bool, false, cond, not, ◌||◌, List, [], ◌∷◌, ◌++◌, ℕ, zero, suc, ◌+◌, ◌-◌, ◌*◌, ◌/◌, ◌%◌, ◌^◌, ◌≤◌, min, max, ltb, leb, eqb, length, Result, Ok}
 use Rattle.std.proofs.Math.Option.{Option, none, some}
+use Rattle.std.specs.Prelude.{Option as Answered, Some, None}
 use Rattle.srp.specs.Limits.{largest_piece, least_exponent, greatest_exponent, longest_table}
-use Rattle.srp.specs.Refusals.{Check, first_of_checks}
+use Rattle.srp.specs.Refusals.{Check, first_of_checks, unless_bad}
 use Rattle.srp.specs.Descriptors.{Segment, segments_of, sum_of, reachable}
 use Rattle.srp.specs.declared.Piece.{Piece}
-use Rattle.srp.specs.declared.Cut.{Cut}
-use Rattle.srp.specs.declared.Cut.TheVariants.{CutRefused, CutPiece, CutDone}
+use Rattle.srp.specs.declared.Refusal.{Refusal}
 use Rattle.srp.specs.declared.Refusal.TheVariants.{Setting, Fields, Argument}
 
 abbrev pub piece : ℕ → ℕ → ℕ → ℕ → Piece
@@ -122,13 +122,14 @@ cut_checks list M Q R handed =
     ∷ (ltb (min R (sum_of (segments_of list))) handed, Argument)
     ∷ []
 
-abbrev pub cut_next : Option Piece → Cut
-cut_next none = CutDone
-cut_next (some p) = CutPiece p
+-- as the code answers it: none where it is done
+abbrev pub cut_next : Option Piece → Answered Piece
+cut_next none = None
+cut_next (some p) = Some p
 
 -- "gives the next piece or done"
-abbrev pub cut_outcome : (list : List ℕ) (M Q R handed : ℕ) → Cut
+abbrev pub cut_outcome : (list : List ℕ) (M Q R handed : ℕ) → Answered Piece
 cut_outcome list M Q R handed = cut_next (next (up_to M Q) handed (min R (sum_of (segments_of list))) (segments_of list))
 
-abbrev pub cut_def : (list : List ℕ) (M Q R handed : ℕ) → Cut
-cut_def list M Q R handed = elim (first_of_checks (cut_checks list M Q R handed)) [ none ↦ cut_outcome list M Q R handed | some r ↦ CutRefused r ]
+abbrev pub cut_def : (list : List ℕ) (M Q R handed : ℕ) → Result (Answered Piece) Refusal
+cut_def list M Q R handed = unless_bad (first_of_checks (cut_checks list M Q R handed)) (Ok (cut_outcome list M Q R handed))

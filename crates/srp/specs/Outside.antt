@@ -1,5 +1,5 @@
 -- Document 01, "Open commands, C calls, cutlist", and document 02, job 6: look and the cut as C calls them, and what cutlist prints.
-use Rattle.std.specs.Prelude.{true, false, cond, not, List, [], ◌∷◌, ◌++◌, ℕ, zero, suc, ◌+◌, ◌/◌, ◌%◌, ◌^◌, ltb}
+use Rattle.std.specs.Prelude.{true, false, cond, not, List, [], ◌∷◌, ◌++◌, ℕ, zero, suc, ◌+◌, ◌/◌, ◌%◌, ◌^◌, ltb, Result, Ok, Err, Option, Some, None}
 use Rattle.std.proofs.Math.Option.{none, some}
 use Rattle.srp.specs.Limits.{answer_size, longest_agreed, both_formats}
 use Rattle.srp.specs.Bytes.{bytes_of, puts, zeros}
@@ -18,9 +18,6 @@ use Rattle.srp.specs.declared.Kind.TheVariants.{Read, Write}
 use Rattle.srp.specs.declared.Piece.{Piece}
 use Rattle.srp.specs.declared.Fetch.{Fetch}
 use Rattle.srp.specs.declared.Look.{Look}
-use Rattle.srp.specs.declared.Look.TheVariants.{LookRefused, Fetches}
-use Rattle.srp.specs.declared.Cut.{Cut}
-use Rattle.srp.specs.declared.Cut.TheVariants.{CutRefused, CutPiece, CutDone}
 use Rattle.srp.specs.declared.Command.{Command}
 
 -- ── C
@@ -47,18 +44,18 @@ abbrev pub fetch_bytes : Fetch → List ℕ
 fetch_bytes f = descriptor_bytes f.address f.handle f.len
 
 -- "look's two fetches, out then in"; "F = 0 and unused bytes are 0"
-abbrev pub look_answer : Look → CReturn
-look_answer (LookRefused r) = refusing_c r
-look_answer (Fetches out inn) = giving_c (fetch_bytes out ++ fetch_bytes inn)
+abbrev pub look_answer : Result Look Refusal → CReturn
+look_answer (Err r) = refusing_c r
+look_answer (Ok l) = giving_c (fetch_bytes l.out ++ fetch_bytes l.inn)
 
 abbrev pub look_in_c : ℕ → ℕ → List ℕ → ℕ → CReturn
 look_in_c agreed formats s room = in_buffer room (look_answer (look_def agreed formats s))
 
 -- "the piece and then its offset (4 bytes)"; "done ... 0"
-abbrev pub cut_answer : Cut → CReturn
-cut_answer (CutRefused r) = refusing_c r
-cut_answer (CutPiece p) = giving_c (descriptor_bytes p.address p.handle p.len ++ (bytes_of 4 p.offset ++ zeros 12))
-cut_answer CutDone = giving_c (zeros answer_size)
+abbrev pub cut_answer : Result (Option Piece) Refusal → CReturn
+cut_answer (Err r) = refusing_c r
+cut_answer (Ok (Some p)) = giving_c (descriptor_bytes p.address p.handle p.len ++ (bytes_of 4 p.offset ++ zeros 12))
+cut_answer (Ok None) = giving_c (zeros answer_size)
 
 abbrev pub cut_in_c : (list : List ℕ) (M Q R handed room : ℕ) → CReturn
 cut_in_c list M Q R handed room = in_buffer room (cut_answer (cut_def list M Q R handed))

@@ -1,6 +1,6 @@
 -- Document 01, "From the message or the caller" and "From what went before", and document 02, jobs 1 and 7: the refusals' numbers, what take does at each, and
 -- which check comes first.
-use Rattle.std.specs.Prelude.{Bool, cond, List, [], ◌∷◌, ℕ, ltb, eqb}
+use Rattle.std.specs.Prelude.{Bool, cond, List, [], ◌∷◌, ℕ, ltb, eqb, Result, Err}
 use Rattle.std.proofs.Math.Option.{Option, none, some}
 use Rattle.srp.specs.Lists.{find}
 use Rattle.srp.specs.Limits.{buffer_size}
@@ -81,6 +81,11 @@ Check = Bool × Refusal
 abbrev pub first_of_checks : {A : Type 0} → List (Bool × A) → Option A
 first_of_checks [] = none
 first_of_checks (c ∷ cs) = cond c.0 (some c.1) (first_of_checks cs)
+
+-- an answer, unless a check hit
+abbrev pub unless_bad : {A : Type 0} → Option Refusal → Result A Refusal → Result A Refusal
+unless_bad none x = x
+unless_bad (some r) x = Err r
 
 abbrev pub short : ℕ → Check
 short room = (ltb room buffer_size, ShortBuffer)

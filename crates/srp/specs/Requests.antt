@@ -1,10 +1,10 @@
 -- Document 01, "Requests", and of "Descriptors" look: how a message is read, with the refusals 3 to 8 in take's order.
-use Rattle.std.specs.Prelude.{◌≡◌, Bool, cond, not, ◌||◌, List, [], ◌∷◌, ◌++◌, ℕ, ◌+◌, ◌*◌, ◌%◌, ◌≤◌, ltb, eqb, length, take, drop}
-use Rattle.std.proofs.Math.Option.{Option, none, some}
+use Rattle.std.specs.Prelude.{◌≡◌, Bool, cond, not, ◌||◌, List, [], ◌∷◌, ◌++◌, ℕ, ◌+◌, ◌*◌, ◌%◌, ◌≤◌, ltb, eqb, length, take, drop, Result, Ok, Err}
+use Rattle.std.proofs.Math.Option.{none, some}
 use Rattle.srp.specs.Limits.{shortest_agreed, longest_agreed, shortest_message, shortest_command, both_formats}
 use Rattle.srp.specs.Bytes.{get, type_of}
 use Rattle.srp.specs.Messages.{tag, lun, ucsolnt, scsolnt, task_function, task_tag, out_format, in_format, out_count, in_count_lem, additional, tsk_mgmt, cmd, i_logout, cred_rsp}
-use Rattle.srp.specs.Refusals.{Check, first_of_checks}
+use Rattle.srp.specs.Refusals.{Check, first_of_checks, unless_bad}
 use Rattle.srp.specs.Descriptors.{descriptor_size, agrees, descriptor_of_lem, bad_count, fetch_of, segment_bytes}
 use Rattle.srp.specs.declared.Direction.{Direction}
 use Rattle.srp.specs.declared.Direction.TheVariants.{Out, In}
@@ -15,9 +15,8 @@ use Rattle.srp.specs.declared.Request.{Request}
 use Rattle.srp.specs.declared.Command.{Command}
 use Rattle.srp.specs.declared.TaskRequest.{TaskRequest}
 use Rattle.srp.specs.declared.Message.{Message}
-use Rattle.srp.specs.declared.Message.TheVariants.{Bad, Cmd, TskMgmt, CredRsp, ILogout}
+use Rattle.srp.specs.declared.Message.TheVariants.{Cmd, TskMgmt, CredRsp, ILogout}
 use Rattle.srp.specs.declared.Look.{Look}
-use Rattle.srp.specs.declared.Look.TheVariants.{LookRefused, Fetches}
 
 -- "A request is an SRP_CMD or SRP_TSK_MGMT", known by its type; an empty message is none
 abbrev pub is_request_type : ℕ → Bool
@@ -84,29 +83,29 @@ task_of s = record { request = request_of_lem s; function = get task_function s;
 
 -- ── any message
 
-abbrev pub unless_bad : Option Refusal → Message → Message
-unless_bad none m = m
-unless_bad (some r) m = Bad r
+-- what a message is read as: what it says, or the one of the refusals 3 to 8 that it draws
+abbrev pub Reading : Type 0
+Reading = Result Message Refusal
 
 -- a message of its type's length
-abbrev pub sized : ℕ → List ℕ → Message → Message
-sized n s m = cond (eqb (length s) n) m (Bad Length)
+abbrev pub sized : ℕ → List ℕ → Reading → Reading
+sized n s m = cond (eqb (length s) n) m (Err Length)
 
 -- "3 (16 and agreed length)"
 abbrev pub length_checks : ℕ → List ℕ → List Check
 length_checks agreed s = (ltb (length s) shortest_message, Length) ∷ (ltb agreed (length s), Length) ∷ []
 
 -- a message of type k
-abbrev pub by_type : ℕ → ℕ → List ℕ → Message
+abbrev pub by_type : ℕ → ℕ → List ℕ → Reading
 by_type k formats s =
-    cond (eqb k cmd.code) (unless_bad (first_of_checks (command_checks formats s)) (Cmd (command_of_lem s)))
-    (cond (eqb k tsk_mgmt.code) (sized tsk_mgmt.size s (TskMgmt (task_of s)))
-    (cond (eqb k i_logout.code) (sized i_logout.size s ILogout)
-    (cond (eqb k cred_rsp.code) (sized cred_rsp.size s (CredRsp (get tag s)))
-    (Bad OtherType))))
+    cond (eqb k cmd.code) (unless_bad (first_of_checks (command_checks formats s)) (Ok (Cmd (command_of_lem s))))
+    (cond (eqb k tsk_mgmt.code) (sized tsk_mgmt.size s (Ok (TskMgmt (task_of s))))
+    (cond (eqb k i_logout.code) (sized i_logout.size s (Ok ILogout))
+    (cond (eqb k cred_rsp.code) (sized cred_rsp.size s (Ok (CredRsp (get tag s))))
+    (Err OtherType))))
 
 -- a message to a port with this agreed length and these agreed formats
-unfoldable pub read_message_lem : ℕ → ℕ → List ℕ → Message
+unfoldable pub read_message_lem : ℕ → ℕ → List ℕ → Reading
 read_message_lem agreed formats s = unless_bad (first_of_checks (length_checks agreed s)) (by_type (type_of s) formats s)
 
 -- a message s of the type with code k, n bytes long, from 16 bytes to the agreed length
@@ -117,12 +116,12 @@ pub record OfType (agreed k n : ℕ) (s : List ℕ) : Type 0 where
   pub most : length s ≤ agreed
 
 -- what a message s is read as: the fields of its type's layout, as they stand in it. What a bad one draws is said by the checks
-abbrev pub ReadAs : (agreed : ℕ) (s : List ℕ) → Message → Type 0
-ReadAs agreed s (Bad r) = Unit {0}
-ReadAs agreed s (Cmd c) = OfType agreed cmd.code (exact_length s) s × (shortest_command ≤ length s) × (c ≡ command_of_lem s)
-ReadAs agreed s (TskMgmt k) = OfType agreed tsk_mgmt.code tsk_mgmt.size s × (k ≡ task_of s)
-ReadAs agreed s (CredRsp g) = OfType agreed cred_rsp.code cred_rsp.size s × (g ≡ get tag s)
-ReadAs agreed s ILogout = OfType agreed i_logout.code i_logout.size s
+abbrev pub ReadAs : (agreed : ℕ) (s : List ℕ) → Reading → Type 0
+ReadAs agreed s (Err r) = Unit {0}
+ReadAs agreed s (Ok (Cmd c)) = OfType agreed cmd.code (exact_length s) s × (shortest_command ≤ length s) × (c ≡ command_of_lem s)
+ReadAs agreed s (Ok (TskMgmt k)) = OfType agreed tsk_mgmt.code tsk_mgmt.size s × (k ≡ task_of s)
+ReadAs agreed s (Ok (CredRsp g)) = OfType agreed cred_rsp.code cred_rsp.size s × (g ≡ get tag s)
+ReadAs agreed s (Ok ILogout) = OfType agreed i_logout.code i_logout.size s
 
 -- ── look
 
@@ -142,10 +141,10 @@ look_checks agreed formats s =
 
 -- "Look reads a command without state and names the table fetch for each direction"
 abbrev pub look_outcome : List ℕ → Look
-look_outcome s = Fetches (fetch_of (out_descriptor s) s) (fetch_of (in_descriptor s) s)
+look_outcome s = record { out = fetch_of (out_descriptor s) s; inn = fetch_of (in_descriptor s) s }
 
-abbrev pub look_def : ℕ → ℕ → List ℕ → Look
-look_def agreed formats s = elim (first_of_checks (look_checks agreed formats s)) [ none ↦ look_outcome s | some r ↦ LookRefused r ]
+abbrev pub look_def : ℕ → ℕ → List ℕ → Result Look Refusal
+look_def agreed formats s = unless_bad (first_of_checks (look_checks agreed formats s)) (Ok (look_outcome s))
 
 -- the CDB's part of a message, empty where look refuses it
 abbrev pub cdb_def : ℕ → ℕ → List ℕ → List ℕ

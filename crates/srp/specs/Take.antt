@@ -6,7 +6,7 @@ use Rattle.srp.specs.Lists.{find, without, is_some}
 use Rattle.srp.specs.Both.{Both, along}
 use Rattle.srp.specs.Refusals.{Conduct, hangs_up, answered, stays, alters_nothing, conduct_of, Check, first_of_checks, short}
 use Rattle.srp.specs.Descriptors.{Segment, Given, given, segments, sum_of, fetched, good_fields}
-use Rattle.srp.specs.Requests.{read_message_lem}
+use Rattle.srp.specs.Requests.{Reading, read_message_lem}
 use Rattle.srp.specs.Credit.{Side, unmoved, Held, Open, has_tag, Port, closed_port, due, with_moves, with_held, with_unanswered}
 use Rattle.srp.specs.Line.{left_by}
 use Rattle.srp.specs.Writing.{answer, target_logout, solicited}
@@ -15,8 +15,7 @@ use Rattle.srp.specs.declared.Refusal.TheVariants.{Fields, Closed, NoCredit, Tag
 use Rattle.srp.specs.declared.Request.{Request}
 use Rattle.srp.specs.declared.Command.{Command}
 use Rattle.srp.specs.declared.TaskRequest.{TaskRequest}
-use Rattle.srp.specs.declared.Message.{Message}
-use Rattle.srp.specs.declared.Message.TheVariants.{Bad, Cmd, TskMgmt, CredRsp, ILogout}
+use Rattle.srp.specs.declared.Message.TheVariants.{Cmd, TskMgmt, CredRsp, ILogout}
 use Rattle.srp.specs.declared.Reply.{Reply}
 use Rattle.srp.specs.declared.Reply.TheVariants.{NewCommand, TaskAnswered, CreditSettled, LoggedOut}
 
@@ -112,63 +111,63 @@ task_code function = cond (eqb function 1 || whole_lun_lem function) 0x00 (cond 
 -- ── take
 
 -- behind 1 and 21: "22, 23, 9, 10", of which 9, and 10 where a fetch is named, are drawn by tables; "SRP_CRED_RSP has 25 after its 3"
-abbrev pub later_checks : Port → List ℕ → Message → List Check
-later_checks p s (Bad r) = (true, r) ∷ []
-later_checks p s (Cmd c) =
+abbrev pub later_checks : Port → List ℕ → Reading → List Check
+later_checks p s (Err r) = (true, r) ∷ []
+later_checks p s (Ok (Cmd c)) =
     (eqb p.announced 0, NoCredit) ∷ (is_open_lem p c.request.tag, TagOpen) ∷ (not (waits c) && not (fields_fit (given_in c s) no_tables), Fields) ∷ []
-later_checks p s (TskMgmt k) = (eqb p.announced 0, NoCredit) ∷ (is_open_lem p k.request.tag, TagOpen) ∷ []
-later_checks p s (CredRsp g) = (not (p.unanswered && eqb g credit_tag), CreditResponse) ∷ []
-later_checks p s ILogout = []
+later_checks p s (Ok (TskMgmt k)) = (eqb p.announced 0, NoCredit) ∷ (is_open_lem p k.request.tag, TagOpen) ∷ []
+later_checks p s (Ok (CredRsp g)) = (not (p.unanswered && eqb g credit_tag), CreditResponse) ∷ []
+later_checks p s (Ok ILogout) = []
 
-abbrev pub take_checks : Port → ℕ → List ℕ → Message → List Check
+abbrev pub take_checks : Port → ℕ → List ℕ → Reading → List Check
 take_checks p room s m = short room ∷ closed p ∷ later_checks p s m
 
 -- the request that a message is, and this where it is none: only a command draws 10
 abbrev pub no_request : Request
 no_request = record { tag = 0; lun = 0; ucsolnt = false; scsolnt = false }
 
-abbrev pub request_in : Message → Request
-request_in (Bad r) = no_request
-request_in (Cmd c) = c.request
-request_in (TskMgmt k) = k.request
-request_in (CredRsp g) = no_request
-request_in ILogout = no_request
+abbrev pub request_in : Reading → Request
+request_in (Err r) = no_request
+request_in (Ok (Cmd c)) = c.request
+request_in (Ok (TskMgmt k)) = k.request
+request_in (Ok (CredRsp g)) = no_request
+request_in (Ok ILogout) = no_request
 
 -- "Refusal 10 is taken and answered in the same call", with code 02h
-abbrev pub answer_bad_lem : Port → Message → Refusal → Outcome
+abbrev pub answer_bad_lem : Port → Reading → Refusal → Outcome
 answer_bad_lem p m r = answering (with_held p (p.announced - 1) p.held) (Err r) (answer (request_in m).ucsolnt (request_in m).tag 0x02)
 
 -- "Every other refusal returns its number and alters nothing"
-abbrev pub conducted : Conduct → Port → Message → Refusal → Outcome
+abbrev pub conducted : Conduct → Port → Reading → Refusal → Outcome
 conducted (hangs_up reason) p m r = hang_up_lem p r reason
 conducted answered p m r = answer_bad_lem p m r
 conducted stays p m r = silent p (Err r)
 conducted alters_nothing p m r = silent p (Err r)
 
-abbrev pub refused_by : Port → Message → Refusal → Outcome
+abbrev pub refused_by : Port → Reading → Refusal → Outcome
 refused_by p m r = conducted (conduct_of r) p m r
 
 -- a message that draws no refusal; a bad one draws its own
-abbrev pub accepted : Port → List ℕ → Message → Outcome
-accepted p s (Bad r) = refused_by p (Bad r) r
+abbrev pub accepted : Port → List ℕ → Reading → Outcome
+accepted p s (Err r) = refused_by p (Err r) r
 -- "Taking a request: A - 1, H + 1"; the commands stand in the order of taking; one that waits "counts as held from the moment it was taken"
-accepted p s (Cmd c) =
+accepted p s (Ok (Cmd c)) =
     silent (with_held p (p.announced - 1) (p.held ++ (new_open c s ∷ []))) (Ok (NewCommand c.request.tag c.request.lun c.cdb (waits c)))
 -- a task request ends in the same call, as do the commands that it aborts
-accepted p s (TskMgmt k) =
+accepted p s (Ok (TskMgmt k)) =
     answering (leaving p (p.announced - 1) (aborted k)) (Ok (TaskAnswered k.request.tag k.request.lun))
     (answer (solicited k.request (task_code k.function)) k.request.tag (task_code k.function))
 -- "settles it and uses no credit"
-accepted p s (CredRsp g) = silent (with_unanswered p false) (Ok CreditSettled)
+accepted p s (Ok (CredRsp g)) = silent (with_unanswered p false) (Ok CreditSettled)
 -- "Logout closes the channel, drops open commands, writes nothing"
-accepted p s ILogout = silent closed_port (Ok LoggedOut)
+accepted p s (Ok ILogout) = silent closed_port (Ok LoggedOut)
 
-abbrev pub take_by : Option Refusal → Port → List ℕ → Message → Outcome
+abbrev pub take_by : Option Refusal → Port → List ℕ → Reading → Outcome
 take_by none p s m = accepted p s m
 take_by (some r) p s m = refused_by p m r
 
 -- a message that is read already
-abbrev pub take_read : Port → ℕ → List ℕ → Message → Outcome
+abbrev pub take_read : Port → ℕ → List ℕ → Reading → Outcome
 take_read p room s m = take_by (first_of_checks (take_checks p room s m)) p s m
 
 -- take of the message s, with `room` bytes of lent buffer

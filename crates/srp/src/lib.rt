@@ -137,10 +137,9 @@ pub struct TaskRequest {
     pub managed: u64,
 }
 
-// What a message to the port is, or which of the refusals 3 to 8 it draws.
+// What a message to the port is.
 #[derive(Clone, Copy)]
 pub enum Message {
-    Bad(Refusal),
     Cmd(Command),
     TskMgmt(TaskRequest),
     CredRsp(u64),
@@ -155,10 +154,11 @@ pub struct Fetch {
     pub len: u32,
 }
 
+// What look tells: the table to fetch each way.
 #[derive(Clone, Copy)]
-pub enum Look {
-    LookRefused(Refusal),
-    Fetches(Fetch, Fetch),
+pub struct Look {
+    pub out: Fetch,
+    pub inn: Fetch,
 }
 
 // A part of a segment, with its offset in the buffer that the segments make up.
@@ -168,13 +168,6 @@ pub struct Piece {
     pub handle: u32,
     pub len: u32,
     pub offset: u32,
-}
-
-#[derive(Clone, Copy)]
-pub enum Cut {
-    CutRefused(Refusal),
-    CutPiece(Piece),
-    CutDone,
 }
 
 // How a direction's data differ from its buffer: more were required than B; h stayed below B.

@@ -1,7 +1,4 @@
 -- `boundary::longest_at` meets its contract.
-use Prim.Native.Nat.{◌-◌}
-use native.Mathlib.Omega.{arith}
-use lib.Bits.{and_le_r}
 use Rattle.boundary.proofs.Powers.{alone, by_mask}
 use Rattle.boundary.proofs.longest_at.Goals as goal
 
@@ -9,10 +6,6 @@ pub returns-then-q-eq0 : goal.returns-then-q-eq0
 returns-then-q-eq0 c =
     alone c.args.most c.args.q c.args.address c.if-q-eq0.true
 
-pub overflow_sub-q-2 : goal.overflow_sub-q-2
-overflow_sub-q-2 c =
-    omega (arith, and_le_r c.args.address (c.args.q - 1))
-
 pub returns : goal.returns
 returns c =
-    by_mask c.args.most c.args.q c.args.address c.requires c.if-q-eq0.false c.least.ensures
+    by_mask c.args.most c.args.q c.args.address c.requires c.if-q-eq0.false c.min.ensures
