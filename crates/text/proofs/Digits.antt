@@ -4,7 +4,8 @@ use mathlib.Core.Path.{◌≡◌, refl, sym, ap, ◌∙◌}
 use mathlib.Core.Bool.{Bool, true, false}
 use mathlib.Core.List.{List, [], ◌∷◌, ◌++◌, append_assoc, append-nil}
 use Prim.Native.Nat.{ℕ, zero, suc, ◌+◌, ◌-◌, ◌*◌, ◌/◌, ◌%◌, ◌^◌, ◌≤◌, ◌<◌}
-use native.Mathlib.Nat.{not-suc-le-zero, pow-suc}
+use native.Mathlib.Nat.{pow-suc}
+use native.Mathlib.Numerals.{unary_clauses}
 use native.Mathlib.Omega.{arith}
 use borrow.Author.Tests.{lt-ltb, le-ltb, ltb-true, ltb-false}
 use lib.Bits.{bit_and, and_mask}
@@ -17,12 +18,6 @@ use Rattle.text.proofs.Texts.{take_stored, drop_stored, later}
 
 -- ── hexadecimal
 
-pub low_digit : (n : ℕ) → n < 10 → 48 + n ≡ hex_digit_lem n
-low_digit n h = rw (lt-ltb n 10 h)
-
-pub high_digit : (n : ℕ) → 10 ≤ n → 87 + n ≡ hex_digit_lem n
-high_digit n h = rw (le-ltb n 10 h)
-
 sixteens : (k : ℕ) → 2 ^ (4 * k) ≡ 16 ^ k
 sixteens zero = refl
 sixteens (suc k) =
@@ -33,53 +28,49 @@ sixteens (suc k) =
 pub digit_at : (n k : ℕ) → bit_and (n / 2 ^ (4 * k)) 15 ≡ n / 16 ^ k % 16
 digit_at n k = and_mask (n / 2 ^ (4 * k)) 4 ∙ ap (λ (m : ℕ). n / m % 16) (sixteens k)
 
--- the first of k digits
-hex_first : (k n : ℕ) → 0 < k → hex_digit_lem (n / 16 ^ (k - 1) % 16) ∷ hex (k - 1) n ≡ hex k n
-hex_first zero n h = absurd (not-suc-le-zero h)
-hex_first (suc k) n h =
-    let e : suc k - 1 ≡ k = omega arith in
-    rw e
-
 pub length_hex : (k n : ℕ) → length (hex k n) ≡ k
 length_hex zero n = refl
 length_hex (suc k) n = ap suc (length_hex k n)
 
--- what is written and the digits that are left are the whole
-pub record Spelling (before : List ℕ) (at n count : ℕ) (text : List ℕ) (end rest : ℕ) : Type 0 where
-  pub few : rest ≤ 16
-  pub sum : end + rest ≡ at + count
+-- i digits are written, which with those that are left are the whole
+pub record Spelling (before : List ℕ) (at n count : ℕ) (text : List ℕ) (i : ℕ) : Type 0 where
+  pub upto : i ≤ count
   pub kept : length text ≡ length before
-  pub room : end + rest ≤ length text
-  pub same : take end text ++ hex rest n ≡ take at before ++ hex count n
-  pub behind : drop end text ≡ drop end before
+  pub room : at + count ≤ length text
+  pub same : take (at + i) text ++ hex (count - i) n ≡ take at before ++ hex count n
+  pub behind : drop (at + i) text ≡ drop (at + i) before
 
-pub start : (text : List ℕ) (at n count : ℕ) → count ≤ 16 → at + count ≤ length text → Spelling text at n count text at count
-start text at n count c h = record { few = c; sum = refl; kept = refl; room = h; same = refl; behind = refl }
+pub start : (text : List ℕ) (at n count : ℕ) → at + count ≤ length text → Spelling text at n count text 0
+start text at n count h = record { upto = omega arith; kept = refl; room = h; same = simp unary_clauses; behind = refl }
 
-module _ {before text : List ℕ} {at n count end rest : ℕ} (w : Spelling before at n count text end rest) where
-  pub on : 0 < rest → {v : ℕ} → v ≡ hex_digit_lem (n / 16 ^ (rest - 1) % 16) → Spelling before at n count (set text end v) (end + 1) (rest - 1)
+module _ {before text : List ℕ} {at n count i : ℕ} (w : Spelling before at n count text i) where
+  pub on : i < count → {v : ℕ} → v ≡ hex_digit_lem (n / 16 ^ (count - 1 - i) % 16) → Spelling before at n count (set text (at + i) v) (i + 1)
   on more {v} e =
+      let next : at + (i + 1) ≡ at + i + 1 = omega arith in
+      let place : count - 1 - i ≡ count - (i + 1) = omega arith in
+      let left : suc (count - (i + 1)) ≡ count - i = omega arith in
       record {
-        few = omega (arith, w.few);
-        sum = omega (arith, w.sum);
+        upto = omega arith;
         kept = rw (length-set) w.kept;
-        room = rw (length-set) (omega (arith, w.room));
+        room = rw (length-set) w.room;
         same =
-            ap (λ (l : List ℕ). l ++ hex (rest - 1) n) (take_stored text end v (omega (arith, w.room)))
-            ∙ append_assoc (take end text) (v ∷ []) (hex (rest - 1) n)
-            ∙ ap (λ (d : ℕ). take end text ++ (d ∷ hex (rest - 1) n)) e
-            ∙ ap (λ (l : List ℕ). take end text ++ l) (hex_first rest n more)
-            ∙ w.same;
-        behind = drop_stored text end v ∙ later before text end (end + 1) (omega arith) w.behind;
+            rw (next, take_stored text (at + i) v (omega (arith, w.room)))
+            (append_assoc (take (at + i) text) (v ∷ []) (hex (count - (i + 1)) n)
+            ∙ ap (λ (d : ℕ). take (at + i) text ++ (d ∷ hex (count - (i + 1)) n)) (e ∙ ap (λ (k : ℕ). hex_digit_lem (n / 16 ^ k % 16)) place)
+            ∙ ap (λ (k : ℕ). take (at + i) text ++ hex k n) left
+            ∙ w.same);
+        behind = rw next (drop_stored text (at + i) v ∙ later before text (at + i) (at + i + 1) (omega arith) w.behind);
       }
 
-  pub end_of : rest ≡ 0 → Appends before at (hex count n) text end
-  end_of z =
+  pub end_of : count ≤ i → Appends before at (hex count n) text (at + count)
+  end_of h =
+      let all : i ≡ count = omega (arith, w.upto) in
+      let none : count - i ≡ 0 = omega arith in
       record {
-        long = omega (arith, w.sum, length_hex count n);
-        room = omega (arith, w.room);
-        text = sym (append-nil (take end text)) ∙ rw z at w.same;
-        rest = w.behind;
+        long = omega (arith, length_hex count n);
+        room = w.room;
+        text = sym (append-nil (take (at + count) text)) ∙ rw (none, all) at w.same;
+        rest = rw all at w.behind;
       }
 
 -- ── decimal
@@ -129,9 +120,6 @@ digits_enough (suc k) n h = go (ltb n 10) refl (digits_enough k (n / 10))
         digits_more (suc (suc k)) n l ∙ ap (λ (t : List ℕ). t ++ ((48 + n % 10) ∷ [])) (same tenth) ∙ sym (digits_more (suc k) n l)
 
 -- the digits of a tenth of it, and its last
-pub one_digit : (n : ℕ) → n < 10 → (48 + n) ∷ [] ≡ decimal n
-one_digit n h = sym (digits_last 19 n h)
-
 pub more_digits : (n : ℕ) → 10 ≤ n → n < 2 ^ 64 → decimal (n / 10) ++ ((48 + n % 10) ∷ []) ≡ decimal n
 more_digits n l h = ap (λ (t : List ℕ). t ++ ((48 + n % 10) ∷ [])) (digits_enough 18 (n / 10) (omega arith)) ∙ sym (digits_more 19 n l)
 

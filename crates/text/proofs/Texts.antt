@@ -5,8 +5,11 @@ use mathlib.Core.List.{List, [], ◌∷◌, ◌++◌, append_assoc}
 use Prim.Native.Nat.{ℕ, ◌+◌, ◌-◌, ◌≤◌, ◌<◌}
 use native.Mathlib.Numerals.{add-one}
 use native.Mathlib.Omega.{arith}
-use lib.ListN.{length, take, drop, get_or, set, length-append, length-set, take-append-drop}
-use lib.Seq.{take-suc-set, drop-set-lt, take-length, drop-drop, paste, paste-zero, paste-suc, take-paste, drop-paste}
+use lib.ListN.{length, take, drop, set, length-append, length-drop, take-append-drop}
+use lib.Seq.{take-suc-set, drop-set-lt, drop-drop}
+use borrow.Rule.Slice.PartMut.{put_mid}
+use Rattle.std.proofs.lemmas.List.{length-take}
+use Rattle.std.proofs.lemmas.Slice.{take-put_mid, drop-put_mid}
 use Rattle.text.specs.Appending.{Appends}
 
 -- the text up to and with a byte that was stored behind it
@@ -22,11 +25,6 @@ pub later : (a b : List ℕ) (i j : ℕ) → i ≤ j → drop i b ≡ drop i a �
 later a b i j h e =
     let s : i + (j - i) ≡ j = omega arith in
     rw s at (sym (drop-drop (j - i) i b) ∙ ap (drop (j - i)) e ∙ drop-drop (j - i) i a)
-
--- one byte
-pub stored : (text : List ℕ) (at v : ℕ) → at < length text → Appends text at (v ∷ []) (set text at v) (at + 1)
-stored text at v h =
-    record { long = omega arith; room = rw (length-set) (omega arith); text = take_stored text at v h; rest = drop_stored text at v }
 
 -- one thing, and another behind it
 pub then : {a b c x y : List ℕ} {i j k : ℕ} → Appends a i x b j → Appends b j y c k → Appends a i (x ++ y) c k
@@ -50,34 +48,14 @@ whole {a} {b} {x} {i} {j} p =
     ∙ append_assoc (take i a) x (drop j b)
     ∙ ap (λ (l : List ℕ). take i a ++ (x ++ l)) (p.rest ∙ ap (λ (n : ℕ). drop n a) p.long)
 
--- ── bytes that are copied one by one
-
--- the first i of them stand in the text
-pub record Copying (before : List ℕ) (at : ℕ) (s text : List ℕ) (i : ℕ) : Type 0 where
-  pub bound : i ≤ length s
-  pub fits : at + length s ≤ length before
-  pub kept : length text ≡ length before
-  pub same : text ≡ paste before at s i
-
-pub start : (text : List ℕ) (at : ℕ) (s : List ℕ) → at + length s ≤ length text → Copying text at s text 0
-start text at s h = record { bound = omega arith; fits = h; kept = refl; same = paste-zero text at s }
-
-module _ {before text s : List ℕ} {at i : ℕ} (w : Copying before at s text i) where
-  pub on : i < length s → Copying before at s (set text (at + i) (get_or s i 0)) (i + 1)
-  on more =
-      record {
-        bound = omega arith;
-        fits = w.fits;
-        kept = rw (length-set) w.kept;
-        same = rw (add-one i) (ap (λ (l : List ℕ). set l (at + i) (get_or s i 0)) w.same ∙ paste-suc before at s i 0 (omega (arith, w.fits)) more);
-      }
-
-  pub copied : length s ≤ i → Appends before at s text (at + i)
-  copied all =
-      let e : i ≡ length s = omega (arith, w.bound) in
-      record {
-        long = omega arith;
-        room = omega (arith, w.fits, w.kept);
-        text = rw (w.same, e) (take-paste before at s (length s) (omega (arith, w.fits)) (omega arith) ∙ ap (λ (l : List ℕ). take at before ++ l) (take-length s));
-        rest = rw (w.same, e) (drop-paste before at s (length s) (omega (arith, w.fits)) (omega arith));
-      }
+-- other bytes, laid into the text behind `at`
+pub copied : (text : List ℕ) (at : ℕ) (s : List ℕ) {new : List ℕ} → at + length s ≤ length text → new ≡ s
+    → Appends text at s (put_mid at (at + length s - at) text new) (at + length s)
+copied text at s {new} h e =
+    let long : length new ≡ at + length s - at = rw e (omega arith) in
+    record {
+      long = refl;
+      room = simp (length-append, length-drop, length-take) (omega (arith, long, h));
+      text = take-put_mid at (at + length s - at) text new (at + length s) (rw e) (omega arith) ∙ rw e;
+      rest = drop-put_mid at (at + length s - at) text new (at + length s) (omega arith) (omega arith) long;
+    }

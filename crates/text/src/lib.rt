@@ -21,19 +21,16 @@ pub fn put_bytes(text: &mut [u8], at: usize, s: &[u8]) -> usize
     requires { at + length s.now ≤ length text.old }
     ensures { Appends text.old at s.now text.new result }
 {
-    let mut i: usize = 0;
-    while i < s.len() {
-        text[at + i] = s[i];
-        i += 1;
-    }
-    at + i
+    let end = at + s.len();
+    text[at..end].copy_from_slice(s);
+    end
 }
 
 fn hex_digit(n: u8) -> u8
     requires { n < 16 }
     ensures { result ≡ hex_digit_lem n }
 {
-    if n < 10 { 48 + n } else { 87 + n }
+    if n < 10 { b'0' + n } else { b'a' + (n - 10) }
 }
 
 // The lowest `count` hexadecimal digits of n.
@@ -41,15 +38,12 @@ pub fn put_hex(text: &mut [u8], at: usize, n: u64, count: usize) -> usize
     requires { (count ≤ 16) × (at + count ≤ length text.old) }
     ensures { Appends text.old at (hex count n) text.new result }
 {
-    let mut end = at;
-    let mut rest = count;
-    while 0 < rest {
-        rest = rest - 1;
-        let digit = (n >> (4 * (rest as u64))) & 15;
-        text[end] = hex_digit(digit as u8);
-        end = end + 1;
+    for i in 0..count {
+        let place = (count - 1 - i) as u64;
+        let digit = n >> (4 * place) & 15;
+        text[at + i] = hex_digit(digit as u8);
     }
-    end
+    at + count
 }
 
 // The decimal digits of n: those of a tenth of it, and its last.
@@ -58,8 +52,8 @@ pub fn put_decimal(text: &mut [u8], at: usize, n: u64) -> usize
     ensures { Appends text.old at (decimal n) text.new result }
 {
     if n < 10 {
-        return put_byte(text, at, 48 + (n as u8));
+        return put_byte(text, at, b'0' + n as u8);
     }
-    let end = put_decimal(&mut *text, at, n / 10);
-    put_byte(text, end, 48 + ((n % 10) as u8))
+    let end = put_decimal(text, at, n / 10);
+    put_byte(text, end, b'0' + (n % 10) as u8)
 }

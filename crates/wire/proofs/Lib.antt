@@ -1,4 +1,2 @@
-pub mod Widths
 pub mod Masks
-pub mod Same
 pub mod Stores

@@ -6,11 +6,29 @@ pub mod layout;
 
 ghost use Rattle.std.specs.Prelude.{◌≡◌, ◌++◌, ◌+◌, ◌≤◌, ◌<◌, ◌/◌, ◌%◌, ◌^◌, min, length, take, drop};
 ghost use Rattle.srp.specs.Limits.{both_formats};
-ghost use Rattle.srp.specs.Bytes.{Field, get, put, replaced, zeros};
+ghost use Rattle.srp.specs.Bytes.{Field, get, put, part, replaced, zeros};
 ghost use Rattle.srp.specs.Descriptors.{same_bytes};
 ghost use Rattle.srp.specs.Requests.{other_formats_lem};
 
 // ── numbers of 1, 2, 4 and 8 bytes
+
+// The N bytes from `at` on.
+fn chunk<const N: usize>(s: &[u8], at: usize) -> [u8; N]
+    requires { at + N ≤ length s.now }
+    ensures { result ≡ part (Field.bytes at N) s.now }
+{
+    let mut bytes = [0; N];
+    bytes.copy_from_slice(&s[at..at + N]);
+    bytes
+}
+
+// They become `bytes`.
+fn put_chunk<const N: usize>(s: &mut [u8], at: usize, bytes: [u8; N])
+    requires { at + N ≤ length s.old }
+    ensures { s.new ≡ take at s.old ++ (bytes.entry ++ drop (at + N) s.old) }
+{
+    s[at..at + N].copy_from_slice(&bytes);
+}
 
 pub fn read8(s: &[u8], at: usize) -> u8
     requires { at + 1 ≤ length s.now }
@@ -23,34 +41,21 @@ pub fn read16(s: &[u8], at: usize) -> u16
     requires { at + 2 ≤ length s.now }
     ensures { result ≡ get (Field.bytes at 2) s.now }
 {
-    let high = read8(s, at);
-    let low = read8(s, at + 1);
-    (high as u16) * 256 + (low as u16)
+    u16::from_be_bytes(chunk(s, at))
 }
 
-// Four and eight bytes are read one by one, which compiles to one load; eight as two halves would not.
 pub fn read32(s: &[u8], at: usize) -> u32
     requires { at + 4 ≤ length s.now }
     ensures { result ≡ get (Field.bytes at 4) s.now }
 {
-    let mut v = read8(s, at) as u32;
-    v = v * 256 + (read8(s, at + 1) as u32);
-    v = v * 256 + (read8(s, at + 2) as u32);
-    v * 256 + (read8(s, at + 3) as u32)
+    u32::from_be_bytes(chunk(s, at))
 }
 
 pub fn read64(s: &[u8], at: usize) -> u64
     requires { at + 8 ≤ length s.now }
     ensures { result ≡ get (Field.bytes at 8) s.now }
 {
-    let mut v = read8(s, at) as u64;
-    v = v * 256 + (read8(s, at + 1) as u64);
-    v = v * 256 + (read8(s, at + 2) as u64);
-    v = v * 256 + (read8(s, at + 3) as u64);
-    v = v * 256 + (read8(s, at + 4) as u64);
-    v = v * 256 + (read8(s, at + 5) as u64);
-    v = v * 256 + (read8(s, at + 6) as u64);
-    v * 256 + (read8(s, at + 7) as u64)
+    u64::from_be_bytes(chunk(s, at))
 }
 
 pub fn write8(s: &mut [u8], at: usize, v: u8)
@@ -64,24 +69,21 @@ pub fn write16(s: &mut [u8], at: usize, v: u16)
     requires { at + 2 ≤ length s.old }
     ensures { s.new ≡ put (Field.bytes at 2) v s.old }
 {
-    write8(s, at + 1, (v % 256) as u8);
-    write8(s, at, (v / 256) as u8);
+    put_chunk(s, at, v.to_be_bytes());
 }
 
 pub fn write32(s: &mut [u8], at: usize, v: u32)
     requires { at + 4 ≤ length s.old }
     ensures { s.new ≡ put (Field.bytes at 4) v s.old }
 {
-    write16(s, at + 2, (v % 65536) as u16);
-    write16(s, at, (v / 65536) as u16);
+    put_chunk(s, at, v.to_be_bytes());
 }
 
 pub fn write64(s: &mut [u8], at: usize, v: u64)
     requires { at + 8 ≤ length s.old }
     ensures { s.new ≡ put (Field.bytes at 8) v s.old }
 {
-    write32(s, at + 4, (v % 4294967296) as u32);
-    write32(s, at, (v / 4294967296) as u32);
+    put_chunk(s, at, v.to_be_bytes());
 }
 
 // ── bits of a byte, by a mask and a shift
@@ -127,10 +129,7 @@ pub fn other_formats(supported: u32, formats: u32) -> bool
     requires { supported ≤ both_formats }
     ensures { result ≡ other_formats_lem supported formats }
 {
-    if formats % 2 == 1 {
-        return true;
-    }
-    supported + 1 < formats
+    formats % 2 == 1 || supported + 1 < formats
 }
 
 // ── numbers and lists
@@ -139,7 +138,7 @@ pub fn other_formats(supported: u32, formats: u32) -> bool
 pub fn least(a: u64, b: u64) -> u64
     ensures { result ≡ min a b }
 {
-    if a < b { a } else { b }
+    a.min(b)
 }
 
 // The first n bytes are set to 0.
@@ -147,25 +146,13 @@ pub fn clear(s: &mut [u8], n: usize)
     requires { n ≤ length s.old }
     ensures { s.new ≡ zeros n ++ drop n s.old }
 {
-    let mut i: usize = 0;
-    while i < n {
-        s[i] = 0;
-        i += 1;
-    }
+    s[..n].fill(0);
 }
 
-// Whether the bytes of `a` begin `b`. All are compared, also behind two that differ: the loop then takes many bytes at once.
+// Whether the bytes of `a` begin `b`.
 pub fn begins(a: &[u8], b: &[u8]) -> bool
     requires { length a.now ≤ length b.now }
     ensures { result ≡ same_bytes a.now (take (length a.now) b.now) }
 {
-    let mut same = true;
-    let mut i: usize = 0;
-    while i < a.len() {
-        if a[i] != b[i] {
-            same = false;
-        }
-        i += 1;
-    }
-    same
+    b.starts_with(a)
 }
