@@ -10,7 +10,7 @@ ghost use Rattle.words.specs.Line.{first_in, direction_in, behind, count, ring};
 ghost use Rattle.line.specs.Changes.{no_place, direction_word, PlaceChanged, LengthChanged, LineChanged};
 
 use srp::{Direction, Place};
-use words::{LINE, MOVES, RING};
+use words::{LINE, MOVES, PORT, RING};
 
 // How many places there are.
 const PLACES: u64 = MOVES as u64;
@@ -21,10 +21,11 @@ const FIRST: usize = LINE;
 const LENGTH: usize = LINE + 1;
 
 // How many moves are in the line.
+#[tactic(auto, using(crate::proofs::Ring::count_read))]
 pub fn len(s: &[u64; PORT]) -> usize
     ensures { (result ≡ count s.now) × (result ≤ most_moves) }
 {
-    wire::least(s[LENGTH], PLACES) as usize
+    s[LENGTH].min(PLACES) as usize
 }
 
 // Where the place stands that is j behind the line's first.
@@ -49,10 +50,7 @@ fn direction_of(word: u64) -> Direction
 fn word_of(d: Direction) -> u64
     ensures { result ≡ direction_word d }
 {
-    match d {
-        Direction::Out => 0,
-        Direction::In => 1,
-    }
+    d as u64
 }
 
 // The place that is j behind the line's first.
@@ -61,10 +59,9 @@ pub fn at(s: &[u64; PORT], j: usize) -> Place
     ensures { result ≡ get_or (ring s.now) j no_place }
 {
     let k = place_at(s, j);
-    let d = direction_of(s[k + 1]);
     Place {
         tag: s[k],
-        direction: d,
+        direction: direction_of(s[k + 1]),
     }
 }
 
@@ -75,8 +72,7 @@ pub fn put(s: &mut [u64; PORT], j: usize, x: Place)
 {
     let k = place_at(s, j);
     s[k] = x.tag;
-    let d = x.direction;
-    s[k + 1] = word_of(d);
+    s[k + 1] = word_of(x.direction);
 }
 
 // So many moves are in the line.
@@ -119,6 +115,7 @@ fn drop_first(s: &mut [u64; PORT])
 }
 
 // The move x, which was the first of the line, was served: it goes behind the last where it has more pieces, and else leaves.
+#[tactic(auto, using(crate::proofs::Ring::room_behind))]
 pub fn pass(s: &mut [u64; PORT], x: Place, more: bool)
     requires bound { 1 ≤ count s.old }
     ensures { LineChanged s.old s.new (λ l. put_back more x (drop 1 l)) }
