@@ -1,7 +1,7 @@
 -- The ring of places: read, written, and from another place on.
 -- Assumes nothing.
 use mathlib.Core.Path.{◌≡◌, refl, sym, ◌∙◌, ap, subst}
-use mathlib.Core.Bool.{Bool, true, false}
+use mathlib.Core.Bool.{true}
 use mathlib.Core.List.{List, [], ◌∷◌, ◌++◌}
 use Prim.Native.Nat.{ℕ, zero, suc, min, ◌+◌, ◌-◌, ◌*◌, ◌%◌, ◌≤◌, ◌<◌}
 use native.Mathlib.Omega.{arith}
@@ -12,7 +12,7 @@ use lib.ListN.{length, get_or, take, drop, set, length-set, length-drop}
 use lib.Seq.{get_or-set_same, get_or-set_other, get_or-drop, drop-set-add, take-suc-set}
 use Rattle.srp.specs.Limits.{most_moves}
 use Rattle.srp.specs.Credit.{place}
-use Rattle.srp.specs.Line.{joins, put_back}
+use Rattle.srp.specs.Line.{joins}
 use Rattle.srp.specs.declared.Direction.{Direction}
 use Rattle.srp.specs.declared.Direction.TheVariants.{Out, In}
 use Rattle.srp.specs.declared.Place.{Place}
@@ -90,10 +90,7 @@ place_there l j h d e =
     let w : get_or l (line_at + (ring_at + 2 * m) + 1) 0 ≡ get_or (behind l) (ring_at + 2 * m + 1) 0 = ap (λ (k : ℕ). get_or l k 0) more ∙ sym (get_or-drop line_at l (ring_at + 2 * m + 1) 0) in
     (λ i. record { tag = t i; direction = (e ∙ ap direction_in w) i }) ∙ sym (place_read l j h)
 
--- the first place and the number, by the words
-pub first_read : (l : List ℕ) → first_in (behind l) ≡ get_or l line_at 0 % most_moves
-first_read l = ap (λ (n : ℕ). n % most_moves) (get_or-drop line_at l 0 0)
-
+-- the number, by the words
 pub count_read : (l : List ℕ) → count l ≡ min (get_or l (line_at + 1) 0) most_moves
 count_read l = ap (λ (n : ℕ). min n most_moves) (get_or-drop line_at l 1 0)
 
@@ -254,16 +251,7 @@ pub room_joins : (l l' : List ℕ) (x : Place) {n : ℕ} → n ≡ count l → (
 room_joins l l' x e ne C =
     record { slots = C.slots; head = C.head; line = rw (lt-ltb (length (line l)) most_moves (omega (arith, line_long l, e, ne))) C.line }
 
--- the first left, and is served
-pub passed_on : (l l' : List ℕ) (x : Place) {more : Bool} → LineChanged l l' (drop 1) → more ≡ false → LineChanged l l' (λ q. put_back more x (drop 1 q))
-passed_on l l' x C e = record { slots = C.slots; head = C.head; line = rw e C.line }
-
-pub passed_back : (l l₁ l' : List ℕ) (x : Place) {more : Bool} → LineChanged l l₁ (drop 1) → more ≡ true → LineChanged l₁ l' (λ q. q ++ (x ∷ []))
-    → LineChanged l l' (λ q. put_back more x (drop 1 q))
-passed_back l l₁ l' x C e D =
-    record { slots = D.slots ∙ C.slots; head = D.head ∙ C.head; line = rw e (D.line ∙ ap (λ (q : List Place). q ++ (x ∷ [])) C.line) }
-
--- then there is room
+-- once the first left, there is room
 pub room_behind : (l l₁ : List ℕ) → LineChanged l l₁ (drop 1) → 1 ≤ count l → count l₁ < most_moves
 room_behind l l₁ C h =
     let e : length (line l₁) ≡ length (line l) - 1 = ap length C.line ∙ length-drop 1 (line l) in

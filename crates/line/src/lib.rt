@@ -10,7 +10,7 @@ ghost use Rattle.words.specs.Line.{first_in, direction_in, behind, count, ring};
 ghost use Rattle.line.specs.Changes.{no_place, direction_word, PlaceChanged, LengthChanged, LineChanged};
 
 use srp::{Direction, Place};
-use words::{LINE, MOVES, RING};
+use words::{LINE, MOVES, PORT, RING};
 
 // How many places there are.
 const PLACES: u64 = MOVES as u64;
@@ -21,16 +21,15 @@ const FIRST: usize = LINE;
 const LENGTH: usize = LINE + 1;
 
 // How many moves are in the line.
-pub fn len(s: &[u64]) -> usize
-    requires { length s.now ≡ port_words }
+#[tactic(auto, using(crate::proofs::Ring::count_read))]
+pub fn len(s: &[u64; PORT]) -> usize
     ensures { (result ≡ count s.now) × (result ≤ most_moves) }
 {
-    wire::least(s[LENGTH], PLACES) as usize
+    s[LENGTH].min(PLACES) as usize
 }
 
 // Where the place stands that is j behind the line's first.
-fn place_at(s: &[u64], j: usize) -> usize
-    requires s_len { length s.now ≡ port_words }
+fn place_at(s: &[u64; PORT], j: usize) -> usize
     requires j_lt_most_moves { j < most_moves }
     ensures { (result ≡ line_at + (ring_at + 2 * ((first_in (behind s.now) + j) % most_moves))) × (result + 1 < port_words) }
 {
@@ -51,41 +50,33 @@ fn direction_of(word: u64) -> Direction
 fn word_of(d: Direction) -> u64
     ensures { result ≡ direction_word d }
 {
-    match d {
-        Direction::Out => 0,
-        Direction::In => 1,
-    }
+    d as u64
 }
 
 // The place that is j behind the line's first.
-pub fn at(s: &[u64], j: usize) -> Place
-    requires s_len { length s.now ≡ port_words }
+pub fn at(s: &[u64; PORT], j: usize) -> Place
     requires j_lt_most_moves { j < most_moves }
     ensures { result ≡ get_or (ring s.now) j no_place }
 {
     let k = place_at(s, j);
-    let d = direction_of(s[k + 1]);
     Place {
         tag: s[k],
-        direction: d,
+        direction: direction_of(s[k + 1]),
     }
 }
 
 // The move x at the place that is j behind the line's first.
-pub fn put(s: &mut [u64], j: usize, x: Place)
-    requires s_len { length s.old ≡ port_words }
+pub fn put(s: &mut [u64; PORT], j: usize, x: Place)
     requires j_lt_most_moves { j < most_moves }
     ensures { PlaceChanged s.old s.new j x }
 {
     let k = place_at(s, j);
     s[k] = x.tag;
-    let d = x.direction;
-    s[k + 1] = word_of(d);
+    s[k + 1] = word_of(x.direction);
 }
 
 // So many moves are in the line.
-pub fn set_len(s: &mut [u64], n: usize)
-    requires s_len { length s.old ≡ port_words }
+pub fn set_len(s: &mut [u64; PORT], n: usize)
     requires n_le_most_moves { n ≤ most_moves }
     ensures { LengthChanged s.old s.new n }
 {
@@ -93,8 +84,7 @@ pub fn set_len(s: &mut [u64], n: usize)
 }
 
 // A move behind the last of a line that is not full.
-fn append(s: &mut [u64], x: Place)
-    requires s_len { length s.old ≡ port_words }
+fn append(s: &mut [u64; PORT], x: Place)
     requires s_bound { count s.old < most_moves }
     ensures { LineChanged s.old s.new (λ l. l ++ (x ∷ [])) }
 {
@@ -104,8 +94,7 @@ fn append(s: &mut [u64], x: Place)
 }
 
 // A move joins the line at its end. In words that no login made the line may be full, and stays.
-pub fn join(s: &mut [u64], x: Place)
-    requires { length s.old ≡ port_words }
+pub fn join(s: &mut [u64; PORT], x: Place)
     ensures { LineChanged s.old s.new (joins true x) }
 {
     if len(s) == MOVES {
@@ -115,8 +104,7 @@ pub fn join(s: &mut [u64], x: Place)
 }
 
 // The first move of the line leaves it.
-fn drop_first(s: &mut [u64])
-    requires s_len { length s.old ≡ port_words }
+fn drop_first(s: &mut [u64; PORT])
     requires bound { 1 ≤ count s.old }
     ensures { LineChanged s.old s.new (drop 1) }
 {
@@ -127,8 +115,8 @@ fn drop_first(s: &mut [u64])
 }
 
 // The move x, which was the first of the line, was served: it goes behind the last where it has more pieces, and else leaves.
-pub fn pass(s: &mut [u64], x: Place, more: bool)
-    requires s_len { length s.old ≡ port_words }
+#[tactic(auto, using(crate::proofs::Ring::room_behind))]
+pub fn pass(s: &mut [u64; PORT], x: Place, more: bool)
     requires bound { 1 ≤ count s.old }
     ensures { LineChanged s.old s.new (λ l. put_back more x (drop 1 l)) }
 {

@@ -37,7 +37,7 @@ pub enum Refusal {
 }
 
 // Data-out, which RDMA Reads fetch, and data-in, which RDMA Writes bring.
-#[derive(Clone, Copy)]
+#[derive(Clone, Copy, PartialEq, Eq)]
 pub enum Direction {
     Out,
     In,
@@ -62,7 +62,7 @@ impl From<Direction> for Kind {
 }
 
 // A data buffer descriptor: its format and count, its place in the message; for format 2 the table's length and the total length.
-#[derive(Clone, Copy)]
+#[derive(Clone, Copy, Default)]
 pub struct Descriptor {
     pub format: u8,
     pub count: u8,
@@ -104,7 +104,7 @@ pub struct Terms {
 
 // What moves of a command's data in a direction: R, which is 0 until it is planned; h, the highest offset handed out + 1, 0 where nothing was; and
 // what is left of the current move, its bytes from `at` up to `end`, and the number of operations handed out for it, all 0 before any move.
-#[derive(Clone, Copy)]
+#[derive(Clone, Copy, Default)]
 pub struct Transfer {
     pub required: u32,
     pub highest: u32,
@@ -114,7 +114,7 @@ pub struct Transfer {
 }
 
 // A move in the line of moves with pieces: its command's tag and its direction.
-#[derive(Clone, Copy)]
+#[derive(Clone, Copy, PartialEq, Eq)]
 pub struct Place {
     pub tag: u64,
     pub direction: Direction,
@@ -147,7 +147,7 @@ pub enum Message {
 }
 
 // A table to fetch; len is 0 where there is none.
-#[derive(Clone, Copy)]
+#[derive(Clone, Copy, Default)]
 pub struct Fetch {
     pub address: u64,
     pub handle: u32,

@@ -36,8 +36,7 @@ pub enum Leaving {
 }
 
 // The open command with a tag.
-pub fn find(s: &[u64], tag: u64) -> Found
-    requires { length s.now ≡ port_words }
+pub fn find(s: &[u64; PORT], tag: u64) -> Found
     ensures { FoundIs s.now tag result }
 {
     let h = words::get_head(s);
@@ -63,8 +62,7 @@ fn ended(which: Ending, r: Request) -> bool
 
 // Takes commands that end out of their slots; none of them stands before slot `first`. Those that stay keep their order, and those before the first
 // that ends are not written.
-fn drop_slots(s: &mut [u64], first: usize, which: Ending)
-    requires s_len { length s.old ≡ port_words }
+fn drop_slots(s: &mut [u64; PORT], first: usize, which: Ending)
     requires first_bound { first ≤ (head_of s.old).held }
     requires none_ends { NoneEnds which s.old first }
     ensures { Alters s.old s.new (without_slots which) }
@@ -87,8 +85,7 @@ fn drop_slots(s: &mut [u64], first: usize, which: Ending)
 }
 
 // Ends commands, of which none stands before slot `first`: their moves leave the line, and they their slots.
-pub fn drop_commands(s: &mut [u64], first: usize, which: Ending)
-    requires s_len { length s.old ≡ port_words }
+pub fn drop_commands(s: &mut [u64; PORT], first: usize, which: Ending)
     requires first_bound { first ≤ (head_of s.old).held }
     requires none_ends { NoneEnds which s.old first }
     ensures { Alters s.old s.new (without_ended which) }
@@ -107,8 +104,7 @@ fn due(wanted: u8, announced: u8, held: usize) -> u8
 }
 
 // A call's endings are done, and it used so many announced buffers: its message carries what is due.
-pub fn settle(s: &mut [u64], used: u8) -> u32
-    requires s_len { length s.old ≡ port_words }
+pub fn settle(s: &mut [u64; PORT], used: u8) -> u32
     requires used_bound { used ≤ (head_of s.old).announced }
     ensures { Settled used result s.old s.new }
 {
@@ -120,8 +116,7 @@ pub fn settle(s: &mut [u64], used: u8) -> u32
 }
 
 // W is another number of 1 to 16.
-pub fn set_wanted(s: &mut [u64], wanted: u8)
-    requires s_len { length s.old ≡ port_words }
+pub fn set_wanted(s: &mut [u64; PORT], wanted: u8)
     requires le_wanted { 1 ≤ wanted }
     requires wanted_le_most_buffers { wanted ≤ most_buffers }
     ensures { Alters s.old s.new (λ p. with_wanted p wanted) }
@@ -131,8 +126,7 @@ pub fn set_wanted(s: &mut [u64], wanted: u8)
 }
 
 // A credit request is unanswered from now on, or no longer.
-pub fn set_unanswered(s: &mut [u64], unanswered: bool)
-    requires { length s.old ≡ port_words }
+pub fn set_unanswered(s: &mut [u64; PORT], unanswered: bool)
     ensures { Alters s.old s.new (λ p. with_unanswered p unanswered) }
 {
     let h = words::get_head(s);

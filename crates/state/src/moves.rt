@@ -45,8 +45,7 @@ fn other_tag(which: Ending, tag: u64) -> bool
 }
 
 // Whether the open command with a tag is one that ends.
-fn command_ends(s: &[u64], which: Ending, tag: u64) -> bool
-    requires { length s.now ≡ port_words }
+fn command_ends(s: &[u64; PORT], which: Ending, tag: u64) -> bool
     ensures { CommandEnds s.now which tag result }
 {
     if other_tag(which, tag) {
@@ -59,8 +58,7 @@ fn command_ends(s: &[u64], which: Ending, tag: u64) -> bool
     crate::ended(which, r)
 }
 
-fn move_leaves(s: &[u64], which: Leaving, x: Place) -> bool
-    requires { length s.now ≡ port_words }
+fn move_leaves(s: &[u64; PORT], which: Leaving, x: Place) -> bool
     ensures { MoveLeaves s.now which x result }
 {
     match which {
@@ -70,8 +68,7 @@ fn move_leaves(s: &[u64], which: Leaving, x: Place) -> bool
 }
 
 // Takes moves out of the line.
-pub fn leave(s: &mut [u64], which: Leaving)
-    requires { length s.old ≡ port_words }
+pub fn leave(s: &mut [u64; PORT], which: Leaving)
     ensures { Leaves which s.old s.new }
 {
     let n = line::len(s);

@@ -19,8 +19,7 @@ use words::{Awaited, LIST, PLACE, Part, SLOTS, Slot, commands};
 const LAST: usize = SLOTS - 1;
 
 // Which places the open commands use, but for the one in slot `but`.
-fn places(s: &[u64], but: usize) -> [bool; SLOTS]
-    requires { length s.now ≡ port_words }
+fn places(s: &[u64; PORT], but: usize) -> [bool; SLOTS]
     ensures { Marked but (opens s.now) result }
 {
     let h = words::get_head(s);
@@ -53,8 +52,7 @@ fn first_free(used: [bool; SLOTS]) -> usize
 }
 
 // A place that no open command uses.
-fn free_place(s: &[u64], held: usize) -> usize
-    requires s_len { length s.now ≡ port_words }
+fn free_place(s: &[u64; PORT], held: usize) -> usize
     requires held_value { held ≡ (head_of s.now).held }
     requires held_lt_most_slots { held < most_slots }
     ensures { Free held (opens s.now) result }
@@ -92,8 +90,8 @@ pub fn new_part(segments: u8, total: u32) -> Part
 
 // One command more, one announced buffer less.
 pub fn enter(
-    s: &mut [u64],
-    store: &mut [u8],
+    s: &mut [u64; PORT],
+    store: &mut [u8; STORE],
     r: Request,
     o: Part,
     n: Part,
@@ -101,8 +99,6 @@ pub fn enter(
     out: &[u8],
     inn: &[u8],
 )
-    requires s_len { length s.old ≡ port_words }
-    requires store_len { length store.old ≡ store_size }
     requires announced_nonzero { 0 < (head_of s.old).announced }
     requires holds { Holds out.now o a.out }
     requires holds_2 { Holds inn.now n a.inn }

@@ -11,8 +11,7 @@ use srp::Descriptor;
 use words::{Awaited, LIST, PLACE, Part, Slot, commands};
 
 // A place that no other open command uses than the one in slot i: its own place, or else a free one.
-fn own_place(s: &[u64], i: usize, place: u8) -> usize
-    requires s_len { length s.now ≡ port_words }
+fn own_place(s: &[u64; PORT], i: usize, place: u8) -> usize
     requires i_bound { i < (head_of s.now).held }
     requires place_lt_most_slots { place < most_slots }
     ensures { Free i (opens s.now) result }
@@ -26,8 +25,7 @@ fn own_place(s: &[u64], i: usize, place: u8) -> usize
 }
 
 // The bytes of a place at another place too.
-fn carry(store: &mut [u8], from: usize, to: usize)
-    requires store_len { length store.old ≡ store_size }
+fn carry(store: &mut [u8; STORE], from: usize, to: usize)
     requires from_lt_most_slots { from < most_slots }
     requires to_lt_most_slots { to < most_slots }
     ensures { Carried store.old store.new from to }
@@ -61,9 +59,7 @@ pub fn not_waiting() -> Awaited
 }
 
 // The command in slot i has its tables, and with them these directions: it waits no longer.
-pub fn bring(s: &mut [u64], store: &mut [u8], i: usize, o: Part, n: Part, out: &[u8], inn: &[u8])
-    requires s_len { length s.old ≡ port_words }
-    requires store_len { length store.old ≡ store_size }
+pub fn bring(s: &mut [u64; PORT], store: &mut [u8; STORE], i: usize, o: Part, n: Part, out: &[u8], inn: &[u8])
     requires i_bound { i < (head_of s.old).held }
     requires holding { Holding out.now o × Holding inn.now n }
     ensures { Supplied i s.old store.old s.new store.new o n out.now inn.now }

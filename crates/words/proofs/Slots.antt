@@ -25,7 +25,7 @@ use Rattle.words.specs.declared.Part.{Part}
 use Rattle.words.specs.declared.Slot.{Slot}
 use Rattle.words.specs.declared.Head.{Head}
 use Rattle.words.specs.Sizes.{port_words, most_slots, head_size, slot_words, first_words, used_words, line_at}
-use Rattle.words.specs.Slots.{on, slot_request, part_at_lem, part_in, slot_of_lem, first_words_of, awaited_words_of, words_of, PartFits, TableFits, SlotFits, slot_at, region, slots_from, slots, no_slot, part_for}
+use Rattle.words.specs.Slots.{on, part_at_lem, part_in, slot_of_lem, first_words_of, awaited_words_of, words_of, PartFits, TableFits, SlotFits, slot_at, region, slots_from, slots, no_slot, part_for}
 use Rattle.words.specs.Line.{count_in, first_in, ring_from, behind, line}
 use Rattle.words.specs.Head.{head_of, head_words_lem, HeadFits, SlotChanged, HeadChanged}
 
@@ -89,26 +89,12 @@ slot_at_lem l i h = rw zero-add at (slots_at most_slots 0 l i h)
 pub word_at : (l : List ℕ) (i k : ℕ) → k < slot_words → get_or (region l i) k 0 ≡ get_or l (slot_at i + k) 0
 word_at l i k h = get_or-take slot_words (drop (slot_at i) l) k 0 h ∙ get_or-drop (slot_at i) l k 0
 
--- the first are the request, and the first of all its tag
-pub slot_request_lem : (l : List ℕ) (i : ℕ) → i < most_slots → (get_or (slots l) i no_slot).request ≡ slot_request (region l i)
-slot_request_lem l i h = ap (λ (c : Slot). c.request) (slot_at_lem l i h)
-
+-- the first of all is its tag
 pub slot_tag : (l : List ℕ) (i : ℕ) → i < most_slots → (get_or (slots l) i no_slot).request.tag ≡ get_or l (slot_at i) 0
 slot_tag l i h =
     ap (λ (c : Slot). c.request.tag) (slot_at_lem l i h) ∙ word_at l i 0 (omega arith) ∙ ap (λ (k : ℕ). get_or l k 0) (add-zero (slot_at i))
 
--- then whether a plan was stated, and the place
-pub slot_planned : (l : List ℕ) (i : ℕ) → i < most_slots → (get_or (slots l) i no_slot).planned ≡ on (get_or l (slot_at i + 4) 0)
-slot_planned l i h = ap (λ (c : Slot). c.planned) (slot_at_lem l i h) ∙ ap on (word_at l i 4 (omega arith))
-
-pub slot_place : (l : List ℕ) (i : ℕ) → i < most_slots → (get_or (slots l) i no_slot).place ≡ get_or l (slot_at i + 5) 0 % most_slots
-slot_place l i h = ap (λ (c : Slot). c.place) (slot_at_lem l i h) ∙ ap (λ (x : ℕ). x % most_slots) (word_at l i 5 (omega arith))
-
--- whether it waits
-pub slot_waiting : (l : List ℕ) (i : ℕ) → i < most_slots → (get_or (slots l) i no_slot).awaits.waiting ≡ on (get_or l (slot_at i + first_words) 0)
-slot_waiting l i h = ap (λ (c : Slot). c.awaits.waiting) (slot_at_lem l i h) ∙ ap on (word_at l i first_words (omega arith))
-
--- and each direction
+-- each direction, in its words
 pub slot_part : (l : List ℕ) (i : ℕ) → i < most_slots → (d : Direction) → part_for d (get_or (slots l) i no_slot) ≡ part_in (region l i) (part_at_lem d)
 slot_part l i h Out = ap (part_for Out) (slot_at_lem l i h)
 slot_part l i h In = ap (part_for In) (slot_at_lem l i h)

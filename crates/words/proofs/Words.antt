@@ -1,15 +1,15 @@
 -- Single words of a port written: what the head says then, and what a slot says; and a slot's words shifted to another.
 -- Assumes nothing.
-use mathlib.Core.Path.{◌≡◌, refl, sym, ◌∙◌, ap, subst}
+use mathlib.Core.Path.{◌≡◌, refl, sym, ◌∙◌, ap}
 use mathlib.Core.Bool.{Bool}
 use mathlib.Core.List.{List, ◌++◌}
-use mathlib.Core.Logic.{⊎_elim}
+use mathlib.Core.Logic.{◌⊎◌, inl, inr, ⊎_elim}
 use Prim.Native.Nat.{ℕ, min, ◌+◌, ◌-◌, ◌*◌, ◌%◌, ◌^◌, ◌≤◌, ◌<◌}
 use native.Mathlib.Omega.{arith}
-use native.Mathlib.Nat.{zero-add, mod-eq_of_lt}
-use native.Mathlib.Numerals.{add-one}
-use lib.ListN.{length, get_or, take, drop, set, length-take, length-drop, length-set}
-use lib.Seq.{paste, paste-suc, take-paste, drop-set-lt, drop-set-add, take-set-lt, take-set-le}
+use native.Mathlib.Nat.{mod-eq_of_lt}
+use lib.ListN.{length, get_or, take, drop, set, length-take, length-drop}
+use lib.Seq.{paste, take-paste, length-take-le, drop_at, drop-set-lt, drop-set-add, take-set-lt, take-set-le}
+use Rattle.std.proofs.lemmas.List.{take-take, drop-take}
 use Rattle.srp.specs.Bytes.{bit}
 use Rattle.srp.specs.declared.Direction.{Direction}
 use Rattle.srp.specs.declared.Direction.TheVariants.{Out, In}
@@ -18,7 +18,7 @@ use Rattle.words.specs.Sizes.{port_words, most_slots, head_size, slot_words, par
 use Rattle.words.specs.Slots.{slot_of_lem, slot_at, region, slots, no_slot, part_at_lem, planned_slot, moved_slot}
 use Rattle.words.specs.Line.{behind, line}
 use Rattle.words.specs.Head.{head_of, counted_of, CountsFit, SlotChanged, HeadChanged}
-use Rattle.words.proofs.Slots.{slots_same, slot_at_lem, word_at, words_at, words_front, spread, on_bit, head_same, line_same, either, OnlySlot, put_slot}
+use Rattle.words.proofs.Slots.{slots_same, slot_at_lem, words_at, words_front, spread, on_bit, head_same, line_same, apart, stays_behind, either, OnlySlot, put_slot}
 
 -- ── words of the head
 
@@ -162,43 +162,37 @@ slot_same : (r r' : List ℕ) → take used_words r' ≡ take used_words r → s
 unfolding words_at
 slot_same r r' e = ap slot_of_lem (sym (words_front used_words 0 used_words r' (omega arith)) ∙ ap (words_at used_words 0) e ∙ words_front used_words 0 used_words r (omega arith))
 
--- slot i's words, of which the first j are those of slot k
-abbrev mixed : List ℕ → ℕ → ℕ → ℕ → List ℕ
-mixed l k i j = paste (region l i) 0 (region l k) j
-
--- the words l' are l but for the first j words of slot i, which are those of slot k
-pub record Shifting (l l' : List ℕ) (k i j : ℕ) : Type 0 where
-  pub turn : j ≤ used_words
-  pub same_long : length l' ≡ length l
-  pub only : OnlySlot l l' i (mixed l k i j)
-
+-- the words of slot k that are used, written over those of slot i
 module _ (l : List ℕ) (long : length l ≡ port_words) (k i : ℕ) (h : k < most_slots) (g : i < k) where
-  -- before the first word
-  pub shift_start : Shifting l l k i 0
-  shift_start = record { turn = omega arith; same_long = refl; only = unwritten l i }
+  abbrev from : List ℕ
+  from = drop (slot_at k) l
 
-  -- one word more
-  pub shift_more : (l' : List ℕ) (j : ℕ) → Shifting l l' k i j → j < used_words
-      → Shifting l (set l' (slot_at i + j) (get_or l' (slot_at k + j) 0)) k i (j + 1)
-  shift_more l' j C q =
-      let x : ℕ = get_or l' (slot_at k + j) 0 in
-      let said : x ≡ get_or (region l k) j 0 =
-      sym (word_at l' k j (omega arith)) ∙ ap (λ (r : List ℕ). get_or r j 0) (C.only.others k (λ e. omega arith)) in
-      let more : set (mixed l k i j) j x ≡ mixed l k i (j + 1) =
-      ap (λ (n : ℕ). set (mixed l k i j) n x) (sym (zero-add j))
-      ∙ ap (set (mixed l k i j) (0 + j)) said
-      ∙ paste-suc (region l i) 0 (region l k) j 0 (omega (arith, slot_long l long i (omega arith))) (omega (arith, slot_long l long k h))
-      ∙ ap (mixed l k i) (sym (add-one j)) in
-      record {
-        turn = omega arith;
-        same_long = simp length-set C.same_long;
-        only = subst (λ (r : List ℕ). OnlySlot l (set l' (slot_at i + j) x) i r) more (slot_word i (omega arith) C.only j x (omega arith));
-      }
+  abbrev over : List ℕ
+  over = paste l (slot_at i) from used_words
 
-  -- all that are used: the slot has the command
-  pub shifted : (l' : List ℕ) (j : ℕ) → Shifting l l' k i j → used_words ≤ j → SlotChanged l l' i (λ _. get_or (slots l) k no_slot)
-  shifted l' j C q =
-      let e : j ≡ used_words = omega (arith, C.turn) in
-      let O : OnlySlot l l' i (mixed l k i used_words) = subst (λ (n : ℕ). OnlySlot l l' i (mixed l k i n)) e C.only in
-      let same : take used_words (mixed l k i used_words) ≡ take used_words (region l k) = take-paste (region l i) 0 (region l k) used_words (omega arith) (omega (arith, slot_long l long k h)) in
-      put_slot O (omega arith) (λ _. get_or (slots l) k no_slot) (slot_same (region l k) (mixed l k i used_words) same ∙ sym (slot_at_lem l k h))
+  enough : used_words ≤ length from
+  enough = rw length-drop (omega arith)
+
+  stays : (at n : ℕ) → (at + n ≤ slot_at i) ⊎ (slot_at i + used_words ≤ at) → take n (drop at over) ≡ take n (drop at l)
+  stays = apart l (slot_at i) from used_words (omega arith) enough
+
+  -- they stand there
+  same : take used_words (region over i) ≡ take used_words (region l k)
+  same =
+      take-take used_words slot_words (drop (slot_at i) over) (omega arith)
+      ∙ sym (drop-take (slot_at i) used_words over)
+      ∙ ap (drop (slot_at i)) (take-paste l (slot_at i) from used_words (omega arith) enough)
+      ∙ drop_at (take (slot_at i) l) (take used_words from) (slot_at i) (length-take-le (slot_at i) l (omega arith))
+      ∙ sym (take-take used_words slot_words from (omega arith))
+
+  -- the slot has the command
+  pub shifted : SlotChanged l over i (λ _. get_or (slots l) k no_slot)
+  shifted =
+      put_slot
+      (record {
+        this = refl;
+        others = λ j ne. stays (slot_at j) slot_words (⊎_elim (λ q. inl (omega arith)) (λ q. inr (omega arith)) (either j i ne));
+        head = head_same l over (stays 0 head_size (inl (omega arith)));
+        rest = stays_behind l (slot_at i) from used_words (omega arith) enough line_at (omega arith);
+      })
+      (omega arith) (λ _. get_or (slots l) k no_slot) (slot_same (region l k) (region over i) same ∙ sym (slot_at_lem l k h))

@@ -1,10 +1,10 @@
 // The commands in their slots: the request, whether a plan was stated, its place in the store, each direction, and what it keeps while it waits.
 ghost use Rattle.std.specs.Prelude.{◌≡◌, ◌+◌, ◌≤◌, ◌<◌, length, get_or};
 ghost use Rattle.words.specs.Sizes.{port_words, most_slots, slot_words, request_words, part_words};
-ghost use Rattle.words.specs.Slots.{slot_request, part_at_lem, part_in, slot_of_lem, first_words_of, slots, no_slot, SlotIs, SlotFits, PartIs, planned_slot, moved_slot};
+ghost use Rattle.words.specs.Slots.{slot_request, part_at_lem, part_in, slot_of_lem, first_words_of, slots, no_slot, region, SlotIs, SlotFits, PartIs, planned_slot, moved_slot};
 ghost use Rattle.words.specs.Head.{SlotChanged};
 
-use crate::{HEAD, Part, SLOT, SLOTS, Slot, waiting};
+use crate::{HEAD, PORT, Part, SLOT, SLOTS, Slot, waiting};
 use srp::{Direction, Request, Transfer, limits};
 
 // Words of a slot: the request's four, whether a plan was stated, the place, and those of each direction.
@@ -57,9 +57,9 @@ fn part_of(r: &[u64], at: usize) -> Part
     requires { at + part_words ≤ length r.now }
     ensures { result ≡ part_in r.now at }
 {
-    let segments = wire::least(r[at], MOST_SEGMENTS);
+    let segments = r[at].min(MOST_SEGMENTS);
     let next = r[at + NEXT] % NUMBERS;
-    let number = wire::least(r[at + NUMBER], next);
+    let number = r[at + NUMBER].min(next);
     let transfer = Transfer {
         required: (r[at + REQUIRED] % NUMBERS) as u32,
         highest: (r[at + HIGHEST] % NUMBERS) as u32,
@@ -70,7 +70,7 @@ fn part_of(r: &[u64], at: usize) -> Part
     Part {
         segments: segments as u8,
         total: (r[at + TOTAL] % NUMBERS) as u32,
-        transfer: transfer,
+        transfer,
     }
 }
 
@@ -79,17 +79,13 @@ fn slot_of(r: &[u64]) -> Slot
     requires { length r.now ≡ slot_words }
     ensures { result ≡ slot_of_lem r.now }
 {
-    let request = request_of(r);
-    let out = part_of(r, OUT);
-    let inn = part_of(r, IN);
-    let awaits = waiting::awaited_of(r);
     Slot {
-        request: request,
+        request: request_of(r),
         planned: r[PLANNED] % 2 == 1,
         place: (r[PLACE_AT] % PLACES) as u8,
-        out: out,
-        inn: inn,
-        awaits: awaits,
+        out: part_of(r, OUT),
+        inn: part_of(r, IN),
+        awaits: waiting::awaited_of(r),
     }
 }
 
@@ -125,42 +121,50 @@ fn words_of(c: Slot) -> [u64; 20]
     ]
 }
 
+// The words of slot i.
+pub(crate) fn slot(s: &[u64; PORT], i: usize) -> &[u64]
+    requires i_lt_most_slots { i < most_slots }
+    ensures words { result.now ≡ region s.now i }
+    ensures long { length result.now ≡ slot_words }
+{
+    let at = SLOT * i + HEAD;
+    &s[at..at + SLOT]
+}
+
 // The command in slot i.
-pub fn load(s: &[u64], i: usize) -> Slot
-    requires s_len { length s.now ≡ port_words }
+#[tactic(auto, using(crate::proofs::Slots::slot_at_lem, crate::proofs::Ports::said_fits))]
+pub fn load(s: &[u64; PORT], i: usize) -> Slot
     requires i_lt_most_slots { i < most_slots }
     ensures { SlotIs s.now i result }
 {
-    let at = SLOT * i + HEAD;
-    slot_of(&s[at..at + SLOT])
+    slot_of(slot(s, i))
 }
 
 // The request of the command in slot i.
-pub fn load_request(s: &[u64], i: usize) -> Request
-    requires s_len { length s.now ≡ port_words }
+#[tactic(auto, using(crate::proofs::Slots::slot_at_lem))]
+pub fn load_request(s: &[u64; PORT], i: usize) -> Request
     requires i_lt_most_slots { i < most_slots }
     ensures { result ≡ (get_or (slots s.now) i no_slot).request }
 {
-    let at = SLOT * i + HEAD;
-    request_of(&s[at..at + SLOT])
+    request_of(slot(s, i))
 }
 
 // Whether a plan was stated for the command in slot i.
-pub fn load_planned(s: &[u64], i: usize) -> bool
-    requires s_len { length s.now ≡ port_words }
+#[tactic(auto, using(crate::proofs::Slots::slot_at_lem))]
+pub fn load_planned(s: &[u64; PORT], i: usize) -> bool
     requires i_lt_most_slots { i < most_slots }
     ensures { result ≡ (get_or (slots s.now) i no_slot).planned }
 {
-    s[SLOT * i + HEAD + PLANNED] % 2 == 1
+    slot(s, i)[PLANNED] % 2 == 1
 }
 
 // The place in the store of the command in slot i.
-pub fn load_place(s: &[u64], i: usize) -> u8
-    requires s_len { length s.now ≡ port_words }
+#[tactic(auto, using(crate::proofs::Slots::slot_at_lem))]
+pub fn load_place(s: &[u64; PORT], i: usize) -> u8
     requires i_lt_most_slots { i < most_slots }
     ensures { (result ≡ (get_or (slots s.now) i no_slot).place) × (result < most_slots) }
 {
-    (s[SLOT * i + HEAD + PLACE_AT] % PLACES) as u8
+    (slot(s, i)[PLACE_AT] % PLACES) as u8
 }
 
 // Where the words of a direction stand in a slot.
@@ -174,18 +178,15 @@ fn part_at(d: Direction) -> usize
 }
 
 // One direction of the command in slot i.
-pub fn load_part(s: &[u64], i: usize, d: Direction) -> Part
-    requires s_len { length s.now ≡ port_words }
+#[tactic(auto, using(crate::proofs::Slots::slot_part, crate::proofs::Ports::part_fits))]
+pub fn load_part(s: &[u64; PORT], i: usize, d: Direction) -> Part
     requires i_lt_most_slots { i < most_slots }
     ensures { PartIs s.now i d result }
 {
-    let at = SLOT * i + HEAD;
-    let k = part_at(d);
-    part_of(&s[at..at + SLOT], k)
+    part_of(slot(s, i), part_at(d))
 }
 
-pub fn save(s: &mut [u64], i: usize, c: Slot)
-    requires s_len { length s.old ≡ port_words }
+pub fn save(s: &mut [u64; PORT], i: usize, c: Slot)
     requires i_lt_most_slots { i < most_slots }
     requires slot_fits { SlotFits c }
     ensures { SlotChanged s.old s.new i (λ _. c) }
@@ -193,29 +194,23 @@ pub fn save(s: &mut [u64], i: usize, c: Slot)
     let at = SLOT * i + HEAD;
     let w = words_of(c);
     let a = waiting::awaited_words(c.awaits);
-    crate::put_words(&mut *s, at, &w);
-    crate::put_words(s, at + USED, &a);
+    crate::put(&mut *s, at, &w);
+    crate::put(s, at + USED, &a);
 }
 
 // The command in slot `from` put into slot `to` before it.
-pub fn shift_slot(s: &mut [u64], from: usize, to: usize)
-    requires s_len { length s.old ≡ port_words }
+pub fn shift_slot(s: &mut [u64; PORT], from: usize, to: usize)
     requires from_lt_most_slots { from < most_slots }
     requires to_lt_from { to < from }
     ensures { SlotChanged s.old s.new to (λ _. get_or (slots s.old) from no_slot) }
 {
     let source = SLOT * from + HEAD;
     let target = SLOT * to + HEAD;
-    let mut j: usize = 0;
-    while j < waiting::USED {
-        s[target + j] = s[source + j];
-        j += 1;
-    }
+    s.copy_within(source..source + waiting::USED, target);
 }
 
 // The command in slot i states what it requires each way.
-pub fn set_plan(s: &mut [u64], i: usize, out: u32, inn: u32)
-    requires s_len { length s.old ≡ port_words }
+pub fn set_plan(s: &mut [u64; PORT], i: usize, out: u32, inn: u32)
     requires i_lt_most_slots { i < most_slots }
     ensures { SlotChanged s.old s.new i (planned_slot out inn) }
 {
@@ -227,7 +222,7 @@ pub fn set_plan(s: &mut [u64], i: usize, out: u32, inn: u32)
 
 // Another h and another current move of a direction of the command in slot i.
 pub fn set_move(
-    s: &mut [u64],
+    s: &mut [u64; PORT],
     i: usize,
     d: Direction,
     highest: u32,
@@ -235,7 +230,6 @@ pub fn set_move(
     end: u32,
     number: u32,
 )
-    requires s_len { length s.old ≡ port_words }
     requires i_lt_most_slots { i < most_slots }
     requires number_le_next { number ≤ next }
     ensures { SlotChanged s.old s.new i (moved_slot d highest next end number) }

@@ -101,21 +101,17 @@ pub struct Slot {
     pub awaits: Awaited,
 }
 
-// Words written into a slice from a place on.
-pub fn put_words(to: &mut [u64], at: usize, from: &[u64])
+// A list written into a slice from a place on.
+pub fn put<T: Copy>(to: &mut [T], at: usize, from: &[T])
     requires { at + length from.now ≤ length to.old }
     ensures { to.new ≡ paste to.old at from.now (length from.now) }
 {
-    let mut j: usize = 0;
-    while j < from.len() {
-        to[at + j] = from[j];
-        j += 1;
-    }
+    let end = at + from.len();
+    to[at..end].copy_from_slice(from);
 }
 
 // Q, where a bad one is read as none.
-pub fn load_boundary(s: &[u64]) -> u64
-    requires { length s.now ≡ port_words }
+pub fn load_boundary(s: &[u64; PORT]) -> u64
     ensures { (result ≡ (terms_in s.now).boundary) × (bad_boundary result ≡ false) }
 {
     let word = s[TERMS + 5];
@@ -123,8 +119,7 @@ pub fn load_boundary(s: &[u64]) -> u64
 }
 
 // What the login settled.
-fn terms_of(s: &[u64]) -> Terms
-    requires { length s.now ≡ port_words }
+fn terms_of(s: &[u64; PORT]) -> Terms
     ensures { result ≡ terms_in s.now }
 {
     Terms {
@@ -137,20 +132,18 @@ fn terms_of(s: &[u64]) -> Terms
     }
 }
 
-pub fn get_head(s: &[u64]) -> Head
-    requires { length s.now ≡ port_words }
+pub fn get_head(s: &[u64; PORT]) -> Head
     ensures { HeadIs s.now result }
 {
-    let held = wire::least(s[HELD], MOST_BUFFERS);
-    let announced = wire::least(s[ANNOUNCED], MOST_BUFFERS - held);
-    let terms = terms_of(s);
+    let held = s[HELD].min(MOST_BUFFERS);
+    let announced = s[ANNOUNCED].min(MOST_BUFFERS - held);
     Head {
         live: s[LIVE] % 2 == 1,
         held: held as usize,
         wanted: (s[WANTED] % MOST_BUFFERS + 1) as u8,
         announced: announced as u8,
         unanswered: s[UNANSWERED] % 2 == 1,
-        terms: terms,
+        terms: terms_of(s),
     }
 }
 
@@ -174,35 +167,28 @@ fn head_words(h: Head) -> [u64; 11]
     ]
 }
 
-pub fn set_head(s: &mut [u64], h: Head)
-    requires s_len { length s.old ≡ port_words }
+pub fn set_head(s: &mut [u64; PORT], h: Head)
     requires head_fits { HeadFits h }
     ensures { HeadChanged s.old s.new (λ _. h) }
 {
     let w = head_words(h);
-    put_words(s, 0, &w);
+    put(s, 0, &w);
 }
 
 // Other counts in the head: H, W, A, and whether a credit request is unanswered.
-pub fn set_counts(s: &mut [u64], held: usize, wanted: u8, announced: u8, unanswered: bool)
-    requires s_len { length s.old ≡ port_words }
-    requires counts_fit { CountsFit held wanted announced }
-    ensures { HeadChanged s.old s.new (counted_of held wanted announced unanswered) }
+pub fn set_counts(s: &mut [u64; PORT], h: Head)
+    requires counts_fit { CountsFit h.held h.wanted h.announced }
+    ensures { HeadChanged s.old s.new (counted_of h.held h.wanted h.announced h.unanswered) }
 {
-    s[HELD] = held as u64;
-    s[WANTED] = (wanted - 1) as u64;
-    s[ANNOUNCED] = announced as u64;
-    s[UNANSWERED] = unanswered as u64;
+    s[HELD] = h.held as u64;
+    s[WANTED] = (h.wanted - 1) as u64;
+    s[ANNOUNCED] = h.announced as u64;
+    s[UNANSWERED] = h.unanswered as u64;
 }
 
 // The closed port: every word 0.
-pub fn clear(s: &mut [u64])
-    requires { length s.old ≡ port_words }
+pub fn clear(s: &mut [u64; PORT])
     ensures { s.new ≡ closed_words }
 {
-    let mut i: usize = 0;
-    while i < s.len() {
-        s[i] = 0;
-        i += 1;
-    }
+    s.fill(0);
 }

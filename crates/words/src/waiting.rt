@@ -3,7 +3,7 @@ ghost use Rattle.std.specs.Prelude.{◌≡◌, ◌+◌, ◌≤◌, ◌<◌, leng
 ghost use Rattle.words.specs.Sizes.{port_words, most_slots, slot_words, table_words};
 ghost use Rattle.words.specs.Slots.{descriptor_in, awaited_in, awaited_words_of, slots, no_slot};
 
-use crate::{Awaited, HEAD, SLOT, commands};
+use crate::{Awaited, PORT, commands};
 use srp::{Descriptor, limits};
 
 // Words of a slot: whether the command waits, and those of each direction's descriptor.
@@ -36,7 +36,7 @@ fn descriptor_of(r: &[u64], at: usize) -> Descriptor
     requires { at + table_words ≤ length r.now }
     ensures { result ≡ descriptor_in r.now at }
 {
-    let count = wire::least(r[at + COUNT], MOST_COPIES);
+    let count = r[at + COUNT].min(MOST_COPIES);
     Descriptor {
         format: (r[at] % FORMATS) as u8,
         count: count as u8,
@@ -50,12 +50,10 @@ pub fn awaited_of(r: &[u64]) -> Awaited
     requires { length r.now ≡ slot_words }
     ensures { result ≡ awaited_in r.now }
 {
-    let out = descriptor_of(r, OUT);
-    let inn = descriptor_of(r, IN);
     Awaited {
         waiting: r[WAITING] % 2 == 1,
-        out: out,
-        inn: inn,
+        out: descriptor_of(r, OUT),
+        inn: descriptor_of(r, IN),
     }
 }
 
@@ -78,10 +76,10 @@ pub fn awaited_words(a: Awaited) -> [u64; 9]
 }
 
 // Whether the command in slot i waits for its tables.
-pub fn load_waiting(s: &[u64], i: usize) -> bool
-    requires s_len { length s.now ≡ port_words }
+#[tactic(auto, using(crate::proofs::Slots::slot_at_lem))]
+pub fn load_waiting(s: &[u64; PORT], i: usize) -> bool
     requires i_lt_most_slots { i < most_slots }
     ensures { result ≡ (get_or (slots s.now) i no_slot).awaits.waiting }
 {
-    s[SLOT * i + HEAD + WAITING] % 2 == 1
+    commands::slot(s, i)[WAITING] % 2 == 1
 }

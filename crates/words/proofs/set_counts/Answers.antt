@@ -1,8 +1,9 @@
+use borrow.Author.Rules.{rules}
 use Rattle.words.proofs.Words.{recounted_put}
 use Rattle.words.proofs.set_counts.Goals as goal
 
--- src/lib.rt:155:1
+-- src/lib.rt:179:1
 pub returns : goal.returns
 returns c =
-    let a = c.args in
-    recounted_put a.s.now a.held a.wanted a.announced a.unanswered c.requires.s_len c.requires.counts_fit
+    let h = c.args.h in
+    recounted_put c.args.s.now h.held h.wanted h.announced h.unanswered (search rules) c.requires.counts_fit
