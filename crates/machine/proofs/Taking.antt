@@ -28,7 +28,7 @@ use Rattle.machine.specs.Events.{reading, after_refusal, refusal_writes, front_e
 use Rattle.srp.specs.declared.Refusal.{Refusal}
 use Rattle.srp.specs.declared.Refusal.TheVariants.{NoCredit}
 use Rattle.srp.specs.declared.Message.{Message}
-use Rattle.srp.specs.declared.Message.TheVariants.{Bad, Cmd, TskMgmt, CredRsp, ILogout}
+use Rattle.srp.specs.declared.Message.TheVariants.{Cmd, TskMgmt, CredRsp, ILogout}
 use Rattle.srp.specs.declared.Place.{Place}
 use Rattle.srp.specs.declared.Reply.{Reply}
 use Rattle.srp.specs.declared.Reply.TheVariants.{Performed, NewCommand, TaskAnswered, CreditSettled}
@@ -66,10 +66,10 @@ module _ {L : Login} {m : Machine} {p : Port} (h : InStep L m p) (s : List ℕ) 
           keep = tt;
         }
 
-    accept : (d : Message) → ByType (is_request s) d → first_of_checks (take_checks p room s d) ≡ none
+    accept : (d : Result Message Refusal) → ByType (is_request s) d → first_of_checks (take_checks p room s d) ≡ none
         → Fine L (front_effect s ss d m (refusal_in (accepted p s d).reply)) (front_closes s ss d (refusal_in (accepted p s d).reply)) (accepted p s d)
-    accept (Bad r) k z = absurd (true≢false (passes (take_checks p room s (Bad r)) z).1.1.0)
-    accept (Cmd c) k z =
+    accept (Err r) k z = absurd (true≢false (passes (take_checks p room s (Err r)) z).1.1.0)
+    accept (Ok (Cmd c)) k z =
         let q = passed p room s c z in
         let n = new_track_lem L.terms c s q.fields in
         let free : Absent (new_track c s).request.tag m.work.tracks = rw n.request (sym (open_same h c.request.tag) ∙ q.fresh) in
@@ -84,7 +84,7 @@ module _ {L : Login} {m : Machine} {p : Port} (h : InStep L m p) (s : List ℕ) 
           lined = lined_snoc (pieces_left L.terms) (new_track c s) m.work.tracks m.work.line n.no_pieces h.work.lined;
         }) in
         quiet o (Ok (NewCommand c.request.tag c.request.lun c.cdb (waits c)))
-    accept (TskMgmt c) k z =
+    accept (Ok (TskMgmt c)) k z =
         let left : List Track = without (aborted c) m.work.tracks in
         let o = spent k (without (aborted c) p.held) (left_by (aborted c) p.held p.line)
         (took_request (with_ended m.work (aborted c) (length m.work.tracks - length left))) (omega (arith, length_without (aborted c) p.held))
@@ -98,11 +98,11 @@ module _ {L : Login} {m : Machine} {p : Port} (h : InStep L m p) (s : List ℕ) 
           lined = lined_endings (pieces_left L.terms) (aborted c) m.work.tracks m.work.line h.work.distinct h.work.lined;
         }) in
         codes o (Ok (TaskAnswered c.request.tag c.request.lun)) (solicited c.request (task_code c.function)) c.request.tag (task_code c.function)
-    accept (CredRsp g) k z = quiet (with_wire_lem h ((reading s (CredRsp g)).effect (with_queue m ss)).wire p.announced false (same_credit k) (omega (arith, h.room)) refl) (Ok CreditSettled)
-    accept ILogout k z = record { lift = nothing_lifts ((reading s ILogout).effect (with_queue m ss)); keep = tt }
+    accept (Ok (CredRsp g)) k z = quiet (with_wire_lem h ((reading s (Ok (CredRsp g))).effect (with_queue m ss)).wire p.announced false (same_credit k) (omega (arith, h.room)) refl) (Ok CreditSettled)
+    accept (Ok ILogout) k z = record { lift = nothing_lifts ((reading s (Ok ILogout)).effect (with_queue m ss)); keep = tt }
 
     -- a refusal: the message stays in its queue, is answered, or closes the channel
-    refuse : (d : Message) → ByType (is_request s) d → (r : Refusal) → first_of_checks (take_checks p room s d) ≡ some r
+    refuse : (d : Result Message Refusal) → ByType (is_request s) d → (r : Refusal) → first_of_checks (take_checks p room s d) ≡ some r
         → Fine L (front_effect s ss d m (refusal_in (refused_by p d r).reply)) (front_closes s ss d (refusal_in (refused_by p d r).reply)) (refused_by p d r)
     refuse d k r f = rw (refused_as p d r) (go (conduct_of r) (drawn p room s (is_request s) d k r f).suits)
       where
@@ -123,7 +123,7 @@ module _ {L : Login} {m : Machine} {p : Port} (h : InStep L m p) (s : List ℕ) 
         go stays y = quiet h (Err r)
         go alters_nothing y = absurd (true≢false (sym h.live ∙ y))
 
-    taking : (d : Message) → ByType (is_request s) d
+    taking : (d : Result Message Refusal) → ByType (is_request s) d
         → Fine L (front_effect s ss d m (refusal_in (take_read p room s d).reply)) (front_closes s ss d (refusal_in (take_read p room s d).reply)) (take_read p room s d)
     taking d k = go (first_of_checks (take_checks p room s d)) refl
       where
@@ -133,17 +133,17 @@ module _ {L : Login} {m : Machine} {p : Port} (h : InStep L m p) (s : List ℕ) 
         go (some r) f = refuse d k r f
 
     -- the reply is no refusal for credit
-    credited : (d : Message) → ByType (is_request s) d → (take_read p room s d).reply ≡ Err NoCredit → ⊥
+    credited : (d : Result Message Refusal) → ByType (is_request s) d → (take_read p room s d).reply ≡ Err NoCredit → ⊥
     credited d k = go (first_of_checks (take_checks p room s d)) refl d k
       where
-        first : (d : Message) → ByType (is_request s) d → (accepted p s d).reply ≡ Err NoCredit → ⊥
-        first (Bad r) k g = k.not_credit (ap number_of (let q : r ≡ NoCredit = cc (refused_as p (Bad r) r) in q))
-        first (Cmd c) k g = let z : ◌≡◌ {A = ℕ} 0 1 = cc in omega arith
-        first (TskMgmt c) k g = let z : ◌≡◌ {A = ℕ} 0 1 = cc in omega arith
-        first (CredRsp c) k g = let z : ◌≡◌ {A = ℕ} 0 1 = cc in omega arith
-        first ILogout k g = let z : ◌≡◌ {A = ℕ} 0 1 = cc in omega arith
+        first : (d : Result Message Refusal) → ByType (is_request s) d → (accepted p s d).reply ≡ Err NoCredit → ⊥
+        first (Err r) k g = k.not_credit (ap number_of (let q : r ≡ NoCredit = cc (refused_as p (Err r) r) in q))
+        first (Ok (Cmd c)) k g = let z : ◌≡◌ {A = ℕ} 0 1 = cc in omega arith
+        first (Ok (TskMgmt c)) k g = let z : ◌≡◌ {A = ℕ} 0 1 = cc in omega arith
+        first (Ok (CredRsp c)) k g = let z : ◌≡◌ {A = ℕ} 0 1 = cc in omega arith
+        first (Ok ILogout) k g = let z : ◌≡◌ {A = ℕ} 0 1 = cc in omega arith
 
-        go : (v : Option Refusal) → first_of_checks (take_checks p room s d) ≡ v → (d' : Message) → ByType (is_request s) d' → (take_by v p s d').reply ≡ Err NoCredit → ⊥
+        go : (v : Option Refusal) → first_of_checks (take_checks p room s d) ≡ v → (d' : Result Message Refusal) → ByType (is_request s) d' → (take_by v p s d').reply ≡ Err NoCredit → ⊥
         go none f d' k' g = first d' k' g
         go (some r) f d' k' g =
             let q : r ≡ NoCredit = cc (refused_as p d' r) in
@@ -153,7 +153,7 @@ module _ {L : Login} {m : Machine} {p : Port} (h : InStep L m p) (s : List ℕ) 
 -- ── what is written, and what is refused
 
 module _ (p : Port) (room : ℕ) (s : List ℕ) (ss : List (List ℕ)) where
-  wrote_same : (d : Message) → map type_of (take_read p room s d).wrote ≡ front_writes s ss d (refusal_in (take_read p room s d).reply)
+  wrote_same : (d : Result Message Refusal) → map type_of (take_read p room s d).wrote ≡ front_writes s ss d (refusal_in (take_read p room s d).reply)
   wrote_same d = go (first_of_checks (take_checks p room s d)) refl
     where
       by : (c : Conduct) (r : Refusal) → map type_of (conducted c p d r).wrote ≡ refusal_writes c
@@ -162,12 +162,12 @@ module _ (p : Port) (room : ℕ) (s : List ℕ) (ss : List (List ℕ)) where
       by stays r = refl
       by alters_nothing r = refl
 
-      accepts : (d : Message) → first_of_checks (take_checks p room s d) ≡ none → map type_of (accepted p s d).wrote ≡ front_writes s ss d (refusal_in (accepted p s d).reply)
-      accepts (Bad r) z = absurd (true≢false (passes (take_checks p room s (Bad r)) z).1.1.0)
-      accepts (Cmd c) z = refl
-      accepts (TskMgmt c) z = refl
-      accepts (CredRsp g) z = refl
-      accepts ILogout z = refl
+      accepts : (d : Result Message Refusal) → first_of_checks (take_checks p room s d) ≡ none → map type_of (accepted p s d).wrote ≡ front_writes s ss d (refusal_in (accepted p s d).reply)
+      accepts (Err r) z = absurd (true≢false (passes (take_checks p room s (Err r)) z).1.1.0)
+      accepts (Ok (Cmd c)) z = refl
+      accepts (Ok (TskMgmt c)) z = refl
+      accepts (Ok (CredRsp g)) z = refl
+      accepts (Ok ILogout) z = refl
 
       go : (v : Option Refusal) → first_of_checks (take_checks p room s d) ≡ v → map type_of (take_by v p s d).wrote ≡ front_writes s ss d (refusal_in (take_by v p s d).reply)
       go none z = accepts d z
@@ -175,12 +175,12 @@ module _ (p : Port) (room : ℕ) (s : List ℕ) (ss : List (List ℕ)) where
 
 module _ {L : Login} {m : Machine} {p : Port} (h : InStep L m p) (room : ℕ) where
   -- the checks, by the port's state and by what the machine has counted
-  seen_same : (s : List ℕ) (d : Message) → first_of_checks (take_checks p room s d) ≡ first_of_checks (short room ∷ (reading s d).checks m)
-  seen_same s (Bad r) = rw h.live
-  seen_same s (Cmd c) = rw (h.live, open_same h c.request.tag, h.credit)
-  seen_same s (TskMgmt k) = rw (h.live, open_same h k.request.tag, h.credit)
-  seen_same s (CredRsp g) = rw (h.live, h.unanswered)
-  seen_same s ILogout = rw h.live
+  seen_same : (s : List ℕ) (d : Result Message Refusal) → first_of_checks (take_checks p room s d) ≡ first_of_checks (short room ∷ (reading s d).checks m)
+  seen_same s (Err r) = rw h.live
+  seen_same s (Ok (Cmd c)) = rw (h.live, open_same h c.request.tag, h.credit)
+  seen_same s (Ok (TskMgmt k)) = rw (h.live, open_same h k.request.tag, h.credit)
+  seen_same s (Ok (CredRsp g)) = rw (h.live, h.unanswered)
+  seen_same s (Ok ILogout) = rw h.live
 
   -- the port reads a message as the machine does
   take_same : (s : List ℕ) → take_def p room s ≡ take_read p room s (read L s)

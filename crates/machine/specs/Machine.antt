@@ -1,7 +1,7 @@
 -- Document 01, "Credit", from "The two-ended machine" on, and document 02, jobs 1, 4, 5, 7 and 8: the initiator, two queues and the port, fed the events'
 -- arguments, the calls' replies and the messages written, as bytes. Of the port's state the machine is given nothing here, and D alone where
 -- specs/Demand.antt states the sum. What each event does to it is specs/Events.antt.
-use Rattle.std.specs.Prelude.{Bool, true, false, cond, not, ◌&&◌, ◌||◌, List, [], ◌∷◌, ◌++◌, ℕ, ◌+◌, ◌-◌, min, eqb, length}
+use Rattle.std.specs.Prelude.{Bool, true, false, cond, not, ◌&&◌, ◌||◌, List, [], ◌∷◌, ◌++◌, ℕ, ◌+◌, ◌-◌, min, eqb, length, Result}
 use Rattle.std.proofs.Math.Option.{Option, none, some}
 use Rattle.srp.specs.Bytes.{get, type_of}
 use Rattle.srp.specs.Messages.{delta, rsp, cred_req, t_logout}
@@ -22,6 +22,7 @@ use Rattle.srp.specs.declared.Place.{Place}
 use Rattle.srp.specs.declared.Residual.{Residual}
 use Rattle.srp.specs.declared.Command.{Command}
 use Rattle.srp.specs.declared.Message.{Message}
+use Rattle.srp.specs.declared.Refusal.{Refusal}
 use Rattle.srp.specs.declared.Record.{Record}
 
 -- ── what the initiator reads of a message from the port
@@ -272,5 +273,5 @@ pub record Login : Type 0 where
 abbrev pub login_of : Settings → List ℕ → Login
 login_of c s = record { buffers = c.buffers; terms = terms_of_lem c s }
 
-abbrev pub read : Login → List ℕ → Message
+abbrev pub read : Login → List ℕ → Result Message Refusal
 read L s = read_message_lem L.terms.agreed L.terms.formats s
