@@ -5,14 +5,13 @@ use mathlib.Core.Bool.{Bool}
 use mathlib.Core.List.{List}
 use Prim.Native.Nat.{ℕ, ◌+◌, ◌-◌}
 use lib.ListN.{length-map}
-use Rattle.srp.specs.Credit.{with_wanted, with_unanswered}
 use Rattle.words.specs.declared.Head.{Head}
 use Rattle.words.specs.Slots.{slots}
 use Rattle.words.specs.Line.{line}
 use Rattle.words.specs.Head.{head_of, counted_of, HeadChanged}
 use Rattle.words.specs.View.{open_of, open_port_lem, opens, shown}
 use Rattle.words.proofs.Ports.{opens_long}
-use Rattle.state.specs.Changes.{Alters, Settled}
+use Rattle.state.specs.Changes.{Settled}
 
 -- ── other counts in the head
 
@@ -29,14 +28,6 @@ module _ {l l' : List ℕ} where
 
   -- those of the head that was read
   module _ (h : Head) (is : h ≡ head_of l) where
-    -- another W
-    pub wanted_altered : (w : ℕ) → HeadChanged l l' (counted_of h.held w h.announced h.unanswered) → Alters l l' (λ p. with_wanted p w)
-    wanted_altered w H = record { live = counted_live H; port = counted_port (rw is at H) }
-
-    -- a credit request unanswered, or no longer
-    pub unanswered_altered : (u : Bool) → HeadChanged l l' (counted_of h.held h.wanted h.announced u) → Alters l l' (λ p. with_unanswered p u)
-    unanswered_altered u H = record { live = counted_live H; port = counted_port (rw is at H) }
-
     -- what is due announced
     pub settled : (used delta : ℕ) → delta ≡ h.wanted - (h.announced - used + h.held)
         → HeadChanged l l' (counted_of h.held h.wanted (h.announced - used + delta) h.unanswered) → Settled used delta l l'

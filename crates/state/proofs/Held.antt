@@ -19,7 +19,7 @@ use Rattle.srp.proofs.ListLaws.{map_same, without_map}
 use Rattle.words.specs.declared.Slot.{Slot}
 use Rattle.words.specs.declared.Head.{Head}
 use Rattle.srp.specs.declared.Request.{Request}
-use Rattle.words.specs.Sizes.{port_words, most_slots}
+use Rattle.words.specs.Sizes.{most_slots}
 use Rattle.words.specs.Slots.{slot_at, slots, no_slot}
 use Rattle.words.specs.Line.{line}
 use Rattle.words.specs.Head.{head_of, counted_of, SlotChanged, HeadChanged}
@@ -27,7 +27,7 @@ use Rattle.words.specs.View.{opens, open_of, open_port_lem, shown}
 use Rattle.words.proofs.Slots.{slots_long, slot_tag}
 use Rattle.words.proofs.Ports.{opens_long, tag_at}
 use Rattle.state.specs.Changes.{FoundAt, FoundIs, Alters, ends, over, NoneEnds, ending, without_slots}
-use Rattle.state.specs.declared.Found.TheVariants.{Nothing}
+use Rattle.std.specs.Prelude.{None}
 use Rattle.state.specs.declared.Ending.{Ending}
 
 -- ── the first that passes, in a list of images
@@ -102,7 +102,7 @@ module _ (l : List ℕ) (tag held i : ℕ) (S : Searching l tag held i) where
       }
 
   -- none
-  pub search_end : held ≤ i → FoundIs l tag Nothing
+  pub search_end : held ≤ i → FoundIs l tag None
   search_end h st = none_there (has_tag tag) (open_of st) no_slot (opens l) i (omega (arith, opens_long l, S.count)) S.others
 
 -- ── commands dropped
@@ -135,8 +135,6 @@ module _ {A : Type 0} where
 -- of the words p, with `held` open commands, the words q are made: the first i commands are looked at, `kept` of them stay
 pub record Dropping (e : Ending) (held : ℕ) (p q : List ℕ) (i kept : ℕ) : Type 0 where
   pub count : held ≡ (head_of p).held
-  pub long : length q ≡ port_words
-  pub same_long : length q ≡ length p
   pub head : head_of q ≡ head_of p
   pub line : line q ≡ line p
   pub in_count : i ≤ held
@@ -146,13 +144,11 @@ pub record Dropping (e : Ending) (held : ℕ) (p q : List ℕ) (i kept : ℕ) : 
   pub done : take kept (slots q) ++ without (over e) (drop i (opens p)) ≡ without (over e) (opens p)
 
 -- before the first that may end
-pub drop_start : (e : Ending) (held : ℕ) (p : List ℕ) (i : ℕ) → held ≡ (head_of p).held → length p ≡ port_words → i ≤ (head_of p).held → NoneEnds e p i
+pub drop_start : (e : Ending) (held : ℕ) (p : List ℕ) (i : ℕ) → held ≡ (head_of p).held → i ≤ (head_of p).held → NoneEnds e p i
     → Dropping e held p p i i
-drop_start e held p i n l h N =
+drop_start e held p i n h N =
     record {
       count = n;
-      long = l;
-      same_long = refl;
       head = refl;
       line = refl;
       in_count = omega arith;
@@ -180,8 +176,6 @@ module _ (e : Ending) (held : ℕ) (p q : List ℕ) (i kept : ℕ) (D : Dropping
   drop_ended r is t =
       record {
         count = D.count;
-        long = D.long;
-        same_long = D.same_long;
         head = D.head;
         line = D.line;
         in_count = omega arith;
@@ -192,14 +186,12 @@ module _ (e : Ending) (held : ℕ) (p q : List ℕ) (i kept : ℕ) (D : Dropping
       }
 
   -- this one stays, moved up
-  pub drop_kept : (r : Request) → r ≡ (get_or (slots q) i no_slot).request → ends e r ≡ false → (q' : List ℕ) → length q' ≡ length q
+  pub drop_kept : (r : Request) → r ≡ (get_or (slots q) i no_slot).request → ends e r ≡ false → (q' : List ℕ)
       → SlotChanged q q' kept (λ _. get_or (slots q) i no_slot) → Dropping e held p q' (i + 1) (kept + 1)
-  drop_kept r is t q' lq M =
+  drop_kept r is t q' M =
       let k : kept < length (slots q) = omega (arith, slots_long most_slots 0 q, D.behind, D.small) in
       record {
         count = D.count;
-        long = lq ∙ D.long;
-        same_long = lq ∙ D.same_long;
         head = M.head ∙ D.head;
         line = M.line ∙ D.line;
         in_count = omega arith;
@@ -213,7 +205,7 @@ module _ (e : Ending) (held : ℕ) (p q : List ℕ) (i kept : ℕ) (D : Dropping
   pub drop_unmoved : (r : Request) → r ≡ (get_or (slots q) i no_slot).request → ends e r ≡ false → i ≤ kept → Dropping e held p q (i + 1) (kept + 1)
   drop_unmoved r is t g =
       let k : kept ≡ i = omega (arith, D.behind) in
-      drop_kept r is t q refl (record { slots = rw k (sym (set-get_or (slots q) i no_slot)); head = refl; line = refl })
+      drop_kept r is t q (record { slots = rw k (sym (set-get_or (slots q) i no_slot)); head = refl; line = refl })
 
 module _ (e : Ending) (held : ℕ) (p q : List ℕ) (i kept : ℕ) (D : Dropping e held p q i kept) (end : held ≤ i) where
   stay : take kept (slots q) ≡ without (over e) (opens p)

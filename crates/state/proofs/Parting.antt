@@ -3,7 +3,6 @@
 use mathlib.Core.Path.{◌≡◌, refl, sym, ◌∙◌, ap}
 use mathlib.Core.Bool.{Bool, true, false, not}
 use mathlib.Core.List.{List, [], ◌∷◌, ◌++◌, map, append_assoc, append-nil}
-use mathlib.Core.Option.{Option}
 use Prim.Native.Nat.{ℕ, ◌+◌, ◌≤◌, ◌<◌}
 use native.Mathlib.Omega.{arith}
 use native.Mathlib.Numerals.{add-one}
@@ -16,17 +15,14 @@ use Rattle.srp.specs.Lists.{find, without}
 use Rattle.srp.specs.Credit.{Open, has_tag}
 use Rattle.srp.specs.Line.{is_ended}
 use Rattle.srp.specs.declared.Place.{Place}
-use Rattle.words.specs.Sizes.{port_words}
-use Rattle.words.specs.declared.Slot.{Slot}
-use Rattle.words.specs.Slots.{slots, no_slot}
+use Rattle.words.specs.Slots.{slots}
 use Rattle.words.specs.Head.{head_of}
 use Rattle.words.specs.Line.{first_in, behind, count, ring, line}
 use Rattle.words.specs.View.{open_of, open_port_lem, shown}
 use Rattle.line.specs.Changes.{no_place, PlaceChanged, LengthChanged}
 use Rattle.line.proofs.Ring.{ring_long, line_long}
-use Rattle.state.specs.Changes.{FoundAt, FoundIs, ends, ending, NoneEnds, without_slots, without_ended, Alters}
+use Rattle.state.specs.Changes.{ending, without_slots, without_ended, Alters}
 use Rattle.state.specs.Leaving.{other_tag_lem, CommandEnds, leaves, MoveLeaves, Leaves}
-use Rattle.state.specs.declared.Found.TheVariants.{Nothing}
 use Rattle.state.specs.declared.Ending.{Ending}
 use Rattle.state.specs.declared.Ending.TheVariants.{Finished, Aborted}
 use Rattle.state.specs.declared.Leaving.{Leaving}
@@ -52,20 +48,11 @@ not_this (Finished t) tag (c ∷ cs) o = go (eqb tag c.request.tag) refl (not_th
 pub other_ends : (l : List ℕ) (e : Ending) (tag : ℕ) → other_tag_lem e tag ≡ true → CommandEnds l e tag false
 other_ends l e tag o st = sym (not_this e tag (shown l st).held o)
 
--- by the search for the tag
-pub nothing_ends : (l : List ℕ) (e : Ending) (tag : ℕ) → FoundIs l tag Nothing → CommandEnds l e tag false
-nothing_ends l e tag F st = ap (λ (c : Option Open). is_ended (ending e) c) (sym (F st))
-
-pub found_ends : (l : List ℕ) (e : Ending) (tag i : ℕ) (b : Bool) → FoundAt l tag i → b ≡ ends e (get_or (slots l) i no_slot).request → CommandEnds l e tag b
-found_ends l e tag i b F q st = q ∙ ap (λ (c : Option Open). is_ended (ending e) c) (sym (F.first st))
-
 -- ── the line without moves
 
 -- of the words p, with n moves in line, the words q are made: the first i moves are looked at, `kept` of them stay
 pub record Parting (which : Leaving) (n : ℕ) (p q : List ℕ) (i kept : ℕ) : Type 0 where
   pub counted : n ≡ count p
-  pub long : length q ≡ port_words
-  pub same_long : length q ≡ length p
   pub slots : slots q ≡ slots p
   pub head : head_of q ≡ head_of p
   pub in_count : i ≤ n
@@ -73,22 +60,6 @@ pub record Parting (which : Leaving) (n : ℕ) (p q : List ℕ) (i kept : ℕ) :
   pub behind : kept ≤ i
   pub ahead : drop i (ring q) ≡ drop i (ring p)
   pub done : (st : List ℕ) → take kept (ring q) ++ without (leaves which (shown p st).held) (drop i (line p)) ≡ without (leaves which (shown p st).held) (line p)
-
--- before the first
-pub part_start : (which : Leaving) (n : ℕ) (p : List ℕ) → n ≡ count p → n ≤ most_moves → length p ≡ port_words → Parting which n p p 0 0
-part_start which n p c s l =
-    record {
-      counted = c;
-      long = l;
-      same_long = refl;
-      slots = refl;
-      head = refl;
-      in_count = omega arith;
-      small = s;
-      behind = omega arith;
-      ahead = refl;
-      done = λ st. refl;
-    }
 
 -- words with the same head and slots have the same commands
 same_held : (p q : List ℕ) → slots q ≡ slots p → head_of q ≡ head_of p → (st : List ℕ) → (shown q st).held ≡ (shown p st).held
@@ -112,8 +83,6 @@ module _ (which : Leaving) (n : ℕ) (p q : List ℕ) (i kept : ℕ) (D : Partin
   part_left x is t =
       record {
         counted = D.counted;
-        long = D.long;
-        same_long = D.same_long;
         slots = D.slots;
         head = D.head;
         in_count = omega arith;
@@ -124,16 +93,14 @@ module _ (which : Leaving) (n : ℕ) (p q : List ℕ) (i kept : ℕ) (D : Partin
       }
 
   -- this one stays, moved up
-  pub part_kept : (x : Place) → x ≡ get_or (ring q) i no_place → MoveLeaves q which x false → (q' : List ℕ) → length q' ≡ length q → PlaceChanged q q' kept x
+  pub part_kept : (x : Place) → x ≡ get_or (ring q) i no_place → MoveLeaves q which x false → (q' : List ℕ) → PlaceChanged q q' kept x
       → Parting which n p q' (i + 1) (kept + 1)
-  part_kept x is t q' lq M =
+  part_kept x is t q' M =
       let k : kept < length (ring q) = omega (arith, ring_long most_moves (first_in (behind q)) (behind q), D.behind, D.small) in
       let up : take (kept + 1) (ring q') ≡ take kept (ring q) ++ (x ∷ []) =
       ap (take (kept + 1)) M.ring ∙ ap (λ (m : ℕ). take m (set (ring q) kept x)) (add-one kept) ∙ take-suc-set (ring q) kept x k in
       record {
         counted = D.counted;
-        long = lq ∙ D.long;
-        same_long = lq ∙ D.same_long;
         slots = M.slots ∙ D.slots;
         head = M.head ∙ D.head;
         in_count = omega arith;
@@ -150,7 +117,7 @@ module _ (which : Leaving) (n : ℕ) (p q : List ℕ) (i kept : ℕ) (D : Partin
   pub part_unmoved : (x : Place) → x ≡ get_or (ring q) i no_place → MoveLeaves q which x false → i ≤ kept → Parting which n p q (i + 1) (kept + 1)
   part_unmoved x is t g =
       let k : kept ≡ i = omega (arith, D.behind) in
-      part_kept x is t q refl (record { slots = refl; head = refl; count = refl; ring = rw (k, is) (sym (set-get_or (ring q) i no_place)) })
+      part_kept x is t q (record { slots = refl; head = refl; count = refl; ring = rw (k, is) (sym (set-get_or (ring q) i no_place)) })
 
 -- those that stay are the line
 pub parted : (which : Leaving) (n : ℕ) (p q : List ℕ) (i kept : ℕ) → Parting which n p q i kept → n ≤ i → (q' : List ℕ) → LengthChanged q q' kept → Leaves which p q'
@@ -164,10 +131,6 @@ parted which n p q i kept D end q' L =
     }
 
 -- ── commands that end, and their moves
-
--- the same commands end, and none before the same slot, where only the line is another
-pub none_still : (e : Ending) (p q : List ℕ) (i : ℕ) → slots q ≡ slots p → head_of q ≡ head_of p → NoneEnds e p i → NoneEnds e q i
-none_still e p q i s h N j k = ap (λ (cs : List Slot). ends e (get_or cs j no_slot).request) (λ x. take (h x).held (s x)) ∙ N j k
 
 -- their moves left the line, and they their slots
 pub all_left : (e : Ending) (p q r : List ℕ) → Leaves (Ended e) p q → Alters q r (without_slots e) → Alters p r (without_ended e)

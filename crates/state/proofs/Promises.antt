@@ -1,14 +1,14 @@
 -- What a call promises, from what it did: a refusal, a message written, a change of the open port, the channel closed.
 -- Assumes nothing.
 use mathlib.Core.Path.{◌≡◌, refl, sym, ◌∙◌, ap, subst}
-use mathlib.Core.Bool.{Bool, true, false, true≢false}
+use mathlib.Core.Bool.{true, false, true≢false}
 use mathlib.Core.List.{List, []}
 use mathlib.Core.Option.{none, some}
 use Prim.Native.Nat.{ℕ, ◌+◌, ◌-◌, ◌<◌}
 use native.Mathlib.Omega.{arith}
 use lib.ListN.{get_or}
 use Rattle.srp.specs.Lists.{find, change, is_some}
-use Rattle.srp.specs.Credit.{Open, Port, due, with_held, with_unanswered, has_tag}
+use Rattle.srp.specs.Credit.{Open, Port, due, with_held, has_tag}
 use Rattle.srp.specs.Writing.{placed}
 use Rattle.srp.specs.Take.{Outcome, silent, is_open_lem}
 use Rattle.srp.specs.Answers.{refusal_in, returned, size_of, answer_of, refusing}
@@ -25,7 +25,7 @@ use Rattle.words.proofs.Ports.{while_open}
 use Rattle.state.specs.Changes.{FoundAt, FoundIs, Alters, Settled, without_ended, after_use}
 use Rattle.state.specs.Promises.{RepliesAs, AnswersAs}
 use Rattle.state.specs.declared.Ending.{Ending}
-use Rattle.state.specs.declared.Found.TheVariants.{Nothing}
+use Rattle.std.specs.Prelude.{None}
 
 -- ── a call without a lent message buffer
 
@@ -116,10 +116,6 @@ module _ (l l' st : List ℕ) where
 pub announced_same : {l l' : List ℕ} (e : Ending) → Alters l l' (without_ended e) → (head_of l').announced ≡ (head_of l).announced
 announced_same e A = ap (λ (p : Port). p.announced) (A.port [])
 
--- so does a credit request, unanswered or no longer
-pub unanswered_same : {l l' : List ℕ} {u : Bool} → Alters l l' (λ p. with_unanswered p u) → (head_of l').announced ≡ (head_of l).announced
-unanswered_same A = ap (λ (p : Port). p.announced) (A.port [])
-
 -- ── the search for a tag in the open port
 
 -- the search in the port that the words are
@@ -139,7 +135,7 @@ module _ {l : List ℕ} {tag i : ℕ} (F : FoundAt l tag i) (e : (head_of l).liv
   pub tag_open : is_open_lem (view l st) tag ≡ true
   tag_open = ap is_some found_first
 
-module _ (l : List ℕ) (tag : ℕ) (F : FoundIs l tag Nothing) (e : (head_of l).live ≡ true) (st : List ℕ) where
+module _ (l : List ℕ) (tag : ℕ) (F : FoundIs l tag None) (e : (head_of l).live ≡ true) (st : List ℕ) where
   -- no command found
   pub found_none : find (has_tag tag) (view l st).held ≡ none
   found_none = searched l st tag e ∙ F st

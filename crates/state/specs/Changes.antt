@@ -1,5 +1,5 @@
 -- What the changes of an open port's words do to the port that they show.
-use Rattle.std.specs.Prelude.{◌≡◌, Bool, false, List, map, ℕ, ◌+◌, ◌-◌, ◌<◌, eqb, take, get_or, set}
+use Rattle.std.specs.Prelude.{◌≡◌, Bool, false, List, map, Option, Some, None, ℕ, ◌+◌, ◌-◌, ◌<◌, eqb, take, get_or, set}
 use Rattle.std.proofs.Math.Option.{none, some}
 use Rattle.srp.specs.Lists.{find, change, without}
 use Rattle.srp.specs.Credit.{Open, Port, due, with_held, has_tag}
@@ -10,8 +10,6 @@ use Rattle.words.specs.Slots.{slots, no_slot}
 use Rattle.words.specs.Head.{head_of}
 use Rattle.words.specs.View.{opens, open_of, shown}
 use Rattle.words.specs.declared.Slot.{Slot}
-use Rattle.state.specs.declared.Found.{Found}
-use Rattle.state.specs.declared.Found.TheVariants.{At, Nothing}
 use Rattle.state.specs.declared.Ending.{Ending}
 use Rattle.state.specs.declared.Ending.TheVariants.{Finished, Aborted}
 
@@ -46,9 +44,9 @@ pub record FoundAt (l : List ℕ) (tag i : ℕ) : Type 0 where
   pub changes : (st : List ℕ) (g : Open → Open) (c : Slot) → open_of st c ≡ g (open_of st (get_or (slots l) i no_slot))
       → change (has_tag tag) g (shown l st).held ≡ map (open_of st) (take (head_of l).held (set (slots l) i c))
 
-abbrev pub FoundIs : List ℕ → ℕ → Found → Type 0
-FoundIs l tag (At i) = FoundAt l tag i
-FoundIs l tag Nothing = (st : List ℕ) → find (has_tag tag) (shown l st).held ≡ none
+abbrev pub FoundIs : List ℕ → ℕ → Option ℕ → Type 0
+FoundIs l tag (Some i) = FoundAt l tag i
+FoundIs l tag None = (st : List ℕ) → find (has_tag tag) (shown l st).held ≡ none
 
 -- ── changes
 

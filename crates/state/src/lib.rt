@@ -12,14 +12,7 @@ ghost use Rattle.words.specs.Head.{head_of};
 ghost use Rattle.state.specs.Changes.{FoundIs, ends, NoneEnds, without_slots, without_ended, Alters, Settled};
 
 use srp::{Place, Request, TaskRequest};
-use words::{HEAD, SLOT, commands};
-
-// Where the open command with a tag stands.
-#[derive(Clone, Copy)]
-pub enum Found {
-    At(usize),
-    Nothing,
-}
+use words::{HEAD, Head, PORT, SLOT, commands};
 
 // Which open commands end: the one with a tag, or those that a task request aborts.
 #[derive(Clone, Copy)]
@@ -35,20 +28,17 @@ pub enum Leaving {
     Ended(Ending),
 }
 
-// The open command with a tag.
-pub fn find(s: &[u64; PORT], tag: u64) -> Found
+// The slot of the open command with a tag.
+pub fn find(s: &[u64; PORT], tag: u64) -> Option<usize>
     ensures { FoundIs s.now tag result }
 {
-    let h = words::get_head(s);
-    let count = h.held;
-    let mut i: usize = 0;
-    while i < count {
+    let held = words::get_head(s).held;
+    for i in 0..held {
         if s[SLOT * i + HEAD] == tag {
-            return Found::At(i);
+            return Some(i);
         }
-        i += 1;
     }
-    Found::Nothing
+    None
 }
 
 fn ended(which: Ending, r: Request) -> bool
@@ -69,9 +59,8 @@ fn drop_slots(s: &mut [u64; PORT], first: usize, which: Ending)
 {
     let h = words::get_head(s);
     let held = h.held;
-    let mut i = first;
     let mut kept = first;
-    while i < held {
+    for i in first..held {
         let r = commands::load_request(s, i);
         if !ended(which, r) {
             if kept < i {
@@ -79,9 +68,8 @@ fn drop_slots(s: &mut [u64; PORT], first: usize, which: Ending)
             }
             kept += 1;
         }
-        i += 1;
     }
-    words::set_counts(s, kept, h.wanted, h.announced, h.unanswered);
+    words::set_counts(s, Head { held: kept, ..h });
 }
 
 // Ends commands, of which none stands before slot `first`: their moves leave the line, and they their slots.
@@ -99,8 +87,7 @@ fn due(wanted: u8, announced: u8, held: usize) -> u8
     requires { announced + held ≤ most_buffers }
     ensures { result ≡ wanted - (announced + held) }
 {
-    let used = announced + (held as u8);
-    if wanted <= used { 0 } else { wanted - used }
+    wanted.saturating_sub(announced + (held as u8))
 }
 
 // A call's endings are done, and it used so many announced buffers: its message carries what is due.
@@ -111,7 +98,8 @@ pub fn settle(s: &mut [u64; PORT], used: u8) -> u32
     let h = words::get_head(s);
     let left = h.announced - used;
     let delta = due(h.wanted, left, h.held);
-    words::set_counts(s, h.held, h.wanted, left + delta, h.unanswered);
+    let announced = left + delta;
+    words::set_counts(s, Head { announced, ..h });
     delta as u32
 }
 
@@ -122,7 +110,7 @@ pub fn set_wanted(s: &mut [u64; PORT], wanted: u8)
     ensures { Alters s.old s.new (λ p. with_wanted p wanted) }
 {
     let h = words::get_head(s);
-    words::set_counts(s, h.held, wanted, h.announced, h.unanswered);
+    words::set_counts(s, Head { wanted, ..h });
 }
 
 // A credit request is unanswered from now on, or no longer.
@@ -130,5 +118,5 @@ pub fn set_unanswered(s: &mut [u64; PORT], unanswered: bool)
     ensures { Alters s.old s.new (λ p. with_unanswered p unanswered) }
 {
     let h = words::get_head(s);
-    words::set_counts(s, h.held, h.wanted, h.announced, unanswered);
+    words::set_counts(s, Head { unanswered, ..h });
 }

@@ -4,35 +4,9 @@ ghost use Rattle.srp.specs.Line.{same_direction_lem, same_place_lem};
 ghost use Rattle.words.specs.Sizes.{port_words};
 ghost use Rattle.state.specs.Leaving.{other_tag_lem, CommandEnds, MoveLeaves, Leaves};
 
-use crate::{Ending, Found, Leaving};
-use srp::{Direction, Place};
-use words::commands;
-
-fn same_direction(d: Direction, e: Direction) -> bool
-    ensures { result ≡ same_direction_lem d e }
-{
-    match d {
-        Direction::Out => match e {
-            Direction::Out => true,
-            Direction::In => false,
-        },
-        Direction::In => match e {
-            Direction::Out => false,
-            Direction::In => true,
-        },
-    }
-}
-
-fn same_place(x: Place, y: Place) -> bool
-    ensures { result ≡ same_place_lem x y }
-{
-    if x.tag != y.tag {
-        return false;
-    }
-    let d = x.direction;
-    let e = y.direction;
-    same_direction(d, e)
-}
+use crate::{Ending, Leaving};
+use srp::Place;
+use words::{PORT, commands};
 
 // Whether it is the end of a command with another tag.
 fn other_tag(which: Ending, tag: u64) -> bool
@@ -51,18 +25,17 @@ fn command_ends(s: &[u64; PORT], which: Ending, tag: u64) -> bool
     if other_tag(which, tag) {
         return false;
     }
-    let Found::At(i) = crate::find(s, tag) else {
+    let Some(i) = crate::find(s, tag) else {
         return false;
     };
-    let r = commands::load_request(s, i);
-    crate::ended(which, r)
+    crate::ended(which, commands::load_request(s, i))
 }
 
 fn move_leaves(s: &[u64; PORT], which: Leaving, x: Place) -> bool
     ensures { MoveLeaves s.now which x result }
 {
     match which {
-        Leaving::Handed(y) => same_place(y, x),
+        Leaving::Handed(y) => y == x,
         Leaving::Ended(e) => command_ends(s, e, x.tag),
     }
 }
@@ -72,9 +45,8 @@ pub fn leave(s: &mut [u64; PORT], which: Leaving)
     ensures { Leaves which s.old s.new }
 {
     let n = line::len(s);
-    let mut i: usize = 0;
     let mut kept: usize = 0;
-    while i < n {
+    for i in 0..n {
         let x = line::at(s, i);
         if !move_leaves(s, which, x) {
             if kept < i {
@@ -82,7 +54,6 @@ pub fn leave(s: &mut [u64; PORT], which: Leaving)
             }
             kept += 1;
         }
-        i += 1;
     }
     line::set_len(s, kept);
 }

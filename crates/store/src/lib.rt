@@ -13,7 +13,7 @@ ghost use Rattle.store.specs.Places.{trues, Marked, Free, Holds, new_part_lem, E
 
 use srp::{Request, Transfer};
 pub use supply::{bring, not_waiting};
-use words::{Awaited, LIST, PLACE, Part, SLOTS, Slot, commands};
+use words::{Awaited, Head, LIST, PLACE, PORT, Part, SLOTS, STORE, Slot, commands};
 
 // The last place.
 const LAST: usize = SLOTS - 1;
@@ -22,16 +22,13 @@ const LAST: usize = SLOTS - 1;
 fn places(s: &[u64; PORT], but: usize) -> [bool; SLOTS]
     ensures { Marked but (opens s.now) result }
 {
-    let h = words::get_head(s);
-    let held = h.held;
+    let held = words::get_head(s).held;
     let mut used = [false; SLOTS];
-    let mut i: usize = 0;
-    while i < held {
+    for i in 0..held {
         if i != but {
             let k = commands::load_place(s, i) as usize;
             used[k] = true;
         }
-        i += 1;
     }
     used
 }
@@ -41,14 +38,7 @@ fn first_free(used: [bool; SLOTS]) -> usize
     requires { trues used < most_slots }
     ensures { (result < most_slots) × (get_or used result false ≡ false) }
 {
-    let mut k: usize = 0;
-    while k < LAST {
-        if !used[k] {
-            return k;
-        }
-        k += 1;
-    }
-    k
+    used.iter().position(|u| !*u).unwrap_or(LAST)
 }
 
 // A place that no open command uses.
@@ -61,30 +51,14 @@ fn free_place(s: &[u64; PORT], held: usize) -> usize
     first_free(used)
 }
 
-// Bytes written into a slice from a place on.
-fn put_bytes(to: &mut [u8], at: usize, from: &[u8])
-    requires { at + length from.now ≤ length to.old }
-    ensures { to.new ≡ paste to.old at from.now (length from.now) }
-{
-    let end = at + from.len();
-    to[at..end].copy_from_slice(from);
-}
-
 // A direction with so many segments, of which nothing was planned, named or handed out.
 pub fn new_part(segments: u8, total: u32) -> Part
     ensures { result ≡ new_part_lem segments total }
 {
-    let none = Transfer {
-        required: 0,
-        highest: 0,
-        at: 0,
-        end: 0,
-        number: 0,
-    };
     Part {
-        segments: segments,
-        total: total,
-        transfer: none,
+        segments,
+        total,
+        transfer: Transfer::default(),
     }
 }
 
@@ -107,8 +81,8 @@ pub fn enter(
     let h = words::get_head(s);
     let held = h.held;
     let k = free_place(s, held);
-    put_bytes(&mut *store, k * PLACE, out);
-    put_bytes(store, k * PLACE + LIST, inn);
+    words::put(&mut *store, k * PLACE, out);
+    words::put(store, k * PLACE + LIST, inn);
     let c = Slot {
         request: r,
         planned: false,
@@ -118,5 +92,12 @@ pub fn enter(
         awaits: a,
     };
     commands::save(&mut *s, held, c);
-    words::set_counts(s, held + 1, h.wanted, h.announced - 1, h.unanswered);
+    words::set_counts(
+        s,
+        Head {
+            held: held + 1,
+            announced: h.announced - 1,
+            ..h
+        },
+    );
 }

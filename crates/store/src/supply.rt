@@ -8,7 +8,7 @@ ghost use Rattle.words.specs.View.{opens};
 ghost use Rattle.store.specs.Places.{Free, Holding, Carried, Supplied};
 
 use srp::Descriptor;
-use words::{Awaited, LIST, PLACE, Part, Slot, commands};
+use words::{Awaited, LIST, PLACE, PORT, Part, STORE, Slot, commands};
 
 // A place that no other open command uses than the one in slot i: its own place, or else a free one.
 fn own_place(s: &[u64; PORT], i: usize, place: u8) -> usize
@@ -34,27 +34,17 @@ fn carry(store: &mut [u8; STORE], from: usize, to: usize)
         return;
     }
     let at = from * PLACE;
-    let end = at + PLACE;
-    let mut kept = [0u8; PLACE];
-    kept.copy_from_slice(&store[at..end]);
-    crate::put_bytes(store, to * PLACE, &kept);
+    store.copy_within(at..at + PLACE, to * PLACE);
 }
 
 // No table is awaited.
 pub fn not_waiting() -> Awaited
     ensures { result ≡ not_waiting_lem }
 {
-    let none = Descriptor {
-        format: 0,
-        count: 0,
-        at: 0,
-        len: 0,
-        total: 0,
-    };
     Awaited {
         waiting: false,
-        out: none,
-        inn: none,
+        out: Descriptor::default(),
+        inn: Descriptor::default(),
     }
 }
 
@@ -68,8 +58,8 @@ pub fn bring(s: &mut [u64; PORT], store: &mut [u8; STORE], i: usize, o: Part, n:
     let place = commands::load_place(s, i);
     let k = own_place(s, i, place);
     carry(&mut *store, place as usize, k);
-    crate::put_bytes(&mut *store, k * PLACE, out);
-    crate::put_bytes(store, k * PLACE + LIST, inn);
+    words::put(&mut *store, k * PLACE, out);
+    words::put(store, k * PLACE + LIST, inn);
     let a = not_waiting();
     let c = Slot {
         request: r,

@@ -6,7 +6,7 @@ use Rattle.state.proofs.drop_slots.Goals.{then-not-ended, then-kept-i, else-kept
 
 pub loop-i-init : goal.loop-i-init
 loop-i-init c =
-    drop_start _ _ _ _ c.get_head-h.ensures.held c.requires.s_len c.requires.first_bound c.requires.none_ends
+    drop_start _ _ _ _ c.get_head-h.ensures.held c.requires.first_bound c.requires.none_ends
 
 pub loop-i-preserved : goal.loop-i-preserved
 loop-i-preserved c =
@@ -18,7 +18,7 @@ loop-i-preserved c =
           let stays = sym c.ended.ensures ∙ w.if-not-ended.true in
           rw (w.s-is, w.kept-is)
           (elim w.if-kept-i.branch [
-            | then-kept-i v ↦ rw v.s-is (drop_kept _ _ _ _ _ _ D on _ r.ensures stays v.shift_slot.new.s v.shift_slot.auto.s v.shift_slot.ensures)
+            | then-kept-i v ↦ rw v.s-is (drop_kept _ _ _ _ _ _ D on _ r.ensures stays v.shift_slot.new.s v.shift_slot.ensures)
             | else-kept-i v ↦ rw v.s-is (drop_unmoved _ _ _ _ _ _ D on _ r.ensures stays v.if-kept-i.false)
           ])
       | else-not-ended w ↦

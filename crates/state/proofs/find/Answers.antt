@@ -1,22 +1,9 @@
 -- `state::find` meets its contract.
-use native.Mathlib.Omega.{arith}
 use Rattle.state.proofs.Held.{search_start, search_more, search_here, search_end}
 use Rattle.state.proofs.find.Goals as goal
 
 pub loop-i-init : goal.loop-i-init
-loop-i-init c = search_start _ _ _ c.get_head-h.ensures.held
-
-pub overflow_mul-i : goal.overflow_mul-i
-overflow_mul-i c = omega (arith, c.loop-i.invariant.small)
-
-pub overflow_add-i : goal.overflow_add-i
-overflow_add-i c = omega (arith, c.loop-i.invariant.small)
-
-pub offset_bounds-s-i : goal.offset_bounds-s-i
-offset_bounds-s-i c = omega (arith, c.loop-i.invariant.small)
-
-pub bounds-s-i : goal.bounds-s-i
-bounds-s-i c = omega (arith, c.loop-i.invariant.small, c.requires)
+loop-i-init c = search_start _ _ _ c.get_head-held.ensures.held
 
 pub returns-then-s-i : goal.returns-then-s-i
 returns-then-s-i c =

@@ -1,12 +1,8 @@
 -- `state::leave` meets its contract.
 use mathlib.Core.Path.{sym, ◌∙◌}
-use Rattle.state.proofs.Parting.{part_start, part_left, part_kept, part_unmoved, parted}
+use Rattle.state.proofs.Parting.{part_left, part_kept, part_unmoved, parted}
 use Rattle.state.proofs.moves.leave.Goals as goal
 use Rattle.state.proofs.moves.leave.Goals.{then-not-move_leaves, then-kept-i, else-kept-i, else-not-move_leaves}
-
-pub loop-i-init : goal.loop-i-init
-loop-i-init c =
-    part_start _ _ _ c.len-n.ensures.0 c.len-n.ensures.1 c.requires
 
 pub loop-i-preserved : goal.loop-i-preserved
 loop-i-preserved c =
@@ -18,7 +14,7 @@ loop-i-preserved c =
       | then-not-move_leaves w ↦
           rw (w.s-is, w.kept-is)
           (elim w.if-kept-i.branch [
-            | then-kept-i v ↦ rw v.s-is (part_kept _ _ _ _ _ _ D on _ x.ensures (λ st. sym w.if-not-move_leaves.true ∙ t.ensures st) v.put.new.s v.put.auto.s v.put.ensures)
+            | then-kept-i v ↦ rw v.s-is (part_kept _ _ _ _ _ _ D on _ x.ensures (λ st. sym w.if-not-move_leaves.true ∙ t.ensures st) v.put.new.s v.put.ensures)
             | else-kept-i v ↦ rw v.s-is (part_unmoved _ _ _ _ _ _ D on _ x.ensures (λ st. sym w.if-not-move_leaves.true ∙ t.ensures st) v.if-kept-i.false)
           ])
       | else-not-move_leaves w ↦
