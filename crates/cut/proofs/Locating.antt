@@ -6,10 +6,9 @@ use lib.ListN.{get_elem?}
 use Rattle.srp.specs.Descriptors.{Segment, sum_of}
 use Rattle.srp.specs.Cutting.{Rule, next_from, next}
 use Rattle.srp.proofs.CutLaws.{none_above}
-use Rattle.cut.specs.Locating.{earlier_of, length_at, location, located_from, located, HoldsOffset, EachFound, piece_in, next_at, NextStands}
+use Rattle.cut.specs.Locating.{Located, earlier_of, length_at, location, located_from, located, HoldsOffset, EachFound, piece_in, next_at, NextStands}
 use Rattle.cut.specs.declared.locate.Location.{Location}
-use Rattle.cut.specs.declared.locate.Located.{Located}
-use Rattle.cut.specs.declared.locate.Located.TheVariants.{At, Behind}
+use Rattle.std.specs.declared.option.Option.TheVariants.{None, Some}
 
 -- ── the sums of the earlier lengths
 
@@ -62,15 +61,15 @@ module _ (offset : ℕ) (ss : List Segment) where
 
   -- what an answer says, once k segments were looked at
   abbrev Says : ℕ → Located → Type 0
-  Says k (At l) = HoldsOffset offset l.index ss × (l ≡ location l.index ss)
-  Says k Behind = earlier_of k ss ≤ offset
+  Says k (Some l) = HoldsOffset offset l.index ss × (l ≡ location l.index ss)
+  Says k None = earlier_of k ss ≤ offset
 
   from_there : (n i k : ℕ) → n + i ≡ k → earlier_of i ss ≤ offset → Says k (located_from n i offset ss)
   from_there zero i k s h = let q : i ≡ k = omega arith in rw q at h
   from_there (suc n) i k s h = go (ltb offset (earlier_of i ss + length_at i ss)) refl (λ h'. from_there n (suc i) k (omega arith) h')
     where
       go : (b : Bool) → ltb offset (earlier_of i ss + length_at i ss) ≡ b → (earlier_of (suc i) ss ≤ offset → Says k (located_from n (suc i) offset ss))
-          → Says k (cond b (At (location i ss)) (located_from n (suc i) offset ss))
+          → Says k (cond b (Some (location i ss)) (located_from n (suc i) offset ss))
       go true t ih = ((h, ltb-true offset (earlier_of i ss + length_at i ss) t), refl)
       go false t ih = ih (omega (arith, earlier_next i ss, ltb-false offset (earlier_of i ss + length_at i ss) t))
 
@@ -78,29 +77,29 @@ module _ (offset : ℕ) (ss : List Segment) where
   said : (r : Located) → located offset ss ≡ r → Says (length ss) r
   said r e = subst (Says (length ss)) e (from_there (length ss) 0 (length ss) (omega arith) (omega arith))
 
-  only_found : (i : ℕ) → HoldsOffset offset i ss → located offset ss ≡ At (location i ss)
+  only_found : (i : ℕ) → HoldsOffset offset i ss → located offset ss ≡ Some (location i ss)
   only_found i h = go (located offset ss) refl
     where
-      go : (r : Located) → located offset ss ≡ r → located offset ss ≡ At (location i ss)
-      go (At l) e =
-          let f = said (At l) e in
+      go : (r : Located) → located offset ss ≡ r → located offset ss ≡ Some (location i ss)
+      go (Some l) e =
+          let f = said (Some l) e in
           let same : l.index ≡ i = omega (arith, not_later i l.index h f.0, not_later l.index i f.0 h) in
-          e ∙ ap At (f.1 ∙ ap (λ (k : ℕ). location k ss) same)
-      go Behind e = absurd (omega (arith, passed i h, said Behind e, earlier_all ss))
+          e ∙ ap Some (f.1 ∙ ap (λ (k : ℕ). location k ss) same)
+      go None e = absurd (omega (arith, passed i h, said None e, earlier_all ss))
 
-  none_found : sum_of ss ≤ offset → located offset ss ≡ Behind
+  none_found : sum_of ss ≤ offset → located offset ss ≡ None
   none_found h = go (located offset ss) refl
     where
-      go : (r : Located) → located offset ss ≡ r → located offset ss ≡ Behind
-      go (At l) e = absurd (omega (arith, h, passed l.index (said (At l) e).0))
-      go Behind e = e
+      go : (r : Located) → located offset ss ≡ r → located offset ss ≡ None
+      go (Some l) e = absurd (omega (arith, h, passed l.index (said (Some l) e).0))
+      go None e = e
 
 pub each_found : EachFound
 each_found offset ss =
     record {
-      holds = λ l e. said offset ss (At l) e;
+      holds = λ l e. said offset ss (Some l) e;
       only = only_found offset ss;
-      behind = (λ e. omega (arith, said offset ss Behind e, earlier_all ss), none_found offset ss);
+      behind = (λ e. omega (arith, said offset ss None e, earlier_all ss), none_found offset ss);
     }
 
 -- ── the next piece stands there
@@ -148,13 +147,13 @@ module _ (rule : Rule) where
 pub next_stands : NextStands
 next_stands rule from to ss lt = go (located from ss) refl
   where
-    there : (l : Location) → located from ss ≡ At l → (v : Option Segment) → get_elem? ss l.index ≡ v → next rule from to ss ≡ map (piece_in rule (from - l.earlier) (to - from) from) v
-    there l e none v = absurd (omega (arith, none_above ss l.index v, holds_inside from l.index ss (said from ss (At l) e).0))
+    there : (l : Location) → located from ss ≡ Some l → (v : Option Segment) → get_elem? ss l.index ≡ v → next rule from to ss ≡ map (piece_in rule (from - l.earlier) (to - from) from) v
+    there l e none v = absurd (omega (arith, none_above ss l.index v, holds_inside from l.index ss (said from ss (Some l) e).0))
     there l e (some s) v =
-        let f = said from ss (At l) e in
+        let f = said from ss (Some l) e in
         let z : 0 + from ≡ from = omega arith in
         rw (ap (λ (x : Location). x.earlier) f.1) (rw z at (next_after rule 0 from to l.index ss s lt v f.0))
 
     go : (r : Located) → located from ss ≡ r → next rule from to ss ≡ next_at rule from to ss r
-    go (At l) e = there l e (get_elem? ss l.index) refl
-    go Behind e = none_past rule 0 from to ss (omega (arith, said from ss Behind e, earlier_all ss))
+    go (Some l) e = there l e (get_elem? ss l.index) refl
+    go None e = none_past rule 0 from to ss (omega (arith, said from ss None e, earlier_all ss))

@@ -4,7 +4,7 @@ use Rattle.std.proofs.Common.{◌≡◌, ℕ, suc, ◌+◌, ◌-◌, ◌*◌, �
 use Rattle.srp.specs.Bytes.{bytes, get}
 use Rattle.srp.specs.Descriptors.{Segment, segments_of}
 use Rattle.cut.specs.Locating.{earlier_of, length_at, location, located_from, located}
-use Rattle.cut.specs.declared.locate.Located.TheVariants.{At, Behind}
+use Rattle.std.specs.declared.option.Option.TheVariants.{Some}
 use Rattle.srp.proofs.Segments.{segments_count}
 use Rattle.cut.proofs.Segments.{segment_from, segment_in}
 use Rattle.cut.proofs.Locating.{earlier_next, length_at_lem}
@@ -34,12 +34,12 @@ module _ {list : List ℕ} {offset index earlier : ℕ} (w : Searching list offs
       through : earlier_of index ss + length_at index ss ≡ t
       through = omega (arith, w.sum, long, et)
 
-      seen : cond (ltb offset t) (At (location index ss)) (located_from (length list / 16 - suc index) (suc index) offset ss) ≡ located offset ss
+      seen : cond (ltb offset t) (Some (location index ss)) (located_from (length list / 16 - suc index) (suc index) offset ss) ≡ located offset ss
       seen =
           let e : length list / 16 - index ≡ suc (length list / 16 - suc index) = omega arith in
           rw (← through) (sym (ap (λ (k : ℕ). located_from k index offset ss) e)) ∙ w.same
 
-    pub here : {t : ℕ} → offset < t → t ≡ earlier + n → At (record { index = index; len = n; earlier = earlier }) ≡ located offset ss
+    pub here : {t : ℕ} → offset < t → t ≡ earlier + n → Some (record { index = index; len = n; earlier = earlier }) ≡ located offset ss
     here {t} lt et = rw (w.sum, ← long) (rw (lt-ltb offset t lt) at (seen et))
 
     pub on : {t : ℕ} → t ≤ offset → t ≡ earlier + n → Searching list offset (index + 1) t
@@ -48,8 +48,3 @@ module _ {list : List ℕ} {offset index earlier : ℕ} (w : Searching list offs
         let s : t ≡ earlier_of (suc index) ss = omega (arith, through et, earlier_next index ss) in
         rw e
         (record { room = omega arith; sum = s; low = le; same = rw (le-ltb offset t le) at (seen et) })
-
-  pub end : length list / 16 ≤ index → Behind ≡ located offset ss
-  end le =
-      let e : length list / 16 - index ≡ 0 = omega arith in
-      rw e at w.same

@@ -2,9 +2,8 @@
 use Rattle.std.specs.Prelude.{◌≡◌, ℕ, List, [], ◌∷◌}
 use Rattle.srp.specs.Lists.{All}
 use Rattle.srp.specs.Descriptors.{Segment}
-use Rattle.cut.specs.Locating.{located}
-use Rattle.cut.specs.declared.locate.Located.{Located}
-use Rattle.cut.specs.declared.locate.Located.TheVariants.{At, Behind}
+use Rattle.std.specs.Prelude.{Some, None}
+use Rattle.cut.specs.Locating.{Located, located}
 
 pub record Search : Type 0 where
   pub lengths : List ℕ
@@ -16,7 +15,7 @@ search_for lengths offset finds = record { lengths = lengths; offset = offset; f
 
 -- an index, its length, and the sum of the earlier lengths
 abbrev pub holder : ℕ → ℕ → ℕ → Located
-holder index len earlier = At (record { index = index; len = len; earlier = earlier })
+holder index len earlier = Some (record { index = index; len = len; earlier = earlier })
 
 abbrev pub searches : List Search
 searches =
@@ -27,13 +26,13 @@ searches =
     ∷ search_for (5 ∷ 3 ∷ 7 ∷ []) 7 (holder 1 3 5)
     ∷ search_for (5 ∷ 3 ∷ 7 ∷ []) 8 (holder 2 7 8)
     ∷ search_for (5 ∷ 3 ∷ 7 ∷ []) 14 (holder 2 7 8)
-    ∷ search_for (5 ∷ 3 ∷ 7 ∷ []) 15 Behind
+    ∷ search_for (5 ∷ 3 ∷ 7 ∷ []) 15 None
     -- a segment of length 0 holds nothing and ends nothing: first, in the middle, last; no segment
     ∷ search_for (0 ∷ 5 ∷ []) 0 (holder 1 5 0)
     ∷ search_for (5 ∷ 0 ∷ 0 ∷ 3 ∷ []) 5 (holder 3 3 5)
-    ∷ search_for (5 ∷ 0 ∷ []) 5 Behind
-    ∷ search_for (0 ∷ 0 ∷ []) 0 Behind
-    ∷ search_for [] 0 Behind
+    ∷ search_for (5 ∷ 0 ∷ []) 5 None
+    ∷ search_for (0 ∷ 0 ∷ []) 0 None
+    ∷ search_for [] 0 None
     -- lengths that pass 2^32 together
     ∷ search_for (4294967295 ∷ 4294967295 ∷ []) 4294967295 (holder 1 4294967295 4294967295)
     ∷ []

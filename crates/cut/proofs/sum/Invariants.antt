@@ -2,10 +2,6 @@
 use Rattle.cut.proofs.Sums.{Summing}
 use Rattle.cut.proofs.sum.Given as goal
 
-abbrev pub invariant-loop-rest : goal.invariant-loop-rest
-invariant-loop-rest l =
-    Summing l.list l.at l.rest l.so_far
-
-abbrev pub decreases-loop-rest : goal.decreases-loop-rest
-decreases-loop-rest l =
-    l.rest
+abbrev pub invariant-loop-i : goal.invariant-loop-i
+invariant-loop-i l =
+    Summing l.list l.i l.so_far
