@@ -14,7 +14,7 @@ use wire::layout::SHORT_SIZE;
 use words::PORT;
 
 // Closes the open channel with a reason, and answers with a reply.
-pub fn log_out(s: &mut [u64], buf: &mut [u8], reply: Reply, reason: u32) -> Answer
+pub fn log_out(s: &mut [u64], buf: &mut [u8], reply: Result<Reply, Refusal>, reason: u32) -> Answer
     requires s_len { length s.old ≡ port_words }
     requires s_value { (head_of s.old).live ≡ true }
     requires buffer_size_in_bounds { buffer_size ≤ length buf.old }
@@ -42,5 +42,5 @@ pub fn close(s: &mut [u64; PORT], reason: u32, buf: &mut [u8]) -> Answer
     if !live {
         return answer::refused(Refusal::Closed);
     }
-    log_out(s, buf, Reply::Performed, reason)
+    log_out(s, buf, Ok(Reply::Performed), reason)
 }

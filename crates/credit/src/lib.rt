@@ -13,44 +13,44 @@ use wire::layout::SHORT_SIZE;
 use words::{Head, PORT};
 
 // Adds buffers to those wanted. Refused 21, 11, 28.
-pub fn add(s: &mut [u64; PORT], k: u32) -> Reply
+pub fn add(s: &mut [u64; PORT], k: u32) -> Result<Reply, Refusal>
     ensures { Adds s.old s.new k result }
 {
     let h = words::get_head(s);
     let live = h.live;
     let wanted = h.wanted;
     if !live {
-        return Reply::Refused(Refusal::Closed);
+        return Err(Refusal::Closed);
     }
     if k == 0 {
-        return Reply::Refused(Refusal::Argument);
+        return Err(Refusal::Argument);
     }
     let room = MOST_BUFFERS - wanted;
     if (room as u32) < k {
-        return Reply::Refused(Refusal::Wanted);
+        return Err(Refusal::Wanted);
     }
     state::set_wanted(s, wanted + (k as u8));
-    Reply::Performed
+    Ok(Reply::Performed)
 }
 
 // Withdraws buffers from those wanted. Refused 21, 11, 28.
-pub fn withdraw(s: &mut [u64; PORT], k: u32) -> Reply
+pub fn withdraw(s: &mut [u64; PORT], k: u32) -> Result<Reply, Refusal>
     ensures { Withdraws s.old s.new k result }
 {
     let h = words::get_head(s);
     let live = h.live;
     let wanted = h.wanted;
     if !live {
-        return Reply::Refused(Refusal::Closed);
+        return Err(Refusal::Closed);
     }
     if k == 0 {
-        return Reply::Refused(Refusal::Argument);
+        return Err(Refusal::Argument);
     }
     if (wanted as u32) <= k {
-        return Reply::Refused(Refusal::Wanted);
+        return Err(Refusal::Wanted);
     }
     state::set_wanted(s, wanted - (k as u8));
-    Reply::Performed
+    Ok(Reply::Performed)
 }
 
 // Whether D is above 0.
@@ -74,7 +74,7 @@ fn write_request(s: &mut [u64], buf: &mut [u8], crsolnt: bool) -> Answer
     let delta = state::settle(s, 0);
     message::put_credit_request(buf, crsolnt, delta);
     Answer {
-        reply: Reply::Performed,
+        reply: Ok(Reply::Performed),
         wrote: SHORT_SIZE,
     }
 }

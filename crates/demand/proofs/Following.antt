@@ -11,6 +11,7 @@ use native.Mathlib.Omega.{arith}
 use borrow.Author.Tests.{le-ltb, ltb-false}
 use lib.Dec.{ltb}
 use lib.ListN.{length}
+use Rattle.std.specs.Prelude.{Result}
 use Rattle.srp.specs.Limits.{buffer_size, answer_size, shortest_agreed}
 use Rattle.srp.specs.Bytes.{Bytes, get, part, type_of}
 use Rattle.srp.specs.Messages.{tag, format_bits, requested_length, login_crsolnt, login_losolnt, channel_action, target_identifier, login_req}
@@ -112,7 +113,7 @@ receives s room msg =
 
 -- ── the theorem
 
-module _ (s : Memory) (r : Reply) (ss : List (List ℕ)) (s' : Memory) (R : def.Reached (seen s)) where
+module _ (s : Memory) (r : Result Reply Refusal) (ss : List (List ℕ)) (s' : Memory) (R : def.Reached (seen s)) where
   -- what the definition's outcome has, the call's has
   gives : (c : PortCall) (o : Outcome) → o ≡ record { reply = r; port = seen s'; wrote = ss } → def.Reached o.port → All (InRoom (calling_of c).room) o.wrote
       → (calling_of c).received s o
@@ -184,7 +185,7 @@ look_by_layouts agreed formats msg b b' n J c k e good room =
     )
 
 -- of a login, accepted or not, and any store
-login_by_layouts : (settings : List ℕ) (Q : ℕ) (own msg : List ℕ) (room : ℕ) (r : Reply) (ss : List (List ℕ)) (p store : List ℕ) → Bytes msg → LoggedIn settings Q own msg room r ss p
+login_by_layouts : (settings : List ℕ) (Q : ℕ) (own msg : List ℕ) (room : ℕ) (r : Result Reply Refusal) (ss : List (List ℕ)) (p store : List ℕ) → Bytes msg → LoggedIn settings Q own msg room r ss p
     → LoginByLayouts settings Q own msg room (record { reply = r; port = view p store; wrote = ss })
 login_by_layouts settings Q own msg room r ss p store b l =
     let C : Settings = settings_in settings Q in

@@ -6,6 +6,7 @@ use mathlib.Core.List.{List, [], ◌∷◌}
 use Prim.Native.Nat.{ℕ, ◌/◌}
 use borrow.Author.Tests.{le-ltb}
 use lib.ListN.{length}
+use Rattle.std.specs.Prelude.{Result, Ok}
 use Rattle.srp.specs.Limits.{most_buffers}
 use Rattle.srp.specs.Lists.{over}
 use Rattle.srp.specs.Refusals.{first_of_checks}
@@ -40,15 +41,16 @@ use Rattle.demand.specs.Replies.{performed, stepped, turned}
 use Rattle.demand.specs.Calls.{Memory, seen, LoggedIn, Took, Brought, WithMessage, Finished, Granted, Ended, WithoutMessage, Planned, Named, Stepped, Turned, Added, Withdrew, Untouched, TookFront, Call}
 use Rattle.demand.specs.Holding.{Holds, Reports, Lists, Demand3InC}
 use Rattle.demand.proofs.Told as told
+use Rattle.srp.specs.declared.Refusal.{Refusal}
 
 -- ── each call that was made is its definition's
 
 -- what a call left, by other names
-left_as : {r r' : Reply} {l l' st st' : List ℕ} {ss ss' : List (List ℕ)} → r ≡ r' → l ≡ l' → st ≡ st' → ss ≡ ss'
+left_as : {r r' : Result Reply Refusal} {l l' st st' : List ℕ} {ss ss' : List (List ℕ)} → r ≡ r' → l ≡ l' → st ≡ st' → ss ≡ ss'
     → ◌≡◌ {A = Outcome} (record { reply = r; port = view l st; wrote = ss }) (record { reply = r'; port = view l' st'; wrote = ss' })
 left_as e f g h = λ i. record { reply = e i; port = view (f i) (g i); wrote = h i }
 
-module _ {s : Memory} {r : Reply} {ss : List (List ℕ)} {s' : Memory} where
+module _ {s : Memory} {r : Result Reply Refusal} {ss : List (List ℕ)} {s' : Memory} where
   pub took : (room : ℕ) (msg : List ℕ) → Took s room msg r ss s' → take_def (seen s) room msg ≡ record { reply = r; port = seen s'; wrote = ss }
   took room msg c =
       sym (λ i. take_def (view (c.words i) (c.store i)) (c.gave.room_is i) (c.message i))
@@ -114,11 +116,11 @@ module _ {s : Memory} {r : Reply} {ss : List (List ℕ)} {s' : Memory} where
       ∙ told.steps turned c.post.1.turns (told.turn_said (view c.p.now c.st.now))
       ∙ left_as c.reply c.words' (c.store ∙ c.store') c.wrote
 
-  untouched : Untouched s r ss s' → silent (seen s) Performed ≡ record { reply = r; port = seen s'; wrote = ss }
+  untouched : Untouched s r ss s' → silent (seen s) (Ok Performed) ≡ record { reply = r; port = seen s'; wrote = ss }
   untouched c = λ i. record { reply = c.reply i; port = seen (c.same i); wrote = c.wrote i }
 
-front : (s : Memory) (room : ℕ) (queue : List (List ℕ)) (r : Reply) (ss : List (List ℕ)) (s' : Memory) → TookFront s room queue r ss s'
-    → at_front queue (silent (seen s) Performed) (λ msg rest. take_def (seen s) room msg) ≡ record { reply = r; port = seen s'; wrote = ss }
+front : (s : Memory) (room : ℕ) (queue : List (List ℕ)) (r : Result Reply Refusal) (ss : List (List ℕ)) (s' : Memory) → TookFront s room queue r ss s'
+    → at_front queue (silent (seen s) (Ok Performed)) (λ msg rest. take_def (seen s) room msg) ≡ record { reply = r; port = seen s'; wrote = ss }
 front s room [] r ss s' c = untouched c
 front s room (msg ∷ rest) r ss s' c = took room msg c
 
@@ -139,7 +141,7 @@ meets L s m (grants room) r ss s' c = granted room c
 -- ── the theorem
 
 -- a login's reply, port and message are the definition's, whatever the store
-pub logged_in_lem : {settings : List ℕ} {Q : ℕ} {own msg : List ℕ} {room : ℕ} {r : Reply} {ss : List (List ℕ)} {p : List ℕ} → LoggedIn settings Q own msg room r ss p → (store : List ℕ)
+pub logged_in_lem : {settings : List ℕ} {Q : ℕ} {own msg : List ℕ} {room : ℕ} {r : Result Reply Refusal} {ss : List (List ℕ)} {p : List ℕ} → LoggedIn settings Q own msg room r ss p → (store : List ℕ)
     → login_def (settings_in settings Q) own room msg ≡ record { reply = r; port = view p store; wrote = ss }
 logged_in_lem {settings} {Q} l store =
     rw (← l.settings_are, ← l.own_is, ← l.message, ← l.gave.room_is, ← l.gave.reply, ← l.gave.wrote, ← l.words)
@@ -154,7 +156,7 @@ holds settings Q own msg room ss p store l es run f =
 -- ── what the owner reads while the channel is open: document 01's "Owed is the D that the port reports"
 
 -- an unrefused call that writes nothing, by its reply
-in_words : (o : Outcome) (r : Reply) (n : ℕ) (w : List ℕ) → o.reply ≡ r → o.wrote ≡ [] → InC n w o → (n ≡ returned r) × (w ≡ answer_words (record { reply = r; wrote = 0 }))
+in_words : (o : Outcome) (r : Result Reply Refusal) (n : ℕ) (w : List ℕ) → o.reply ≡ r → o.wrote ≡ [] → InC n w o → (n ≡ returned r) × (w ≡ answer_words (record { reply = r; wrote = 0 }))
 in_words o r n w e f N = (
   N.number ∙ ap returned e,
   N.words ∙ ap (λ (a : Answer). answer_words a) (λ i. record { reply = e i; wrote = size_of (f i) }),
@@ -162,14 +164,14 @@ in_words o r n w e f N = (
 
 module _ (L : Login) (m : Machine) (s : Memory) (is : Now L m (seen s)) (n : ℕ) (w : List ℕ) where
   reports : CountersInC s.words n w → Reports L m s n w
-  reports C = in_words (counters_def (seen s)) (Counts (counted L m (owed (seen s)))) n w is.reports (counters_unwritten (seen s)) (C s.store)
+  reports C = in_words (counters_def (seen s)) (Ok (Counts (counted L m (owed (seen s))))) n w is.reports (counters_unwritten (seen s)) (C s.store)
 
   lists : (before after : List ℕ) → ListInC s.words before after n w → Lists m before after n w
   lists before after C room =
       let k : ℕ = length before / record_size in
-      let e : (list_def (seen s) k).reply ≡ Listed (requests_held m) =
+      let e : (list_def (seen s) k).reply ≡ Ok (Listed (requests_held m)) =
       ap (λ (b : Bool). (unless (first_of_checks (def.closed (seen s) ∷ (b, Argument) ∷ [])) (seen s) (list_outcome (seen s))).reply) (le-ltb k most_buffers room) ∙ is.lists in
-      let N = in_words (list_def (seen s) k) (Listed (requests_held m)) n w e (list_unwritten (seen s) k) (C s.store).numbers in (
+      let N = in_words (list_def (seen s) k) (Ok (Listed (requests_held m))) n w e (list_unwritten (seen s) k) (C s.store).numbers in (
         N.0,
         N.1,
         (C s.store).records ∙ ap (λ (x : List Record). over (all_words x) before) ((listed_all (seen s) k (requests_held m) (sym e)).1 ∙ is.listed),

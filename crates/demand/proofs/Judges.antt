@@ -7,6 +7,7 @@ use mathlib.Core.Option.{Option, none, some, some-ne-none}
 use Prim.Native.Nat.{ℕ, ◌/◌, min}
 use borrow.Author.Tests.{not-false}
 use lib.ListN.{length}
+use Rattle.std.specs.Prelude.{Result, Ok, Err}
 use Rattle.srp.specs.Lists.{find, over}
 use Rattle.srp.specs.Refusals.{first_of_checks}
 use Rattle.srp.specs.Descriptors.{segments_of, sum_of}
@@ -20,7 +21,7 @@ use Rattle.srp.specs.Writing.{placed}
 use Rattle.srp.specs.Take.{Outcome}
 use Rattle.srp.specs.declared.Refusal.{Refusal}
 use Rattle.srp.specs.declared.Reply.{Reply}
-use Rattle.srp.specs.declared.Reply.TheVariants.{Refused, Performed, Done, Idle}
+use Rattle.srp.specs.declared.Reply.TheVariants.{Performed, Done, Idle}
 use Rattle.srp.specs.declared.Direction.{Direction}
 use Rattle.srp.specs.declared.Piece.{Piece}
 use Rattle.srp.specs.declared.Place.{Place}
@@ -96,7 +97,7 @@ judges_step l l' st tag direction n w P =
     unrefused k (some o) = refl
 
     -- without an operation it says done
-    done : (k : ℕ) (x : Option Piece) → operation_in (hand_out_lem (view l st) tag d k x).reply ≡ none → (hand_out_lem (view l st) tag d k x).reply ≡ Done k
+    done : (k : ℕ) (x : Option Piece) → operation_in (hand_out_lem (view l st) tag d k x).reply ≡ none → (hand_out_lem (view l st) tag d k x).reply ≡ Ok (Done k)
     done k none h = refl
     done k (some o) h = absurd (some-ne-none _ h)
 
@@ -117,11 +118,11 @@ judges_turn l l' st n w P =
     unrefused (x ∷ others) = one_unrefused x others _ (next_of p.terms x.direction (find (has_tag x.tag) p.held))
 
     -- without an operation it says idle
-    one_idle : (x : Place) (others : List Place) (k : ℕ) (y : Option Piece) → operation_in (serve p x others k y).reply ≡ none → (serve p x others k y).reply ≡ Idle
+    one_idle : (x : Place) (others : List Place) (k : ℕ) (y : Option Piece) → operation_in (serve p x others k y).reply ≡ none → (serve p x others k y).reply ≡ Ok Idle
     one_idle x others k none h = refl
     one_idle x others k (some o) h = absurd (some-ne-none _ h)
 
-    idle : (line : List Place) → operation_in (serve_first p line).reply ≡ none → (serve_first p line).reply ≡ Idle
+    idle : (line : List Place) → operation_in (serve_first p line).reply ≡ none → (serve_first p line).reply ≡ Ok Idle
     idle [] h = refl
     idle (x ∷ others) h = one_idle x others _ (next_of p.terms x.direction (find (has_tag x.tag) p.held)) h
 
@@ -173,7 +174,7 @@ module _ (b b' : List ℕ) (n : ℕ) where
       wrote : Option Refusal → List ℕ
       wrote x = placed (elim x as (λ _. List (List ℕ)) [ none ↦ trace_line w s ∷ [] | some f ↦ [] ]) b
 
-      number : (x : Option Refusal) → returned (elim x as (λ _. Reply) [ none ↦ Performed | some f ↦ Refused f ]) ≡ number_for x
+      number : (x : Option Refusal) → returned (elim x as (λ _. Result Reply Refusal) [ none ↦ Ok Performed | some f ↦ Err f ]) ≡ number_for x
       number none = refl
       number (some f) = refl
 

@@ -7,6 +7,7 @@ use mathlib.Core.Option.{Option, none, some}
 use Prim.Native.Nat.{ℕ}
 use native.Mathlib.Omega.{arith}
 use lib.ListN.{length}
+use Rattle.std.specs.Prelude.{Ok}
 use Rattle.srp.specs.Refusals.{first_of_checks}
 use Rattle.srp.specs.Writing.{placed}
 use Rattle.srp.specs.Take.{Outcome}
@@ -33,11 +34,11 @@ module _ (c : Settings) (own s : List ℕ) where
   login_number (some f) = refl
 
   -- a login that is judged is rejected for the first reason that fits, and else accepted
-  rejected_iff : (y : Option ℕ) (reason : ℕ) → ((judged y c s).reply ≡ Rejected reason) ↔ (y ≡ some reason)
+  rejected_iff : (y : Option ℕ) (reason : ℕ) → ((judged y c s).reply ≡ Ok (Rejected reason)) ↔ (y ≡ some reason)
   rejected_iff none reason = ((λ q. let z : ◌≡◌ {A = ℕ} 0 1 = cc in absurd (omega arith)), (λ q. let z : ◌≡◌ {A = ℕ} 0 1 = cc in absurd (omega arith)))
   rejected_iff (some r) reason = ((λ q. cc), (λ q. cc))
 
-  accepted_iff : (y : Option ℕ) → ((judged y c s).reply ≡ Accepted) ↔ (y ≡ none)
+  accepted_iff : (y : Option ℕ) → ((judged y c s).reply ≡ Ok Accepted) ↔ (y ≡ none)
   accepted_iff none = ((λ q. refl), (λ q. refl))
   accepted_iff (some r) = ((λ q. let z : ◌≡◌ {A = ℕ} 0 1 = cc in absurd (omega arith)), (λ q. let z : ◌≡◌ {A = ℕ} 0 1 = cc in absurd (omega arith)))
 
@@ -57,7 +58,7 @@ module _ (c : Settings) (own s : List ℕ) where
             buffer = A.call.buffer ∙ ap (λ (o : Outcome). placed o.wrote b) is;
           };
           closed = λ reason q. A.call.closed λ a.
-              let z : (judged y c s).reply ≡ Accepted = sym (ap (λ (o : Outcome). o.reply) is) ∙ a in
+              let z : (judged y c s).reply ≡ Ok Accepted = sym (ap (λ (o : Outcome). o.reply) is) ∙ a in
               let k : some reason ≡ none = sym q ∙ (accepted_iff y).0 z in
               let i : ◌≡◌ {A = ℕ} 0 1 = cc in omega arith;
         }
@@ -68,7 +69,7 @@ module _ (c : Settings) (own s : List ℕ) where
         record {
           words = A.numbers.words ∙ ap (λ (o : Outcome). answer_words (answer_of o)) is;
           port = A.call.closed λ a.
-              let z : (login_by (some f) c own s).reply ≡ Accepted = sym (ap (λ (o : Outcome). o.reply) is) ∙ a in
+              let z : (login_by (some f) c own s).reply ≡ Ok Accepted = sym (ap (λ (o : Outcome). o.reply) is) ∙ a in
               let i : ◌≡◌ {A = ℕ} 0 1 = cc in omega arith;
           buffer = A.call.buffer ∙ ap (λ (o : Outcome). placed o.wrote b) is;
         }

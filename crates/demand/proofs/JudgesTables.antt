@@ -6,6 +6,7 @@ use mathlib.Core.List.{List, []}
 use mathlib.Core.Option.{Option, none, some}
 use Prim.Native.Nat.{ℕ}
 use lib.ListN.{length}
+use Rattle.std.specs.Prelude.{Result, Ok, Err}
 use Rattle.srp.specs.Refusals.{Conduct, hangs_up, answered, stays, alters_nothing, conduct_of, first_of_checks}
 use Rattle.srp.specs.Credit.{Port}
 use Rattle.srp.specs.Writing.{placed}
@@ -14,7 +15,7 @@ use Rattle.srp.specs.Tables.{tables_checks, tables_refused, tables_outcome, tabl
 use Rattle.srp.specs.Answers.{returned, size_of, answer_of}
 use Rattle.srp.specs.declared.Refusal.{Refusal}
 use Rattle.srp.specs.declared.Reply.{Reply}
-use Rattle.srp.specs.declared.Reply.TheVariants.{Refused, Performed}
+use Rattle.srp.specs.declared.Reply.TheVariants.{Performed}
 use Rattle.srp.proofs.Refusing.{tables_as}
 use Rattle.answer.specs.Words.{answer_words}
 use Rattle.words.specs.View.{view}
@@ -50,7 +51,7 @@ module _ {l st b l' st' b' : List ℕ} {n : ℕ} {w : List ℕ} (tag : ℕ) (t :
   accepted e = record { comes = comes _ (by e); store = A.store.brought (ap (λ (x : Outcome). x.reply) (by e)) }
 
   module _ (f : Refusal) (e : first_of_checks (tables_checks (view l st) (length b) tag t) ≡ some f) where
-    reply : (tables_def (view l st) (length b) tag t).reply ≡ Refused f
+    reply : (tables_def (view l st) (length b) tag t).reply ≡ Err f
     reply = ap (λ (x : Outcome). x.reply) (by e) ∙ tables_as (view l st) tag f
 
     same : (conduct_of f ≡ answered → ⊥) → Unaltered l b l' b' w
@@ -70,7 +71,7 @@ module _ {l st b l' st' b' : List ℕ} {n : ℕ} {w : List ℕ} (tag : ℕ) (t :
           store = A.store.kept (λ q. not_performed (sym reply ∙ q));
         }
       where
-        not_performed : ◌≡◌ {A = Reply} (Refused f) Performed → ⊥
+        not_performed : ◌≡◌ {A = Result Reply Refusal} (Err f) (Ok Performed) → ⊥
         not_performed q = not_zero f (ap returned q)
 
 pub judges_tables : (l st b l' st' b' : List ℕ) (tag : ℕ) (t : Tables) (n : ℕ) (w : List ℕ) → TablesInC l st b l' st' b' tag t n w → JudgesTables l st b l' st' b' tag t n w

@@ -9,6 +9,7 @@ use Prim.Native.Nat.{ℕ}
 use lib.Dec.{ltb}
 use borrow.Author.Tests.{not-false}
 use lib.ListN.{length}
+use Rattle.std.specs.Prelude.{Err}
 use Rattle.srp.specs.Limits.{buffer_size}
 use Rattle.srp.specs.Refusals.{Conduct, hangs_up, answered, stays, alters_nothing, conduct_of, first_of_checks}
 use Rattle.srp.specs.Credit.{Port}
@@ -18,7 +19,6 @@ use Rattle.srp.specs.Order.{take_order}
 use Rattle.srp.specs.Answers.{returned, size_of, answer_of}
 use Rattle.srp.specs.declared.Refusal.{Refusal}
 use Rattle.srp.specs.declared.Refusal.TheVariants.{ShortBuffer, Closed}
-use Rattle.srp.specs.declared.Reply.TheVariants.{Refused}
 use Rattle.srp.specs.declared.Message.{Message}
 use Rattle.srp.specs.declared.Message.TheVariants.{Bad, Cmd, TskMgmt, CredRsp, ILogout}
 use Rattle.srp.proofs.Checks.{passes}
@@ -103,7 +103,7 @@ module _ {l st b l' st' b' : List ℕ} {n : ℕ} {w : List ℕ} (s : List ℕ) (
       same : (conducted c (view l st) (read_on (view l st) s) f).wrote ≡ [] → Unaltered l b l' b' w
       same z =
           let o : Outcome = take_def (view l st) (length b) s in
-          let reply : o.reply ≡ Refused f = ap (λ (x : Outcome). x.reply) refused ∙ refused_as (view l st) (read_on (view l st) s) f in
+          let reply : o.reply ≡ Err f = ap (λ (x : Outcome). x.reply) refused ∙ refused_as (view l st) (read_on (view l st) s) f in
           let size : size_of o.wrote ≡ 0 = ap (λ (x : Outcome). size_of x.wrote) outcome ∙ ap size_of z in
           record {
             words = A.answers.numbers.words ∙ (λ i. answer_words (record { reply = reply i; wrote = size i }));

@@ -3,16 +3,18 @@
 use mathlib.Core.Path.{◌≡◌, ap}
 use mathlib.Core.List.{List, []}
 use Prim.Native.Nat.{ℕ}
+use Rattle.std.specs.Prelude.{Result}
 use Rattle.srp.specs.Take.{Outcome}
 use Rattle.srp.specs.Answers.{returned, values_of, answer_of}
 use Rattle.srp.specs.declared.Answer.{Answer}
 use Rattle.srp.specs.declared.Reply.{Reply}
 use Rattle.exports.specs.Calls.{InC}
 use Rattle.demand.specs.Numbered.{SaysAs, CountsAs, EachSays, EachCounts}
+use Rattle.srp.specs.declared.Refusal.{Refusal}
 
 -- a reply that is the outcome's
-says : {r : Reply} {o : Outcome} → r ≡ o.reply → SaysAs r o
-says e = record { number = ap (λ (x : Reply). returned x) e; values = ap (λ (x : Reply). values_of x) e }
+says : {r : Result Reply Refusal} {o : Outcome} → r ≡ o.reply → SaysAs r o
+says e = record { number = ap (λ (x : Result Reply Refusal). returned x) e; values = ap (λ (x : Result Reply Refusal). values_of x) e }
 
 answers : {a : Answer} {o : Outcome} → a ≡ answer_of o → SaysAs a.reply o
 answers e = says (ap (λ (x : Answer). x.reply) e)

@@ -10,6 +10,7 @@ use borrow.Author.Tests.{not-false, ne_eqb}
 use lib.Dec.{eqb}
 use lib.ListN.{length, get_or}
 use lib.Seq.{take-append_seam}
+use Rattle.std.specs.Prelude.{Result, Ok, Err}
 use Rattle.srp.specs.Lists.{find, is_some}
 use Rattle.srp.specs.Refusals.{Conduct, hangs_up, answered, stays, alters_nothing, conduct_of, number_of, first_of_checks}
 use Rattle.srp.specs.Writing.{placed}
@@ -30,7 +31,7 @@ use Rattle.srp.specs.declared.Refusal.{Refusal}
 use Rattle.srp.specs.declared.Message.{Message}
 use Rattle.srp.specs.declared.Message.TheVariants.{Bad, Cmd, TskMgmt, CredRsp, ILogout}
 use Rattle.srp.specs.declared.Reply.{Reply}
-use Rattle.srp.specs.declared.Reply.TheVariants.{Refused, Performed, NewCommand, Served}
+use Rattle.srp.specs.declared.Reply.TheVariants.{Performed, NewCommand, Served}
 use Rattle.srp.proofs.RefusalLaws.{numbered}
 use Rattle.srp.proofs.Checks.{passes, hit}
 use Rattle.answer.specs.Words.{answer_words}
@@ -67,10 +68,10 @@ pub record Told (said : List ℕ → Reply) (o : Outcome) : Type 0 where
   pub single : Single o.wrote
 
 -- a refusal, whatever the words
-refused : (said : List ℕ → Reply) (f : Refusal) (w : List ℕ) → reply_by said (number_of f) w ≡ Refused f
+refused : (said : List ℕ → Reply) (f : Refusal) (w : List ℕ) → reply_by said (number_of f) w ≡ Err f
 refused said f w = ap (λ (x : Option Refusal). refused_or x (said w)) (numbered f)
 
-refused_told : (said : List ℕ → Reply) (f : Refusal) (p : Port) (ws : List (List ℕ)) → Single ws → Told said (record { reply = Refused f; port = p; wrote = ws })
+refused_told : (said : List ℕ → Reply) (f : Refusal) (p : Port) (ws : List (List ℕ)) → Single ws → Told said (record { reply = Err f; port = p; wrote = ws })
 refused_told said f p ws h = record { reply = refused said f _; size = refl; single = h }
 
 -- a call with its checks
@@ -79,7 +80,7 @@ unless_told said none p o h = h refl
 unless_told said (some f) p o h = refused_told said f p [] tt
 
 -- one that is performed
-performed_told : (p : Port) (ws : List (List ℕ)) → Single ws → Told performed (record { reply = Performed; port = p; wrote = ws })
+performed_told : (p : Port) (ws : List (List ℕ)) → Single ws → Told performed (record { reply = Ok Performed; port = p; wrote = ws })
 performed_told p ws h = record { reply = refl; size = refl; single = h }
 
 -- ── each call
@@ -98,7 +99,7 @@ module _ (p : Port) where
 
   accepted_told : (s : List ℕ) (m : Message) → Told taken (accepted p s m)
   accepted_told s (Bad r) = conducted_told (Bad r) r (conduct_of r)
-  accepted_told s (Cmd c) = record { reply = ap (NewCommand c.request.tag c.request.lun c.cdb) (waits_told (waits c)); size = refl; single = tt }
+  accepted_told s (Cmd c) = record { reply = ap (λ w. Ok (NewCommand c.request.tag c.request.lun c.cdb w)) (waits_told (waits c)); size = refl; single = tt }
   accepted_told s (TskMgmt k) = record { reply = refl; size = refl; single = omega arith }
   accepted_told s (CredRsp g) = record { reply = refl; size = refl; single = tt }
   accepted_told s ILogout = record { reply = refl; size = refl; single = tt }
@@ -149,7 +150,7 @@ module _ (p : Port) where
   step_said tag d = let c = find (has_tag tag) p.held in go (first_of_checks (step_checks p tag)) d (number_in d c) (next_of p.terms d c)
     where
       go : (x : Option Refusal) (d : Direction) (n : ℕ) (y : Option Piece) → InWords stepped (unless x p (hand_out_lem p tag d n y))
-      go (some f) d n y = refused stepped f (answer_words (answer_of (silent p (Refused f))))
+      go (some f) d n y = refused stepped f (answer_words (answer_of (silent p (Err f))))
       go none d n none = refl
       go none Out n (some o) = refl
       go none In n (some o) = refl
@@ -157,7 +158,7 @@ module _ (p : Port) where
   pub turn_said : InWords turned (turn_def p)
   turn_said = go (first_of_checks (turn_checks p)) p.line
     where
-      piece_said : (q : Port) (tag : ℕ) (d : Direction) (o : Piece) (n : ℕ) → InWords turned (silent q (Served tag d o n))
+      piece_said : (q : Port) (tag : ℕ) (d : Direction) (o : Piece) (n : ℕ) → InWords turned (silent q (Ok (Served tag d o n)))
       piece_said q tag Out o n = refl
       piece_said q tag In o n = refl
 
@@ -166,7 +167,7 @@ module _ (p : Port) where
       one x others n (some o) = piece_said (serve p x others n (some o)).port x.tag x.direction (wrapped o) (n + 1)
 
       go : (x : Option Refusal) (line : List Place) → InWords turned (unless x p (serve_first p line))
-      go (some f) line = refused turned f (answer_words (answer_of (silent p (Refused f))))
+      go (some f) line = refused turned f (answer_words (answer_of (silent p (Err f))))
       go none [] = refl
       go none (x ∷ others) =
           let c = find (has_tag x.tag) p.held in
@@ -176,7 +177,7 @@ module _ (p : Port) where
 abbrev pub Silent : Outcome → Type 0
 Silent o = (reply_by performed (returned o.reply) [] ≡ o.reply)
 
-silently_said : (x : Option Refusal) (p q : Port) → Silent (unless x p (silent q Performed))
+silently_said : (x : Option Refusal) (p q : Port) → Silent (unless x p (silent q (Ok Performed)))
 silently_said none p q = refl
 silently_said (some f) p q = refused performed f []
 
@@ -211,7 +212,7 @@ login_told c own room s = go (first_of_checks (login_checks c room s)) (first_of
 
 -- ── of the contracts in C
 
-outcome : (o : Outcome) (r : Reply) (p : Port) (ss : List (List ℕ)) → o.reply ≡ r → o.port ≡ p → o.wrote ≡ ss → o ≡ record { reply = r; port = p; wrote = ss }
+outcome : (o : Outcome) (r : Result Reply Refusal) (p : Port) (ss : List (List ℕ)) → o.reply ≡ r → o.port ≡ p → o.wrote ≡ ss → o ≡ record { reply = r; port = p; wrote = ss }
 outcome o r p ss e f g = λ i. record { reply = e i; port = f i; wrote = g i }
 
 module _ {o : Outcome} {n : ℕ} {w : List ℕ} (N : InC n w o) where

@@ -8,6 +8,7 @@ use mathlib.Core.Option.{Option, none, some}
 use Prim.Native.Nat.{ℕ, ◌+◌}
 use native.Mathlib.Omega.{arith}
 use lib.ListN.{get_or}
+use Rattle.std.specs.Prelude.{Result, Ok}
 use Rattle.srp.specs.Lists.{find, is_some}
 use Rattle.srp.specs.Refusals.{first_of_checks}
 use Rattle.srp.specs.Both.{of}
@@ -99,10 +100,10 @@ module _ (n : ℕ) (w : List ℕ) where
         let e : get_or w 0 0 ≡ 1 = ap (λ (l : List ℕ). get_or l 0 0) (serves x others q).words in
         absurd (omega (arith, z, e))
 
-    says_idle : (turn_def p).reply ≡ Idle → (n ≡ 0) × (get_or w 0 0 ≡ 0)
+    says_idle : (turn_def p).reply ≡ Ok Idle → (n ≡ 0) × (get_or w 0 0 ≡ 0)
     says_idle e = (
       N.number ∙ ap returned e,
-      ap (λ (l : List ℕ). get_or l 0 0) (N.words ∙ ap (λ (r : Reply). answer_words (record { reply = r; wrote = size_of (turn_def p).wrote })) e),
+      ap (λ (l : List ℕ). get_or l 0 0) (N.words ∙ ap (λ (r : Result Reply Refusal). answer_words (record { reply = r; wrote = size_of (turn_def p).wrote })) e),
     )
 
     open_says : TurnSays p n w

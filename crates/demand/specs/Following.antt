@@ -1,7 +1,7 @@
 -- Demand 2, of the C functions: "messages are read by the layouts of SRP-2, and what the port writes follows them too: fields written by the layouts read
 -- back as those fields, on either side". It is said along every run from an accepted login; its premises are C's types: messages are bytes, and
 -- numbers have the widths that the header gives them.
-use Rattle.std.specs.Prelude.{◌≡◌, true, false, ◌||◌, List, [], ◌∷◌, ◌++◌, ℕ, ◌+◌, ◌*◌, ◌^◌, ◌<◌, ◌≤◌, length}
+use Rattle.std.specs.Prelude.{◌≡◌, true, false, ◌||◌, List, [], ◌∷◌, ◌++◌, ℕ, ◌+◌, ◌*◌, ◌^◌, ◌<◌, ◌≤◌, length, Result, Ok}
 use contract.Lifetimes.{Lfts}
 use Rattle.srp.specs.Limits.{answer_size, both_formats}
 use Rattle.srp.specs.Bytes.{Bytes, bytes_of, get, part, type_of, write, InRange}
@@ -32,6 +32,7 @@ use Rattle.exports.specs.Arguments.{settings_in, way_in}
 use Rattle.demand.specs.Posts.{Slice, MutSlice, LookPost, TracePost}
 use Rattle.demand.specs.Judgement.{read_on}
 use Rattle.demand.specs.Calls.{Memory, seen, LoggedIn, Took, Brought, Finished, Granted, Ended, Planned, Named, Stepped, Turned, Added, Withdrew}
+use Rattle.srp.specs.declared.Refusal.{Refusal}
 
 -- ── the calls
 
@@ -83,16 +84,16 @@ pub record Receives (s : Memory) (room : ℕ) (msg : List ℕ) (o : Outcome) : T
 -- what a call is: that it was made, with its reply, what it wrote and what it left; C's types of its arguments, as far as a message can carry them; the
 -- length of its lent buffer; and what is said of a message put to it, whose outcome is o
 pub record Calling : Type 1 where
-  pub made : (s : Memory) (r : Reply) (ss : List (List ℕ)) (s' : Memory) → Type 0
+  pub made : (s : Memory) (r : Result Reply Refusal) (ss : List (List ℕ)) (s' : Memory) → Type 0
   pub typed : Type 0
   pub room : ℕ
   pub received : (s : Memory) (o : Outcome) → Type 0
 
 -- a call that gets no message: with a lent buffer, and without
-abbrev pub writing : ℕ → (Memory → Reply → List (List ℕ) → Memory → Type 0) → Type 0 → Calling
+abbrev pub writing : ℕ → (Memory → Result Reply Refusal → List (List ℕ) → Memory → Type 0) → Type 0 → Calling
 writing room made typed = record { made = made; typed = typed; room = room; received = λ s o. Unit {0} }
 
-abbrev pub quiet : (Memory → Reply → List (List ℕ) → Memory → Type 0) → Type 0 → Calling
+abbrev pub quiet : (Memory → Result Reply Refusal → List (List ℕ) → Memory → Type 0) → Type 0 → Calling
 quiet made typed = writing 0 made typed
 
 abbrev pub calling_of : PortCall → Calling
@@ -112,9 +113,9 @@ calling_of (close_call room reason) = writing room (λ s. Ended s room reason) (
 
 -- what an accepted login left, with any store, and what calls made of it one after the other
 pub data Led : Memory → Type 0 where
-  begins : (settings : List ℕ) (Q : ℕ) (own msg : List ℕ) (room : ℕ) (ss : List (List ℕ)) (p store : List ℕ) → LoggedIn settings Q own msg room Accepted ss p
+  begins : (settings : List ℕ) (Q : ℕ) (own msg : List ℕ) (room : ℕ) (ss : List (List ℕ)) (p store : List ℕ) → LoggedIn settings Q own msg room (Ok Accepted) ss p
       → Led (record { words = p; store = store })
-  goes_on : (s s' : Memory) (c : PortCall) (r : Reply) (ss : List (List ℕ)) → Led s → (calling_of c).typed → (calling_of c).made s r ss s' → Led s'
+  goes_on : (s s' : Memory) (c : PortCall) (r : Result Reply Refusal) (ss : List (List ℕ)) → Led s → (calling_of c).typed → (calling_of c).made s r ss s' → Led s'
 
 -- ── what is said of each call of it
 
@@ -122,7 +123,7 @@ pub data Led : Memory → Type 0 where
 abbrev pub InRoom : ℕ → List ℕ → Type 0
 InRoom room m = Follows m × (length m ≤ room)
 
-pub record ByLayouts (s : Memory) (c : PortCall) (r : Reply) (ss : List (List ℕ)) (s' : Memory) : Type 0 where
+pub record ByLayouts (s : Memory) (c : PortCall) (r : Result Reply Refusal) (ss : List (List ℕ)) (s' : Memory) : Type 0 where
   -- the ports before and after it are ones that a login made and calls changed, and in the ranges of such ports
   pub reached : Reached (seen s)
   pub ranged : Ranged (seen s)
@@ -164,8 +165,8 @@ pub record TraceByLayouts (w : Way) (msg b b' : List ℕ) (n : ℕ) : Type 0 whe
 -- ── demand 2, whole
 
 pub record Demand2InC : Type 0 where
-  pub calls : (s s' : Memory) (c : PortCall) (r : Reply) (ss : List (List ℕ)) → Led s → (calling_of c).typed → (calling_of c).made s r ss s' → ByLayouts s c r ss s'
-  pub login : (settings : List ℕ) (Q : ℕ) (own msg : List ℕ) (room : ℕ) (r : Reply) (ss : List (List ℕ)) (p store : List ℕ) → Bytes msg → LoggedIn settings Q own msg room r ss p
+  pub calls : (s s' : Memory) (c : PortCall) (r : Result Reply Refusal) (ss : List (List ℕ)) → Led s → (calling_of c).typed → (calling_of c).made s r ss s' → ByLayouts s c r ss s'
+  pub login : (settings : List ℕ) (Q : ℕ) (own msg : List ℕ) (room : ℕ) (r : Result Reply Refusal) (ss : List (List ℕ)) (p store : List ℕ) → Bytes msg → LoggedIn settings Q own msg room r ss p
       → LoginByLayouts settings Q own msg room (record { reply = r; port = view p store; wrote = ss })
   pub look : (m : Slice) (b d : MutSlice) (agreed formats n : ℕ) → LookPost m b d agreed formats n → LookByLayouts agreed formats m.now b.now d.now n
   pub trace : (m : Slice) (b d : MutSlice) (direction n : ℕ) → TracePost m b d direction n → line_length ≤ length b.now

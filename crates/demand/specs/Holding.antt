@@ -1,5 +1,5 @@
 -- Demand 3, of the C functions: of every list of events that follows an accepted login, and what the owner then reads.
-use Rattle.std.specs.Prelude.{◌≡◌, List, ◌∷◌, map, ℕ, ◌/◌, ◌≤◌, length, replicate}
+use Rattle.std.specs.Prelude.{◌≡◌, List, ◌∷◌, map, ℕ, ◌/◌, ◌≤◌, length, replicate, Ok}
 use Rattle.srp.specs.Limits.{most_buffers}
 use Rattle.srp.specs.Lists.{over}
 use Rattle.srp.specs.Credit.{owed}
@@ -18,7 +18,7 @@ use Rattle.demand.specs.Calls.{Memory, seen, LoggedIn, Call}
 abbrev pub OfRuns : (Claim : (L : Login) (s : Memory) (m : Machine) (es : List Event) → Run L seen Call s m es → Type 0)
     → (settings : List ℕ) (Q : ℕ) (own msg : List ℕ) (room : ℕ) (ss : List (List ℕ)) (p store : List ℕ) → Type 0
 OfRuns Claim settings Q own msg room ss p store =
-    LoggedIn settings Q own msg room Accepted ss p
+    LoggedIn settings Q own msg room (Ok Accepted) ss p
     → let c : Settings = settings_in settings Q in
     let L : Login = login_of c msg in
     let s : Memory = record { words = p; store = store } in
@@ -29,7 +29,7 @@ Holds settings Q own msg room ss p store = OfRuns (λ L s m es run. Demand L see
 
 -- what the counters answer, the number n and the words w: "W, A, H and D", the first three as the machine has counted them
 abbrev pub Reports : (L : Login) (m : Machine) (s : Memory) (n : ℕ) (w : List ℕ) → Type 0
-Reports L m s n w = (n ≡ 0) × (w ≡ answer_words (record { reply = Counts (counted L m (owed (seen s))); wrote = 0 }))
+Reports L m s n w = (n ≡ 0) × (w ≡ answer_words (record { reply = Ok (Counts (counted L m (owed (seen s)))); wrote = 0 }))
 
 -- what the listing answers and leaves of the lent words, where they have room for 16 records: "each command once", as many as the machine holds, as its own list
 -- has them, "the rest of the list untouched"

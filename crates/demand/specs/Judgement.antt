@@ -1,7 +1,7 @@
 -- Demand 1, of the C functions: "A message handed to the port .. is taken, or draws the refusal that document 01 names for it and no other. Every public
 -- call makes its own checks and returns, and after a refusal the port's state and each lent buffer hold what document 01 says". l and st are the port's
 -- words and store before the call, l' and st' after it; b and b' the lent buffer; n is returned, w are the words of the answer.
-use Rattle.std.specs.Prelude.{◌≡◌, ◌↔◌, false, List, [], ◌∷◌, ℕ, ◌/◌, ltb, length, replicate}
+use Rattle.std.specs.Prelude.{◌≡◌, ◌↔◌, false, List, [], ◌∷◌, ℕ, ◌/◌, ltb, length, replicate, Ok}
 use Rattle.std.proofs.Math.Option.{none, some}
 use Rattle.srp.specs.Limits.{answer_size}
 use Rattle.srp.specs.Lists.{over}
@@ -116,8 +116,8 @@ JudgesTables l st b l' st' b' tag t n w =
 
 pub record LoginJudged (c : Settings) (own s l' st b b' : List ℕ) (n : ℕ) (w : List ℕ) : Type 0 where
   -- rejected for a reason exactly if it is the first that fits, and accepted exactly if none does
-  pub rejects : (reason : ℕ) → (reply_by logged_in n w ≡ Rejected reason) ↔ (first_of_checks (rejections c own s) ≡ some reason)
-  pub accepts : (reply_by logged_in n w ≡ Accepted) ↔ (first_of_checks (rejections c own s) ≡ none)
+  pub rejects : (reason : ℕ) → (reply_by logged_in n w ≡ Ok (Rejected reason)) ↔ (first_of_checks (rejections c own s) ≡ some reason)
+  pub accepts : (reply_by logged_in n w ≡ Ok Accepted) ↔ (first_of_checks (rejections c own s) ≡ none)
   pub comes : Comes (judged (first_of_checks (rejections c own s)) c s) l' st b b' w
   -- a rejection leaves the closed port's words
   pub closed : (reason : ℕ) → first_of_checks (rejections c own s) ≡ some reason → l' ≡ closed_words

@@ -1,7 +1,7 @@
 -- Document 01: "For each case of an enum answer, a definition gives this paper's number and values. The promises use that definition". The definition is
 -- `returned` and `values_of` (crate srp, specs/Answers.antt), of look and the cut `look_answer` and `cut_answer` (specs/Outside.antt), of trace `trace_in_c` (crate page, specs/Page.antt),
 -- of format counts `divided_number` and `divided_words` (crate division, specs/Dividing.antt).
-use Rattle.std.specs.Prelude.{◌≡◌, List, ◌++◌, ℕ, ◌/◌, length}
+use Rattle.std.specs.Prelude.{◌≡◌, List, ◌++◌, ℕ, ◌/◌, length, Result}
 use Rattle.srp.specs.Take.{Outcome, take_def}
 use Rattle.srp.specs.Answers.{returned, values_of, size_of}
 use Rattle.srp.specs.declared.Reply.{Reply}
@@ -41,9 +41,10 @@ use Rattle.close.proofs.close.Reads as close_call
 use Rattle.report.proofs.counters.Reads as counters_call
 use Rattle.report.proofs.list.Reads as list_call
 use Rattle.demand.specs.Posts.{Slice, MutSlice, LoginPost, TakePost, TablesPost, PlanPost, MovePost, StepPost, TurnPost, FinishPost, AddPost, WithdrawPost, GrantPost, ClosePost, CountersPost, ListPost, LookPost, CutPost, TracePost, FormatCountsPost}
+use Rattle.srp.specs.declared.Refusal.{Refusal}
 
 -- of a call by value: the reply r has the number and the values of the outcome
-pub record SaysAs (r : Reply) (o : Outcome) : Type 0 where
+pub record SaysAs (r : Result Reply Refusal) (o : Outcome) : Type 0 where
   pub number : returned r ≡ returned o.reply
   pub values : values_of r ≡ values_of o.reply
 
@@ -64,25 +65,25 @@ pub record EachSays : Type 0 where
   pub tables : (p q : MutSlice) (κs : Lfts 5) (s s' : MutSlice) (tag : ℕ) (out inn : Slice) (b d : MutSlice) (a : Answer)
       → tables_call.Post κs (p, (s, (tag, (out, (inn, (b, tt)))))) a (q, (s', (tag, (out, (inn, (d, tt))))))
       → SaysAs a.reply (tables_def (view p.now s.now) (length b.now) tag (tables_of out.now inn.now))
-  pub plan : (st : List ℕ) (p q : MutSlice) (κs : Lfts 1) (tag out inn : ℕ) (r : Reply)
+  pub plan : (st : List ℕ) (p q : MutSlice) (κs : Lfts 1) (tag out inn : ℕ) (r : Result Reply Refusal)
       → plan_call.Post κs (p, (tag, (out, (inn, tt)))) r (q, (tag, (out, (inn, tt))))
       → SaysAs r (plan_def (view p.now st) tag out inn)
-  pub move : (st : List ℕ) (p q : MutSlice) (κs : Lfts 1) (tag : ℕ) (d : Direction) (offset count : ℕ) (r : Reply)
+  pub move : (st : List ℕ) (p q : MutSlice) (κs : Lfts 1) (tag : ℕ) (d : Direction) (offset count : ℕ) (r : Result Reply Refusal)
       → move_call.Post κs (p, (tag, (d, (offset, (count, tt))))) r (q, (tag, (d, (offset, (count, tt)))))
       → SaysAs r (move_def (view p.now st) tag d offset count)
-  pub step : (p q : MutSlice) (κs : Lfts 2) (s : Slice) (tag : ℕ) (d : Direction) (r : Reply)
+  pub step : (p q : MutSlice) (κs : Lfts 2) (s : Slice) (tag : ℕ) (d : Direction) (r : Result Reply Refusal)
       → step_call.Post κs (p, (s, (tag, (d, tt)))) r (q, (s, (tag, (d, tt))))
       → SaysAs r (step_def (view p.now s.now) tag d)
-  pub turn : (p q : MutSlice) (κs : Lfts 2) (s : Slice) (r : Reply)
+  pub turn : (p q : MutSlice) (κs : Lfts 2) (s : Slice) (r : Result Reply Refusal)
       → turn_call.Post κs (p, (s, tt)) r (q, (s, tt))
       → SaysAs r (turn_def (view p.now s.now))
   pub finish : (st : List ℕ) (p q : MutSlice) (κs : Lfts 3) (tag status : ℕ) (e : Slice) (b d : MutSlice) (a : Answer)
       → finish_call.Post κs (p, (tag, (status, (e, (b, tt))))) a (q, (tag, (status, (e, (d, tt)))))
       → SaysAs a.reply (finish_def (view p.now st) (length b.now) tag status e.now)
-  pub add : (st : List ℕ) (p q : MutSlice) (κs : Lfts 1) (k : ℕ) (r : Reply)
+  pub add : (st : List ℕ) (p q : MutSlice) (κs : Lfts 1) (k : ℕ) (r : Result Reply Refusal)
       → add_call.Post κs (p, (k, tt)) r (q, (k, tt))
       → SaysAs r (add_def (view p.now st) k)
-  pub withdraw : (st : List ℕ) (p q : MutSlice) (κs : Lfts 1) (k : ℕ) (r : Reply)
+  pub withdraw : (st : List ℕ) (p q : MutSlice) (κs : Lfts 1) (k : ℕ) (r : Result Reply Refusal)
       → withdraw_call.Post κs (p, (k, tt)) r (q, (k, tt))
       → SaysAs r (withdraw_def (view p.now st) k)
   pub grant : (st : List ℕ) (p q : MutSlice) (κs : Lfts 2) (b d : MutSlice) (a : Answer)
@@ -91,14 +92,14 @@ pub record EachSays : Type 0 where
   pub close : (st : List ℕ) (p q : MutSlice) (κs : Lfts 2) (reason : ℕ) (b d : MutSlice) (a : Answer)
       → close_call.Post κs (p, (reason, (b, tt))) a (q, (reason, (d, tt)))
       → SaysAs a.reply (close_def (view p.now st) (length b.now) reason)
-  pub counters : (st : List ℕ) (p : Slice) (κs : Lfts 1) (r : Reply)
+  pub counters : (st : List ℕ) (p : Slice) (κs : Lfts 1) (r : Result Reply Refusal)
       → counters_call.Post κs (p, tt) r (p, tt)
       → SaysAs r (counters_def (view p.now st))
   pub list : (st : List ℕ) (p : Slice) (κs : Lfts 1) (g : Listing)
       → list_call.Post κs (p, tt) g (p, tt)
       → SaysAs g.reply (list_def (view p.now st) most_buffers)
   -- `WritesListing` is what the contracts of `list_into` and `lend` cite
-  pub list_into_lem : (st : List ℕ) (p : Slice) (before after : List Record) (r : Reply)
+  pub list_into_lem : (st : List ℕ) (p : Slice) (before after : List Record) (r : Result Reply Refusal)
       → WritesListing p.now before after r
       → SaysAs r (list_def (view p.now st) (length before))
 

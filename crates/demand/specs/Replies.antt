@@ -1,5 +1,5 @@
 -- What a call from C says: the reply that the number returned and the eight words of the answer stand for, and the message in the lent buffer.
-use Rattle.std.specs.Prelude.{cond, List, [], ◌∷◌, ℕ, zero, suc, eqb, get_or, take}
+use Rattle.std.specs.Prelude.{cond, List, [], ◌∷◌, ℕ, zero, suc, eqb, get_or, take, Result, Ok, Err}
 use Rattle.std.proofs.Math.Option.{Option, none, some}
 use Rattle.srp.specs.Refusals.{refusal_numbered}
 use Rattle.srp.specs.Cutting.{piece}
@@ -7,14 +7,14 @@ use Rattle.srp.specs.declared.Direction.TheVariants.{Out, In}
 use Rattle.srp.specs.declared.Refusal.{Refusal}
 use Rattle.srp.specs.declared.Kind.TheVariants.{Read, Write}
 use Rattle.srp.specs.declared.Reply.{Reply}
-use Rattle.srp.specs.declared.Reply.TheVariants.{Refused, Performed, NewCommand, TaskAnswered, CreditSettled, LoggedOut, Operation, Done, Served, Idle, Accepted, Rejected}
+use Rattle.srp.specs.declared.Reply.TheVariants.{Performed, NewCommand, TaskAnswered, CreditSettled, LoggedOut, Operation, Done, Served, Idle, Accepted, Rejected}
 
-abbrev pub refused_or : Option Refusal → Reply → Reply
-refused_or none r = r
-refused_or (some f) r = Refused f
+abbrev pub refused_or : Option Refusal → Reply → Result Reply Refusal
+refused_or none r = Ok r
+refused_or (some f) r = Err f
 
 -- where n is a refusal's number, that refusal; else what the words w say, as `said` reads them
-abbrev pub reply_by : (said : List ℕ → Reply) (n : ℕ) (w : List ℕ) → Reply
+abbrev pub reply_by : (said : List ℕ → Reply) (n : ℕ) (w : List ℕ) → Result Reply Refusal
 reply_by said n w = refused_or (refusal_numbered n) (said w)
 
 -- ── the words of each call

@@ -3,6 +3,7 @@ use mathlib.Core.Path.{◌≡◌, sym, ◌∙◌, ap, subst}
 use mathlib.Core.List.{List, []}
 use Prim.Native.Nat.{ℕ}
 use lib.ListN.{length}
+use Rattle.std.specs.Prelude.{Result}
 use Rattle.srp.specs.Take.{Outcome, Tables}
 use Rattle.srp.specs.Answers.{returned, size_of, answer_of}
 use Rattle.srp.specs.declared.Direction.{Direction}
@@ -26,13 +27,14 @@ use Rattle.division.specs.declared.Divided.{Divided}
 use Rattle.exports.specs.Answered.{Answered}
 use Rattle.exports.specs.Arguments.{direction_in}
 use Rattle.exports.specs.Calls.{Gives, InC, AnswersInC, StepsInC, RepliesInC, LogsInC, TakeInC, TablesInC, MoveInC, StepInC, TurnInC, FormatCountsInC}
+use Rattle.srp.specs.declared.Refusal.{Refusal}
 
 pub in_numbers : {n : ℕ} {w : List ℕ} {r : Answer} {o : Outcome} → r ≡ answer_of o → Gives n w r → InC n w o
 in_numbers e g = record { number = g.0 ∙ ap (λ (a : Answer). returned a.reply) e; words = g.1 ∙ ap (λ (a : Answer). answer_words a) e }
 
 -- a reply without a message
-pub silently : {r : Reply} (o : Outcome) → r ≡ o.reply → o.wrote ≡ [] → record { reply = r; wrote = 0 } ≡ answer_of o
-silently o e f = ap (λ (x : Reply). record { reply = x; wrote = 0 }) e ∙ ap (λ (m : List (List ℕ)). record { reply = o.reply; wrote = size_of m }) (sym f)
+pub silently : {r : Result Reply Refusal} (o : Outcome) → r ≡ o.reply → o.wrote ≡ [] → record { reply = r; wrote = 0 } ≡ answer_of o
+silently o e f = ap (λ (x : Result Reply Refusal). record { reply = x; wrote = 0 }) e ∙ ap (λ (m : List (List ℕ)). record { reply = o.reply; wrote = size_of m }) (sym f)
 
 pub answers_in_c : {l st b l' st' b' : List ℕ} {n : ℕ} {w : List ℕ} {o : Outcome} {r : Answer} → AnswersAs l st b l' st' b' r o → Gives n w r → AnswersInC l st b l' st' b' n w o
 answers_in_c {l} {st} {b} {l'} {st'} {b'} {n} {w} {o} A g = record { numbers = in_numbers A.answer g; call = subst (λ (x : Answer). AnswersAs l st b l' st' b' x o) A.answer A }
@@ -55,18 +57,18 @@ logs_in_c {st} {l'} {b} {b'} {n} {w} {r} {c} {c'} own msg room e L g =
     subst (λ (x : Settings). LogsInC st l' b b' n w (login_def x own room msg)) e
     (record { numbers = in_numbers L.answer g; call = subst (λ (x : Answer). LogsIn st l' b b' x (login_def c own room msg)) L.answer L })
 
-module _ {l st l' : List ℕ} {o : Outcome} {r : Reply} where
+module _ {l st l' : List ℕ} {o : Outcome} {r : Result Reply Refusal} where
   of_outcome : RepliesAs l st l' st r o → RepliesAs l st l' st o.reply o
-  of_outcome R = subst (λ (x : Reply). RepliesAs l st l' st x o) R.reply R
+  of_outcome R = subst (λ (x : Result Reply Refusal). RepliesAs l st l' st x o) R.reply R
 
   pub replies_in_c : {n : ℕ} → RepliesAs l st l' st r o → n ≡ returned r → RepliesInC l st l' n o
-  replies_in_c R e = record { number = e ∙ ap (λ (x : Reply). returned x) R.reply; call = of_outcome R }
+  replies_in_c R e = record { number = e ∙ ap (λ (x : Result Reply Refusal). returned x) R.reply; call = of_outcome R }
 
   pub steps_in_c : {n : ℕ} {w : List ℕ} → RepliesAs l st l' st r o → Gives n w (record { reply = r; wrote = 0 }) → StepsInC l st l' n w o
   steps_in_c R g = record { numbers = in_numbers (silently o R.reply R.wrote) g; call = of_outcome R }
 
 -- a move of the direction d, which is that of the number
-pub move_in_c : {l l' : List ℕ} {n : ℕ} {d : Direction} {r : Reply} (tag direction offset count : ℕ) → d ≡ direction_in direction
+pub move_in_c : {l l' : List ℕ} {n : ℕ} {d : Direction} {r : Result Reply Refusal} (tag direction offset count : ℕ) → d ≡ direction_in direction
     → Names l l' tag d offset count r
     → n ≡ returned r
     → MoveInC l l' tag direction offset count n
@@ -74,7 +76,7 @@ move_in_c {l} {l'} {r = r} tag direction offset count e N g st =
     replies_in_c (subst (λ (x : Direction). Names l l' tag x offset count r) e N st) g
 
 -- a step in the direction d, which is that of the number
-pub step_in_c : {l l' st : List ℕ} {tag n : ℕ} {w : List ℕ} {d : Direction} {r : Reply} (direction : ℕ) → d ≡ direction_in direction → Steps l l' st tag d r
+pub step_in_c : {l l' st : List ℕ} {tag n : ℕ} {w : List ℕ} {d : Direction} {r : Result Reply Refusal} (direction : ℕ) → d ≡ direction_in direction → Steps l l' st tag d r
     → Gives n w (record { reply = r; wrote = 0 })
     → StepInC l l' st tag direction n w
 step_in_c {l} {l'} {st} {tag} {r = r} direction e S g =
@@ -82,15 +84,15 @@ step_in_c {l} {l'} {st} {tag} {r = r} direction e S g =
     record { steps = steps_in_c D.replies g; done = λ k q. D.done k (D.replies.reply ∙ q) }
 
 -- a turn
-pub turn_in_c : {l l' st : List ℕ} {n : ℕ} {w : List ℕ} {r : Reply} → Turns l l' st r → Gives n w (record { reply = r; wrote = 0 }) → TurnInC l l' st n w
+pub turn_in_c : {l l' st : List ℕ} {n : ℕ} {w : List ℕ} {r : Result Reply Refusal} → Turns l l' st r → Gives n w (record { reply = r; wrote = 0 }) → TurnInC l l' st n w
 turn_in_c T g = record { turns = steps_in_c T.replies g; idle = λ q. T.idle (T.replies.reply ∙ q) }
 
 -- a trace of the way w, which is that of the number
-pub trace_in_c_lem : {w w' : Way} (s : List ℕ) {before after : List ℕ} {r : Reply} {n : ℕ} → w ≡ w' → Traced w s before after r → n ≡ returned r
+pub trace_in_c_lem : {w w' : Way} (s : List ℕ) {before after : List ℕ} {r : Result Reply Refusal} {n : ℕ} → w ≡ w' → Traced w s before after r → n ≡ returned r
     → Answered n before after (trace_in_c w' s (length before))
 trace_in_c_lem s {before} way t e =
     record {
-      number = e ∙ ap (λ (x : Reply). returned x) t.reply;
+      number = e ∙ ap (λ (x : Result Reply Refusal). returned x) t.reply;
       buffer = t.buffer ∙ ap (λ (x : Way). placed (trace_writes x s (length before)) before) way;
     }
 

@@ -6,6 +6,7 @@ use Prim.Native.Nat.{ℕ, suc, ◌+◌, ◌*◌, ◌/◌, ◌<◌, ◌≤◌}
 use native.Mathlib.Omega.{arith}
 use lib.ListN.{length, take, drop, get_or, length-append, replicate}
 use lib.Seq.{paste, take-suc, take-length, take-append_seam, length-take-le, length-paste, drop-append-add, drop-drop}
+use Rattle.std.specs.Prelude.{Result, Ok}
 use Rattle.srp.specs.Limits.{most_buffers}
 use Rattle.srp.specs.Refusals.{first_of_checks}
 use Rattle.srp.specs.Answers.{returned}
@@ -101,31 +102,31 @@ module _ (records : List Record) (n : ℕ) (before : List ℕ) where
 
 -- ── what the call from C promises
 
-module _ (l before : List ℕ) (r : Reply) (C : CountFor l (length before / record_size) r) (st : List ℕ) where
+module _ (l before : List ℕ) (r : Result Reply Refusal) (C : CountFor l (length before / record_size) r) (st : List ℕ) where
   numbered : {n : ℕ} {w : List ℕ} → Gives n w (record { reply = r; wrote = 0 }) → InC n w (list_def (view l st) (length before / record_size))
   numbered g =
       in_numbers (silently (list_def (view l st) (length before / record_size)) (C.reply st) (list_unwritten (view l st) (length before / record_size))) g
 
   -- a listing that is refused
-  pub list_wordless : ((n : ℕ) → r ≡ Listed n → ⊥) → Wordless r
+  pub list_wordless : ((n : ℕ) → r ≡ Ok (Listed n) → ⊥) → Wordless r
   list_wordless k = go (first_of_checks (list_checks (view l st) (length before / record_size))) (C.reply st)
     where
       go : (x : Option Refusal) → r ≡ (unless x (view l st) (list_outcome (view l st))).reply → Wordless r
       go none q = absurd (k (length (view l st).held) q)
-      go (some f) q = sym (ap (λ (y : Reply). answer_words (record { reply = y; wrote = 0 })) q)
+      go (some f) q = sym (ap (λ (y : Result Reply Refusal). answer_words (record { reply = y; wrote = 0 })) q)
 
-  pub list_refused : {n : ℕ} {w : List ℕ} → Gives n w (record { reply = r; wrote = 0 }) → ((n : ℕ) → r ≡ Listed n → ⊥) → ListsInC (view l st) before before n w
+  pub list_refused : {n : ℕ} {w : List ℕ} → Gives n w (record { reply = r; wrote = 0 }) → ((n : ℕ) → r ≡ Ok (Listed n) → ⊥) → ListsInC (view l st) before before n w
   list_refused g k =
       let e : records_for (view l st) (length before / record_size) ≡ [] = refused_none (view l st) (length before / record_size) r (C.reply st) k in
       record { numbers = numbered g; records = ap (λ (rs : List Record). over (all_words rs) before) (sym e) }
 
   -- one of k records
-  pub listed_in_c : (k : ℕ) → r ≡ Listed k → {after : List ℕ} → after ≡ over (all_words (take k (slot_records l))) before
+  pub listed_in_c : (k : ℕ) → r ≡ Ok (Listed k) → {after : List ℕ} → after ≡ over (all_words (take k (slot_records l))) before
       → ListsInC (view l st) before after 0 (k ∷ replicate 7 0)
   listed_in_c k q a =
       let e : records_for (view l st) (length before / record_size) ≡ take k (slot_records l) =
       (listed_all (view l st) (length before / record_size) k (sym q ∙ C.reply st)).1 ∙ C.records k q st in
       record {
-        numbers = numbered (sym (ap returned q), sym (ap (λ (y : Reply). answer_words (record { reply = y; wrote = 0 })) q));
+        numbers = numbered (sym (ap returned q), sym (ap (λ (y : Result Reply Refusal). answer_words (record { reply = y; wrote = 0 })) q));
         records = a ∙ ap (λ (rs : List Record). over (all_words rs) before) (sym e);
       }

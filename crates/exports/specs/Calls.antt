@@ -1,6 +1,6 @@
 -- What the calls from C on a port promise: the number returned, the eight words of the answer, and all that the call of the same name promises.
 -- l and st are the port's words and its store before the call, l' and st' after it; b and b' the lent buffer; n is returned, w are the words.
-use Rattle.std.specs.Prelude.{◌≡◌, ◌⊎◌, List, [], ◌∷◌, ◌++◌, ℕ, ◌/◌, pos, length, replicate}
+use Rattle.std.specs.Prelude.{◌≡◌, ◌⊎◌, List, [], ◌∷◌, ◌++◌, ℕ, ◌/◌, pos, length, replicate, Result, Ok, Err}
 use Rattle.srp.specs.Lists.{over}
 use Rattle.srp.specs.Credit.{Port}
 use Rattle.srp.specs.Take.{Outcome, Tables, take_def}
@@ -10,7 +10,7 @@ use Rattle.srp.specs.Login.{login_def}
 use Rattle.srp.specs.Answers.{returned, values_of, answer_of}
 use Rattle.srp.specs.declared.Refusal.{Refusal}
 use Rattle.srp.specs.declared.Reply.{Reply}
-use Rattle.srp.specs.declared.Reply.TheVariants.{Refused, Done, Idle}
+use Rattle.srp.specs.declared.Reply.TheVariants.{Done, Idle}
 use Rattle.srp.specs.declared.Answer.{Answer}
 use Rattle.answer.specs.Words.{leading, answer_words}
 use Rattle.words.specs.View.{view}
@@ -36,16 +36,16 @@ pub record AnswersInC (l st b l' st' b' : List ℕ) (n : ℕ) (w : List ℕ) (o 
   pub call : AnswersAs l st b l' st' b' (answer_of o) o
 
 -- a reply without values: in words it is the length of the message
-abbrev pub Plain : Reply → Type 0
+abbrev pub Plain : Result Reply Refusal → Type 0
 Plain r = ((wrote : ℕ) → leading wrote r ++ values_of r ≡ pos wrote ∷ [])
 
 -- a reply without a word that is not 0, where no message is written
-abbrev pub Wordless : Reply → Type 0
+abbrev pub Wordless : Result Reply Refusal → Type 0
 Wordless r = replicate 8 0 ≡ answer_words (record { reply = r; wrote = 0 })
 
 -- what a step says that hands out nothing: done, or a refusal
-abbrev pub Ends : Reply → Type 0
-Ends r = ((n : ℕ) × (r ≡ Done n)) ⊎ ((f : Refusal) × (r ≡ Refused f))
+abbrev pub Ends : Result Reply Refusal → Type 0
+Ends r = ((n : ℕ) × (r ≡ Ok (Done n))) ⊎ ((f : Refusal) × (r ≡ Err f))
 
 -- step, turn
 pub record StepsInC (l st l' : List ℕ) (n : ℕ) (w : List ℕ) (o : Outcome) : Type 0 where
@@ -89,11 +89,11 @@ MoveInC l l' tag direction offset count n =
 
 pub record StepInC (l l' st : List ℕ) (tag direction n : ℕ) (w : List ℕ) : Type 0 where
   pub steps : StepsInC l st l' n w (step_def (view l st) tag (direction_in direction))
-  pub done : (k : ℕ) → (step_def (view l st) tag (direction_in direction)).reply ≡ Done k → l' ≡ l
+  pub done : (k : ℕ) → (step_def (view l st) tag (direction_in direction)).reply ≡ Ok (Done k) → l' ≡ l
 
 pub record TurnInC (l l' st : List ℕ) (n : ℕ) (w : List ℕ) : Type 0 where
   pub turns : StepsInC l st l' n w (turn_def (view l st))
-  pub idle : (turn_def (view l st)).reply ≡ Idle → l' ≡ l
+  pub idle : (turn_def (view l st)).reply ≡ Ok Idle → l' ≡ l
 
 abbrev pub FinishInC : (l b l' b' : List ℕ) (tag status : ℕ) (sense : List ℕ) (n : ℕ) (w : List ℕ) → Type 0
 FinishInC l b l' b' tag status sense n w = (st : List ℕ) → AnswersInC l st b l' st b' n w (finish_def (view l st) (length b) tag status sense)

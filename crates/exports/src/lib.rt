@@ -18,7 +18,7 @@ ghost use Rattle.exports.specs.Arguments.{way_in};
 
 use division::Divided;
 use page::Way;
-use srp::{Cut, Fetch, Look, Piece, Refusal, Reply};
+use srp::{Cut, Fetch, Look, Piece, Refusal};
 use wire::layout::{ADDRESS, HANDLE, SEGMENT_LENGTH};
 
 const ANSWER: usize = 32;
@@ -117,7 +117,7 @@ pub fn srp_format_counts(formats: u32, answer: &mut [u64; 8]) -> u32
     ensures { FormatCountsInC formats result answer.new }
 {
     match division::divide(formats) {
-        Divided::Refused(refusal) => port::give_nothing(answer, Reply::Refused(refusal)),
+        Divided::Refused(refusal) => port::give_nothing(answer, Err(refusal)),
         Divided::Counts(d) => {
             *answer = [d.pass as u64, d.out as u64, d.inn as u64, 0, 0, 0, 0, 0];
             0

@@ -9,7 +9,7 @@ ghost use Rattle.report.specs.Reports.{slot_records};
 ghost use Rattle.exports.specs.Calls.{Gives, Plain, Wordless, Ends, LoginInC, PlanInC, MoveInC, StepInC, TurnInC, FinishInC, AddInC, WithdrawInC, GrantInC, CloseInC, CountersInC, ListInC};
 ghost use Rattle.exports.specs.Arguments.{record_size, record_words, all_words, settings_in, direction_in};
 
-use srp::{Answer, Direction, Record, Reply, Settings};
+use srp::{Answer, Direction, Record, Refusal, Reply, Settings};
 use words::{PORT, STORE};
 
 // Words of a record.
@@ -35,7 +35,7 @@ pub fn give_length(answer: &mut [u64; 8], a: Answer) -> u32
 }
 
 // The same where all words are 0.
-pub fn give_nothing(answer: &mut [u64; 8], r: Reply) -> u32
+pub fn give_nothing(answer: &mut [u64; 8], r: Result<Reply, Refusal>) -> u32
     requires { Wordless r }
     ensures { Gives result answer.new (record { reply = r; wrote = 0 }) }
 {
@@ -44,11 +44,11 @@ pub fn give_nothing(answer: &mut [u64; 8], r: Reply) -> u32
 }
 
 // The same for a step without an operation: done with its number, or a refusal.
-fn give_end(answer: &mut [u64; 8], r: Reply) -> u32
+fn give_end(answer: &mut [u64; 8], r: Result<Reply, Refusal>) -> u32
     requires { Ends r }
     ensures { Gives result answer.new (record { reply = r; wrote = 0 }) }
 {
-    let Reply::Done(n) = r else {
+    let Ok(Reply::Done(n)) = r else {
         return give_nothing(answer, r);
     };
     *answer = answer::done_words(n);
@@ -134,7 +134,7 @@ pub fn srp_target_step(
 {
     let d = direction_of(direction);
     let r = transfer::step(port, store, tag, d);
-    let Reply::Operation(k, p, n) = r else {
+    let Ok(Reply::Operation(k, p, n)) = r else {
         return give_end(answer, r);
     };
     *answer = answer::operation_words(k, p, n);
@@ -145,7 +145,7 @@ pub fn srp_target_turn(port: &mut [u64; PORT], store: &[u8; STORE], answer: &mut
     ensures { TurnInC port.old port.new store.now result answer.new }
 {
     let r = transfer::turn(port, store);
-    let Reply::Served(tag, d, p, n) = r else {
+    let Ok(Reply::Served(tag, d, p, n)) = r else {
         return give_nothing(answer, r);
     };
     *answer = answer::served_words(tag, d, p, n);
@@ -204,7 +204,7 @@ pub fn srp_target_counters(port: &[u64; PORT], answer: &mut [u64; 8]) -> u32
     ensures { CountersInC port.now result answer.new }
 {
     let r = report::counters(port);
-    let Reply::Counts(c) = r else {
+    let Ok(Reply::Counts(c)) = r else {
         return give_nothing(answer, r);
     };
     *answer = answer::counter_words(c);
@@ -239,7 +239,7 @@ pub fn srp_target_list(port: &[u64; PORT], records: &mut [u64], answer: &mut [u6
     ensures { ListInC port.now records.old records.new result answer.new }
 {
     let reply = report::count_for(port, records.len() / RECORD);
-    let Reply::Listed(n) = reply else {
+    let Ok(Reply::Listed(n)) = reply else {
         return give_nothing(answer, reply);
     };
     put_records(records, port, n);

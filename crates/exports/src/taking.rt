@@ -19,12 +19,14 @@ pub fn srp_target_take(
 {
     let a = take::take(port, store, msg, buf);
     let reply = a.reply;
-    let Reply::NewCommand {
-        tag,
-        lun,
-        cdb,
-        waits,
-    } = reply
+    let Ok(
+        Reply::NewCommand {
+            tag,
+            lun,
+            cdb,
+            waits,
+        },
+    ) = reply
     else {
         return port::give(answer, a);
     };

@@ -7,6 +7,7 @@ use mathlib.Core.Option.{Option, none, some}
 use Prim.Native.Nat.{ℕ, ◌+◌, ◌≤◌, ◌<◌}
 use lib.ListN.{length, length-append}
 use borrow.Author.Tests.{lt-ltb, le-ltb}
+use Rattle.std.specs.Prelude.{Err}
 use Rattle.srp.specs.Limits.{buffer_size}
 use Rattle.srp.specs.Refusals.{first_of_checks}
 use Rattle.srp.specs.Bytes.{write}
@@ -18,7 +19,6 @@ use Rattle.srp.specs.Calls.{unless, open_checks, bad_sense_lem, final_of, final_
 use Rattle.srp.specs.declared.Refusal.{Refusal}
 use Rattle.srp.specs.declared.Refusal.TheVariants.{ShortBuffer, Argument, Closed, TagNotOpen}
 use Rattle.srp.specs.declared.Residual.{Residual}
-use Rattle.srp.specs.declared.Reply.TheVariants.{Refused}
 use Rattle.words.specs.View.{open_of}
 use Rattle.words.specs.declared.Slot.{Slot}
 use Rattle.message.specs.Header.{response_of}
@@ -29,19 +29,19 @@ use Rattle.finish.specs.Finishing.{HeaderIs}
 -- ── the checks
 
 module _ (p : Port) (room tag status : ℕ) (sense : List ℕ) where
-  pub finish_short : room < buffer_size → finish_def p room tag status sense ≡ silent p (Refused ShortBuffer)
+  pub finish_short : room < buffer_size → finish_def p room tag status sense ≡ silent p (Err ShortBuffer)
   finish_short h = rw (lt-ltb room buffer_size h) refl
 
   module _ (enough : buffer_size ≤ room) where
-    pub finish_closed : p.live ≡ false → finish_def p room tag status sense ≡ silent p (Refused Closed)
+    pub finish_closed : p.live ≡ false → finish_def p room tag status sense ≡ silent p (Err Closed)
     finish_closed e = rw (le-ltb room buffer_size enough, e) refl
 
     module _ (o : p.live ≡ true) where
-      pub finish_bad : bad_sense_lem status sense ≡ true → finish_def p room tag status sense ≡ silent p (Refused Argument)
+      pub finish_bad : bad_sense_lem status sense ≡ true → finish_def p room tag status sense ≡ silent p (Err Argument)
       finish_bad e = rw (le-ltb room buffer_size enough, o, e) refl
 
       module _ (g : bad_sense_lem status sense ≡ false) where
-        pub finish_none : is_open_lem p tag ≡ false → finish_def p room tag status sense ≡ silent p (Refused TagNotOpen)
+        pub finish_none : is_open_lem p tag ≡ false → finish_def p room tag status sense ≡ silent p (Err TagNotOpen)
         finish_none e = rw (le-ltb room buffer_size enough, o, g, e) refl
 
         -- of an open command, 33 or none of them

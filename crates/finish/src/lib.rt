@@ -84,7 +84,7 @@ fn end_command(
     let h = header(c, status, delta);
     message::put_response(buf, h, sense);
     Answer {
-        reply: Reply::Performed,
+        reply: Ok(Reply::Performed),
         wrote: RSP_SIZE + sense.len(),
     }
 }

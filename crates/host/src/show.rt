@@ -124,9 +124,9 @@ fn refused(rt: &impl Print, f: Refusal) -> io::Result<()> {
 }
 
 // A refusal, and nothing of another reply.
-pub fn refusal(rt: &impl Print, lead: &[u8], r: Reply) -> io::Result<()> {
+pub fn refusal(rt: &impl Print, lead: &[u8], r: Result<Reply, Refusal>) -> io::Result<()> {
     match r {
-        Reply::Refused(f) => {
+        Err(f) => {
             text(rt, lead)?;
             refused(rt, f)
         }
@@ -146,17 +146,19 @@ fn command(rt: &impl Print, tag: u64, cdb: usize, waits: bool) -> io::Result<()>
 }
 
 // What taking a message comes to.
-pub fn taken(rt: &impl Print, r: Reply) -> io::Result<()> {
+pub fn taken(rt: &impl Print, r: Result<Reply, Refusal>) -> io::Result<()> {
     match r {
-        Reply::NewCommand {
-            tag,
-            lun,
-            cdb,
-            waits,
-        } => command(rt, tag, cdb, waits),
-        Reply::Accepted => text(rt, b"   accepted\n"),
-        Reply::Rejected(_) => text(rt, b"   rejected\n"),
-        Reply::Refused(f) => {
+        Ok(
+            Reply::NewCommand {
+                tag,
+                lun,
+                cdb,
+                waits,
+            },
+        ) => command(rt, tag, cdb, waits),
+        Ok(Reply::Accepted) => text(rt, b"   accepted\n"),
+        Ok(Reply::Rejected(_)) => text(rt, b"   rejected\n"),
+        Err(f) => {
             text(rt, b"   ")?;
             refused(rt, f)
         }
@@ -165,13 +167,13 @@ pub fn taken(rt: &impl Print, r: Reply) -> io::Result<()> {
 }
 
 // A step; whether there may be more.
-pub fn stepped(rt: &impl Print, r: Reply) -> io::Result<bool> {
+pub fn stepped(rt: &impl Print, r: Result<Reply, Refusal>) -> io::Result<bool> {
     match r {
-        Reply::Operation(kind, p, n) => {
+        Ok(Reply::Operation(kind, p, n)) => {
             operation(rt, kind, p, n)?;
             Ok(true)
         }
-        Reply::Done(n) => {
+        Ok(Reply::Done(n)) => {
             done(rt, n)?;
             Ok(false)
         }
@@ -183,9 +185,9 @@ pub fn stepped(rt: &impl Print, r: Reply) -> io::Result<bool> {
 }
 
 // What a turn hands out, with its command's tag, or that no move has pieces.
-pub fn turned(rt: &impl Print, r: Reply) -> io::Result<()> {
+pub fn turned(rt: &impl Print, r: Result<Reply, Refusal>) -> io::Result<()> {
     match r {
-        Reply::Served(tag, d, p, n) => {
+        Ok(Reply::Served(tag, d, p, n)) => {
             hexadecimal(rt, b"   turn: tag ", tag, 4)?;
             end(rt)?;
             match d {
@@ -193,7 +195,7 @@ pub fn turned(rt: &impl Print, r: Reply) -> io::Result<()> {
                 Direction::In => operation(rt, Kind::Write, p, n),
             }
         }
-        Reply::Idle => text(rt, b"   turn: idle\n"),
+        Ok(Reply::Idle) => text(rt, b"   turn: idle\n"),
         _ => refusal(rt, b"   ", r),
     }
 }

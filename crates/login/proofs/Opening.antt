@@ -5,6 +5,7 @@ use mathlib.Core.Bool.{true, false, cond}
 use mathlib.Core.List.{List, [], ◌∷◌}
 use mathlib.Core.Option.{Option, none, some}
 use Prim.Native.Nat.{ℕ}
+use Rattle.std.specs.Prelude.{Ok}
 use Rattle.srp.specs.Bytes.{bit, get, write}
 use Rattle.srp.specs.Limits.{buffer_size}
 use Rattle.srp.specs.Messages.{tag, requested_length, format_bits, login_crsolnt, login_losolnt, login_rsp, login_rej}
@@ -53,7 +54,7 @@ module _ (c : Settings) (s : List ℕ) {t : Terms} (e : t ≡ terms_of_lem c s) 
 module _ (c : Settings) (s st : List ℕ) where
   -- rejected
   pub was_rejected : (o : Option ℕ) {n t f : ℕ} {l b b' : List ℕ} → o ≡ some n → t ≡ get tag s → f ≡ supported c → l ≡ closed_words
-      → b' ≡ placed (write login_rej (n ∷ t ∷ f ∷ []) ∷ []) b → LogsIn st l b b' (record { reply = Rejected n; wrote = 32 }) (judged o c s)
+      → b' ≡ placed (write login_rej (n ∷ t ∷ f ∷ []) ∷ []) b → LogsIn st l b b' (record { reply = Ok (Rejected n); wrote = 32 }) (judged o c s)
   was_rejected o {n} {t} {f} {l} {b} {b'} eo et ef el eb =
       rw eo
       (record {
@@ -66,7 +67,7 @@ module _ (c : Settings) (s st : List ℕ) where
   -- accepted
   pub was_accepted : (o : Option ℕ) {t r f : ℕ} {l b b' : List ℕ} → o ≡ none → t ≡ get tag s → r ≡ get requested_length s → f ≡ supported c
       → view l st ≡ opened c s → b' ≡ placed (write login_rsp (c.buffers ∷ t ∷ r ∷ buffer_size ∷ f ∷ bit c.solicited ∷ []) ∷ []) b
-      → LogsIn st l b b' (record { reply = Accepted; wrote = 52 }) (judged o c s)
+      → LogsIn st l b b' (record { reply = Ok Accepted; wrote = 52 }) (judged o c s)
   was_accepted o {t} {r} {f} {l} {b} {b'} eo et er ef ev eb =
       rw eo
       (record {

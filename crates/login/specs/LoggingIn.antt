@@ -1,6 +1,6 @@
 -- Login, cut where the code is cut, and what it promises. b is the buffer before the call, l' and b' the port's words and the buffer after it; the words
 -- before it, and the store, are of no account.
-use Rattle.std.specs.Prelude.{◌≡◌, false, List, ℕ, ◌≤◌, length}
+use Rattle.std.specs.Prelude.{◌≡◌, false, List, ℕ, ◌≤◌, length, Ok}
 use Rattle.std.proofs.Math.Option.{Option, none, some}
 use Rattle.srp.specs.Limits.{largest_piece, longest_agreed}
 use Rattle.srp.specs.Refusals.{first_of_checks}
@@ -34,7 +34,7 @@ pub record LogsIn (st l' b b' : List ℕ) (r : Answer) (o : Outcome) : Type 0 wh
   pub answer : r ≡ answer_of o
   pub port : view l' st ≡ o.port
   pub buffer : b' ≡ placed o.wrote b
-  pub closed : (r.reply ≡ Accepted → ⊥) → l' ≡ closed_words
+  pub closed : (r.reply ≡ Ok Accepted → ⊥) → l' ≡ closed_words
 
 -- ── for every store: the port that the settings c and the message s open
 

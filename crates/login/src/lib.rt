@@ -169,7 +169,7 @@ fn answer_login(s: &mut [u64], c: Settings, own: &[u8; 16], msg: &[u8], buf: &mu
     if let Verdict::Reject(reason) = judge(c, own, msg) {
         message::put_login_rejection(buf, reason, tag, formats);
         return Answer {
-            reply: Reply::Rejected(reason),
+            reply: Ok(Reply::Rejected(reason)),
             wrote: LOGIN_REJ_SIZE,
         };
     }
@@ -183,7 +183,7 @@ fn answer_login(s: &mut [u64], c: Settings, own: &[u8; 16], msg: &[u8], buf: &mu
         c.solicited,
     );
     Answer {
-        reply: Reply::Accepted,
+        reply: Ok(Reply::Accepted),
         wrote: LOGIN_RSP_SIZE,
     }
 }

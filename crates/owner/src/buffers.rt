@@ -39,7 +39,7 @@ pub fn grant(
 pub fn show_counts(rt: &impl Print, port: &[u64; PORT], limit: u64) -> io::Result<()> {
     show::text(rt, b"   counters: ")?;
     match report::counters(port) {
-        Reply::Counts(c) => show::counts(rt, c, limit),
+        Ok(Reply::Counts(c)) => show::counts(rt, c, limit),
         r => show::refusal(rt, b"", r),
     }
 }
@@ -111,7 +111,7 @@ pub fn show_list(rt: &impl Print, port: &[u64; PORT]) -> io::Result<()> {
     let reply = list.reply;
     let records = list.records;
     match reply {
-        Reply::Listed(n) => show_listed(rt, records, n),
+        Ok(Reply::Listed(n)) => show_listed(rt, records, n),
         r => show::refusal(rt, b"   ", r),
     }
 }

@@ -24,7 +24,7 @@ fn take_one(
     show::taken(rt, reply)?;
     send(rt, to_initiator, &buf, a.wrote)?;
     match reply {
-        Reply::NewCommand { waits, .. } => Ok(waits),
+        Ok(Reply::NewCommand { waits, .. }) => Ok(waits),
         _ => Ok(false),
     }
 }

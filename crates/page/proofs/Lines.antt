@@ -11,12 +11,13 @@ use borrow.Author.Tests.{ltb-true, ltb-false, leb-true, lt-ltb, le-ltb}
 use lib.Dec.{ltb, leb, eqb}
 use lib.ListN.{length, take, drop, get_or, set, replicate, length-append, length-drop, take-append-drop}
 use lib.Seq.{length-take-le, take-append-le, drop-append-le, take_at, drop_at, drop-cons, set_at}
+use Rattle.std.specs.Prelude.{Result, Ok, Err}
 use Rattle.srp.specs.Lists.{All}
 use Rattle.srp.specs.Writing.{placed}
 use Rattle.srp.specs.Outside.{hex_digit_lem, hex}
 use Rattle.srp.specs.declared.Refusal.TheVariants.{ShortBuffer}
 use Rattle.srp.specs.declared.Reply.{Reply}
-use Rattle.srp.specs.declared.Reply.TheVariants.{Refused, Performed}
+use Rattle.srp.specs.declared.Reply.TheVariants.{Performed}
 use Rattle.srp.proofs.ListLaws.{all_take, all_drop, all_append}
 use Rattle.srp.proofs.FieldLaws.{both}
 use Rattle.text.proofs.Digits.{length_hex}
@@ -30,6 +31,7 @@ use Rattle.page.specs.declared.Entry.{Entry}
 use Rattle.page.specs.declared.Entry.TheVariants.{Blank, Number}
 use Rattle.page.specs.declared.Line.{Line}
 use Rattle.page.proofs.Counts.{five}
+use Rattle.srp.specs.declared.Refusal.{Refusal}
 
 -- ── a text over some columns
 
@@ -256,14 +258,14 @@ module _ (w : Way) (n : ℕ) (s before : List ℕ) where
 
 -- a buffer that is too short, and one that has room
 module _ (w : Way) (s before : List ℕ) where
-  abbrev reply : Bool → Reply
-  reply b = elim (cond b (some ShortBuffer) none) as (λ _. Reply) [ none ↦ Performed | some f ↦ Refused f ]
+  abbrev reply : Bool → Result Reply Refusal
+  reply b = elim (cond b (some ShortBuffer) none) as (λ _. Result Reply Refusal) [ none ↦ Ok Performed | some f ↦ Err f ]
 
   abbrev wrote : Bool → List ℕ
   wrote b = placed (elim (cond b (some ShortBuffer) none) as (λ _. List (List ℕ)) [ none ↦ trace_line w s ∷ [] | some f ↦ [] ]) before
 
-  pub short : length before < line_length → Traced w s before before (Refused ShortBuffer)
+  pub short : length before < line_length → Traced w s before before (Err ShortBuffer)
   short h = let e = lt-ltb (length before) line_length h in record { reply = ap reply (sym e); buffer = ap wrote (sym e) }
 
-  pub written : line_length ≤ length before → {after : List ℕ} → after ≡ placed (trace_line w s ∷ []) before → Traced w s before after Performed
+  pub written : line_length ≤ length before → {after : List ℕ} → after ≡ placed (trace_line w s ∷ []) before → Traced w s before after (Ok Performed)
   written h q = let e = le-ltb (length before) line_length h in record { reply = ap reply (sym e); buffer = q ∙ ap wrote (sym e) }

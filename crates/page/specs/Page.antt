@@ -1,5 +1,5 @@
 -- Document 02, job 2, "A trace page": a message as one line of exactly 80 columns. It has n bytes and begins with s (specs/Types.antt).
-use Rattle.std.specs.Prelude.{◌≡◌, cond, List, [], ◌∷◌, ◌++◌, ℕ, ◌+◌, ◌-◌, ◌%◌, ◌≤◌, ltb, eqb, length, take, drop, replicate}
+use Rattle.std.specs.Prelude.{◌≡◌, cond, List, [], ◌∷◌, ◌++◌, ℕ, ◌+◌, ◌-◌, ◌%◌, ◌≤◌, ltb, eqb, length, take, drop, replicate, Result, Ok, Err}
 use Rattle.std.proofs.Math.Option.{none, some}
 use Prim.Native.Char.{code}
 use Rattle.srp.specs.Lists.{All}
@@ -12,7 +12,7 @@ use Rattle.srp.specs.Answers.{returned}
 use Rattle.srp.specs.Outside.{CReturn, hex, decimal}
 use Rattle.srp.specs.declared.Refusal.TheVariants.{ShortBuffer}
 use Rattle.srp.specs.declared.Reply.{Reply}
-use Rattle.srp.specs.declared.Reply.TheVariants.{Refused, Performed}
+use Rattle.srp.specs.declared.Reply.TheVariants.{Performed}
 use Rattle.text.specs.Codes.{line_feed, codes}
 use Rattle.page.specs.Types.{most_read, name_of}
 use Rattle.page.specs.declared.Way.{Way}
@@ -22,6 +22,7 @@ use Rattle.page.specs.declared.Name.TheVariants.{LoginReq, TskMgmt, Cmd, ILogout
 use Rattle.page.specs.declared.Entry.{Entry}
 use Rattle.page.specs.declared.Entry.TheVariants.{Blank, Number}
 use Rattle.page.specs.declared.Line.{Line}
+use Rattle.srp.specs.declared.Refusal.{Refusal}
 
 -- ── what the line says
 
@@ -153,13 +154,13 @@ line_length = line_width + 1
 abbrev pub trace_checks : ℕ → List Check
 trace_checks room = (ltb room line_length, ShortBuffer) ∷ []
 
-abbrev pub trace_reply : ℕ → Reply
-trace_reply room = elim (first_of_checks (trace_checks room)) [ none ↦ Performed | some f ↦ Refused f ]
+abbrev pub trace_reply : ℕ → Result Reply Refusal
+trace_reply room = elim (first_of_checks (trace_checks room)) [ none ↦ Ok Performed | some f ↦ Err f ]
 
 abbrev pub trace_writes : Way → List ℕ → ℕ → List (List ℕ)
 trace_writes w s room = elim (first_of_checks (trace_checks room)) [ none ↦ trace_line w s ∷ [] | some f ↦ [] ]
 
-pub record Traced (w : Way) (s before after : List ℕ) (r : Reply) : Type 0 where
+pub record Traced (w : Way) (s before after : List ℕ) (r : Result Reply Refusal) : Type 0 where
   pub reply : r ≡ trace_reply (length before)
   pub buffer : after ≡ placed (trace_writes w s (length before)) before
 

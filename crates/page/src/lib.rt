@@ -70,12 +70,12 @@ pub fn put_start(start: &[u8], len: usize, way: Way, buf: &mut [u8])
 }
 
 // Writes a message's line into a lent buffer of at least 81 bytes. Refused 1.
-pub fn trace(msg: &[u8], way: Way, buf: &mut [u8]) -> Reply
+pub fn trace(msg: &[u8], way: Way, buf: &mut [u8]) -> Result<Reply, Refusal>
     ensures { Traced way msg.now buf.old buf.new result }
 {
     if buf.len() < LINE {
-        return Reply::Refused(Refusal::ShortBuffer);
+        return Err(Refusal::ShortBuffer);
     }
     put_start(msg, msg.len(), way, buf);
-    Reply::Performed
+    Ok(Reply::Performed)
 }

@@ -5,27 +5,28 @@ use mathlib.Core.Bool.{true, false}
 use Prim.Native.Nat.{ℕ, ◌+◌}
 use lib.IntN.{ℤ, sub_ℕ}
 use lib.ListN.{length}
+use Rattle.std.specs.Prelude.{Ok, Err}
 use Rattle.srp.specs.Limits.{most_buffers}
 use Rattle.srp.specs.Credit.{Port}
 use Rattle.srp.specs.Take.{silent}
 use Rattle.srp.specs.Calls.{counters_def, counters_of, list_def}
 use Rattle.srp.specs.declared.Refusal.TheVariants.{Closed}
-use Rattle.srp.specs.declared.Reply.TheVariants.{Refused, Counts, Listed}
+use Rattle.srp.specs.declared.Reply.TheVariants.{Counts, Listed}
 
 -- the counters, from the head's numbers
 pub counts : (p : Port) (w a h : ℕ) (d : ℤ) → w ≡ p.wanted → a ≡ p.announced → h ≡ length p.held → d ≡ sub_ℕ w (a + h)
-    → Counts (record { wanted = w; announced = a; held = h; owed = d }) ≡ Counts (counters_of p)
+    → Ok (Counts (record { wanted = w; announced = a; held = h; owed = d })) ≡ Ok (Counts (counters_of p))
 counts p w a h d e f g q = rw (q, e, f, g) refl
 
 module _ (p : Port) where
-  pub counters_closed : p.live ≡ false → counters_def p ≡ silent p (Refused Closed)
+  pub counters_closed : p.live ≡ false → counters_def p ≡ silent p (Err Closed)
   counters_closed e = rw e refl
 
-  pub counted : p.live ≡ true → counters_def p ≡ silent p (Counts (counters_of p))
+  pub counted : p.live ≡ true → counters_def p ≡ silent p (Ok (Counts (counters_of p)))
   counted e = rw e refl
 
-  pub list_closed : p.live ≡ false → list_def p most_buffers ≡ silent p (Refused Closed)
+  pub list_closed : p.live ≡ false → list_def p most_buffers ≡ silent p (Err Closed)
   list_closed e = rw e refl
 
-  pub listed : p.live ≡ true → list_def p most_buffers ≡ silent p (Listed (length p.held))
+  pub listed : p.live ≡ true → list_def p most_buffers ≡ silent p (Ok (Listed (length p.held)))
   listed e = rw e refl

@@ -9,6 +9,7 @@ use native.Mathlib.Numerals.{add-one}
 use borrow.Author.Tests.{lt-ltb, le-ltb}
 use lib.ListN.{length, get_or, take, drop, set, replicate, length-set, length-map, take-append-drop}
 use lib.Seq.{take-suc, take-suc-set, get_or-take, take-length, drop-set-lt, drop-drop}
+use Rattle.std.specs.Prelude.{Ok, Err}
 use Rattle.srp.specs.Limits.{most_buffers}
 use Rattle.srp.specs.Lists.{over}
 use Rattle.srp.specs.Credit.{Port}
@@ -16,7 +17,7 @@ use Rattle.srp.specs.Calls as calls
 use Rattle.srp.specs.declared.Record.{Record}
 use Rattle.srp.specs.declared.Refusal.{Refusal}
 use Rattle.srp.specs.declared.Refusal.TheVariants.{Argument, Closed}
-use Rattle.srp.specs.declared.Reply.TheVariants.{Refused, Listed}
+use Rattle.srp.specs.declared.Reply.TheVariants.{Listed}
 use Rattle.words.specs.Slots.{slots, no_slot}
 use Rattle.words.specs.Head.{head_of}
 use Rattle.words.specs.View.{opens, open_of, view}
@@ -101,7 +102,7 @@ first_mapped f (suc n) [] = refl
 first_mapped f (suc n) (x ∷ xs) = ap (λ (r : List _). f x ∷ r) (first_mapped f n xs)
 
 module _ (l : List ℕ) (room : ℕ) where
-  refusing : (f : Refusal) → ((st : List ℕ) → Refused f ≡ (calls.list_def (view l st) room).reply) → CountFor l room (Refused f)
+  refusing : (f : Refusal) → ((st : List ℕ) → Err f ≡ (calls.list_def (view l st) room).reply) → CountFor l room (Err f)
   refusing f e =
       record {
         reply = e;
@@ -110,7 +111,7 @@ module _ (l : List ℕ) (room : ℕ) where
       }
 
   -- of a closed port
-  pub count_closed : (head_of l).live ≡ false → CountFor l room (Refused Closed)
+  pub count_closed : (head_of l).live ≡ false → CountFor l room (Err Closed)
   count_closed e = refusing Closed (λ st. let c : (view l st).live ≡ false = view_live l st ∙ e in rw c refl)
 
   module _ (e : (head_of l).live ≡ true) where
@@ -118,16 +119,16 @@ module _ (l : List ℕ) (room : ℕ) where
     is_live st = view_live l st ∙ e
 
     -- in a list that is too short
-    pub count_short : room < most_buffers → CountFor l room (Refused Argument)
+    pub count_short : room < most_buffers → CountFor l room (Err Argument)
     count_short h = refusing Argument (λ st. let c = is_live st in rw (c, lt-ltb room most_buffers h) refl)
 
     -- of an open port
-    pub count_open : most_buffers ≤ room → (n : ℕ) → n ≡ (head_of l).held → CountFor l room (Listed n)
+    pub count_open : most_buffers ≤ room → (n : ℕ) → n ≡ (head_of l).held → CountFor l room (Ok (Listed n))
     count_open h n q =
         let held : (st : List ℕ) → length (view l st).held ≡ (head_of l).held =
         λ st. ap (λ (p : Port). length p.held) (while_open l st e) ∙ length-map (opens l) (open_of st) ∙ opens_long l in
         record {
-          reply = λ st. let c = is_live st in rw (c, le-ltb room most_buffers h) (ap Listed (q ∙ sym (held st)));
+          reply = λ st. let c = is_live st in rw (c, le-ltb room most_buffers h) (ap (λ k. Ok (Listed k)) (q ∙ sym (held st)));
           fits = λ m f. let k : m ≡ n = cc in (omega arith, omega arith);
           records = λ m f st.
               let k : m ≡ (head_of l).held = cc in

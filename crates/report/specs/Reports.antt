@@ -1,7 +1,7 @@
 -- What the owner reads of a port: the counters, the listing by value, and the listing in a lent list. Document 01: "the open commands listed into
 -- a lent list of records (tag, LUN, bytes handed out each way), each command once; .. the rest of the list untouched". Document 02, job 5: "Records now come
 -- as the commands were taken, oldest first"; job 1: the listing takes h, "the highest offset handed out + 1, 0 where nothing was", for the bytes handed out.
-use Rattle.std.specs.Prelude.{◌≡◌, List, map, ℕ, ◌≤◌, length, take, replicate}
+use Rattle.std.specs.Prelude.{◌≡◌, List, map, ℕ, ◌≤◌, length, take, replicate, Result, Ok}
 use Rattle.srp.specs.Limits.{most_buffers}
 use Rattle.srp.specs.Credit.{Port}
 use Rattle.srp.specs.Calls.{counters_def, listing, list_def, records_for, listed_into}
@@ -12,6 +12,7 @@ use Rattle.words.specs.Slots.{slots}
 use Rattle.words.specs.View.{view}
 use Rattle.words.specs.declared.Slot.{Slot}
 use Rattle.report.specs.declared.Listing.{Listing}
+use Rattle.srp.specs.declared.Refusal.{Refusal}
 
 -- the record of a command in its slot, those of all slots, one that stands for no command, and 16 of these
 abbrev pub slot_record : Slot → Record
@@ -42,19 +43,19 @@ pub record ListingFor (p : Port) (room : ℕ) (r : Listing) : Type 0 where
   pub records : r.records ≡ listed_into p no_records
 
 -- the lent list before and after the call
-pub record ListsInto (p : Port) (before after : List Record) (r : Reply) : Type 0 where
+pub record ListsInto (p : Port) (before after : List Record) (r : Result Reply Refusal) : Type 0 where
   pub reply : r ≡ (list_def p (length before)).reply
   pub records : after ≡ listed_into p before
 
 -- how many records a listing of the words l has in a lent list of `room`, and which
-pub record CountFor (l : List ℕ) (room : ℕ) (r : Reply) : Type 0 where
+pub record CountFor (l : List ℕ) (room : ℕ) (r : Result Reply Refusal) : Type 0 where
   pub reply : (st : List ℕ) → r ≡ (list_def (view l st) room).reply
-  pub fits : (n : ℕ) → r ≡ Listed n → (n ≤ room) × (n ≤ most_buffers)
-  pub records : (n : ℕ) → r ≡ Listed n → (st : List ℕ) → listing (view l st) ≡ take n (slot_records l)
+  pub fits : (n : ℕ) → r ≡ Ok (Listed n) → (n ≤ room) × (n ≤ most_buffers)
+  pub records : (n : ℕ) → r ≡ Ok (Listed n) → (st : List ℕ) → listing (view l st) ≡ take n (slot_records l)
 
 -- ── what each call promises of the port's words l, whatever the store holds
 
-abbrev pub TellsCounters : (l : List ℕ) → Reply → Type 0
+abbrev pub TellsCounters : (l : List ℕ) → Result Reply Refusal → Type 0
 TellsCounters l r = (st : List ℕ) → r ≡ (counters_def (view l st)).reply
 
 abbrev pub TellsListing : (l : List ℕ) → Listing → Type 0
@@ -63,5 +64,5 @@ TellsListing l r = (st : List ℕ) → ListingIs (view l st) r
 abbrev pub TellsListingFor : (l : List ℕ) (room : ℕ) → Listing → Type 0
 TellsListingFor l room r = (st : List ℕ) → ListingFor (view l st) room r
 
-abbrev pub WritesListing : (l : List ℕ) (before after : List Record) → Reply → Type 0
+abbrev pub WritesListing : (l : List ℕ) (before after : List Record) → Result Reply Refusal → Type 0
 WritesListing l before after r = (st : List ℕ) → ListsInto (view l st) before after r

@@ -14,7 +14,7 @@ use words::{PORT, SLOTS, Slot};
 // A listing: its reply, how many records a lent list is to have of it, and its records, blank behind those of the open commands.
 #[derive(Clone, Copy)]
 pub struct Listing {
-    pub reply: Reply,
+    pub reply: Result<Reply, Refusal>,
     pub count: usize,
     pub records: [Record; SLOTS],
 }
@@ -22,7 +22,7 @@ pub struct Listing {
 // A lent list as it comes back, and the listing's reply.
 #[derive(Clone, Copy)]
 pub struct Lent {
-    pub reply: Reply,
+    pub reply: Result<Reply, Refusal>,
     pub records: [Record; SLOTS],
 }
 
@@ -34,21 +34,21 @@ fn difference(wanted: u8, used: u8) -> i64
 }
 
 // W, A, H and D. Refused 21.
-pub fn counters(s: &[u64; PORT]) -> Reply
+pub fn counters(s: &[u64; PORT]) -> Result<Reply, Refusal>
     ensures { TellsCounters s.now result }
 {
     let h = words::get_head(s);
     let live = h.live;
     if !live {
-        return Reply::Refused(Refusal::Closed);
+        return Err(Refusal::Closed);
     }
     let held = h.held as u8;
-    Reply::Counts(Counters {
+    Ok(Reply::Counts(Counters {
         wanted: h.wanted,
         announced: h.announced,
         held: held,
         owed: difference(h.wanted, h.announced + held),
-    })
+    }))
 }
 
 // What a listing says of a command.
@@ -99,7 +99,7 @@ pub fn list(s: &[u64; PORT]) -> Listing
     let live = h.live;
     if !live {
         return Listing {
-            reply: Reply::Refused(Refusal::Closed),
+            reply: Err(Refusal::Closed),
             count: 0,
             records: records,
         };
@@ -111,25 +111,25 @@ pub fn list(s: &[u64; PORT]) -> Listing
         i += 1;
     }
     Listing {
-        reply: Reply::Listed(held),
+        reply: Ok(Reply::Listed(held)),
         count: held,
         records: records,
     }
 }
 
 // How many records a listing has in a lent list of `room`. Refused 21, 11.
-pub fn count_for(s: &[u64; PORT], room: usize) -> Reply
+pub fn count_for(s: &[u64; PORT], room: usize) -> Result<Reply, Refusal>
     ensures { CountFor s.now room result }
 {
     let h = words::get_head(s);
     let live = h.live;
     if !live {
-        return Reply::Refused(Refusal::Closed);
+        return Err(Refusal::Closed);
     }
     if room < SLOTS {
-        return Reply::Refused(Refusal::Argument);
+        return Err(Refusal::Argument);
     }
-    Reply::Listed(h.held)
+    Ok(Reply::Listed(h.held))
 }
 
 // What is written to a lent list of `room` records: nothing where the listing is refused, 21, 11.
@@ -139,7 +139,7 @@ pub fn listing_for(s: &[u64; PORT], room: usize) -> Listing
     let reply = count_for(s, room);
     let l = list(s);
     let records = l.records;
-    let Reply::Listed(count) = reply else {
+    let Ok(Reply::Listed(count)) = reply else {
         return Listing {
             reply: reply,
             count: 0,
@@ -147,14 +147,14 @@ pub fn listing_for(s: &[u64; PORT], room: usize) -> Listing
         };
     };
     Listing {
-        reply: Reply::Listed(count),
+        reply: Ok(Reply::Listed(count)),
         count: count,
         records: records,
     }
 }
 
 // The open commands, listed into a lent list of records, oldest first; the rest of the list is untouched. Refused 21, 11.
-pub fn list_into(s: &[u64; PORT], records: &mut [Record]) -> Reply
+pub fn list_into(s: &[u64; PORT], records: &mut [Record]) -> Result<Reply, Refusal>
     ensures { WritesListing s.now records.old records.new result }
 {
     let listing = listing_for(s, records.len());

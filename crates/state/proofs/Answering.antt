@@ -6,6 +6,7 @@ use mathlib.Core.List.{List, [], ◌∷◌}
 use Prim.Native.Nat.{ℕ, ◌+◌, ◌-◌, ◌<◌}
 use native.Mathlib.Omega.{arith}
 use lib.ListN.{length}
+use Rattle.std.specs.Prelude.{Result}
 use Rattle.srp.specs.Credit.{Port, due, with_held}
 use Rattle.srp.specs.Writing.{placed}
 use Rattle.srp.specs.Take.{answering}
@@ -16,6 +17,7 @@ use Rattle.words.specs.View.{view}
 use Rattle.state.specs.Changes.{Settled, after_use}
 use Rattle.state.specs.Promises.{AnswersAs}
 use Rattle.state.proofs.Promises.{wrote, settled_view}
+use Rattle.srp.specs.declared.Refusal.{Refusal}
 
 -- no announced buffer is used
 pub unused : (p : Port) → after_use 0 p ≡ p
@@ -25,7 +27,7 @@ unused p =
 
 -- l are the words before the call, l₁ those in which its endings are done, l₂ those after it; q is the port after the endings and the use,
 -- open or closed as before the call
-module _ {l l₁ l₂ st b b' : List ℕ} {p q : Port} {used delta : ℕ} {r : Answer} (y : Reply) (message : ℕ → List ℕ) where
+module _ {l l₁ l₂ st b b' : List ℕ} {p q : Port} {used delta : ℕ} {r : Answer} (y : Result Reply Refusal) (message : ℕ → List ℕ) where
   pub answered : view l₁ st ≡ p → after_use used p ≡ q → q.live ≡ (view l st).live → (head_of l₁).live ≡ true → Settled used delta l₁ l₂ → b' ≡ placed (message delta ∷ []) b
       → r ≡ record { reply = y; wrote = length (message (due q)) } → 0 < length (message (due q))
       → AnswersAs l st b l₂ st b' r (answering q y message)

@@ -7,6 +7,7 @@ use mathlib.Core.Option.{none, some}
 use Prim.Native.Nat.{ℕ, ◌+◌, ◌-◌, ◌<◌}
 use native.Mathlib.Omega.{arith}
 use lib.ListN.{get_or}
+use Rattle.std.specs.Prelude.{Result, Err}
 use Rattle.srp.specs.Lists.{find, change, is_some}
 use Rattle.srp.specs.Credit.{Open, Port, due, with_held, has_tag}
 use Rattle.srp.specs.Writing.{placed}
@@ -14,7 +15,6 @@ use Rattle.srp.specs.Take.{Outcome, silent, is_open_lem}
 use Rattle.srp.specs.Answers.{refusal_in, returned, size_of, answer_of, refusing}
 use Rattle.srp.specs.declared.Refusal.{Refusal}
 use Rattle.srp.specs.declared.Reply.{Reply}
-use Rattle.srp.specs.declared.Reply.TheVariants.{Refused}
 use Rattle.srp.specs.declared.Answer.{Answer}
 use Rattle.words.specs.Slots.{slots, no_slot, SlotIs}
 use Rattle.words.specs.Head.{head_of, SlotChanged}
@@ -30,14 +30,14 @@ use Rattle.std.specs.Prelude.{None}
 -- ── a call without a lent message buffer
 
 -- a refusal alters nothing
-pub refused : (l st : List ℕ) (f : Refusal) → RepliesAs l st l st (Refused f) (silent (view l st) (Refused f))
+pub refused : (l st : List ℕ) (f : Refusal) → RepliesAs l st l st (Err f) (silent (view l st) (Err f))
 refused l st f = record { reply = refl; port = refl; wrote = refl; raw = λ e. (refl, refl) }
 
 -- without a refusal there is none to answer for
-unrefused : (r : Reply) {P : Type 0} → refusal_in r ≡ none → (returned r ≡ 0 → ⊥) → P
+unrefused : (r : Result Reply Refusal) {P : Type 0} → refusal_in r ≡ none → (returned r ≡ 0 → ⊥) → P
 unrefused r n e = absurd (e (rw (n, returned) refl))
 
-module _ {l st l' st' : List ℕ} {r : Reply} where
+module _ {l st l' st' : List ℕ} {r : Result Reply Refusal} where
   -- a definition's outcome by what it comes to
   pub replies_by : {o o' : Outcome} → o ≡ o' → RepliesAs l st l' st' r o' → RepliesAs l st l' st' r o
   replies_by e R = subst (λ (x : Outcome). RepliesAs l st l' st' r x) (sym e) R
@@ -49,7 +49,7 @@ module _ {l st l' st' : List ℕ} {r : Reply} where
 -- ── a call with a lent message buffer
 
 -- a refusal without a message alters nothing
-pub unaltered : (l st b : List ℕ) (f : Refusal) (r : Answer) → r ≡ refusing f → AnswersAs l st b l st b r (silent (view l st) (Refused f))
+pub unaltered : (l st b : List ℕ) (f : Refusal) (r : Answer) → r ≡ refusing f → AnswersAs l st b l st b r (silent (view l st) (Err f))
 unaltered l st b f r e = record { answer = e; port = refl; buffer = refl; raw = λ x y. (refl, refl); closed = λ o c. absurd (true≢false (sym o ∙ c)) }
 
 -- a channel that is open or closed as before is not closed by the call

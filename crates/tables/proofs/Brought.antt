@@ -10,6 +10,7 @@ use borrow.Author.Tests.{eq-eqb, ne_eqb, leb-true}
 use lib.Dec.{eqb, leb}
 use lib.ListN.{length, get_or, take, drop, set}
 use lib.Seq.{take_at, get_or-take, take-set-lt}
+use Rattle.std.specs.Prelude.{Result, Ok, Err}
 use Rattle.srp.specs.Lists.{change, over}
 use Rattle.srp.specs.Descriptors.{whole, good_table_lem, fetched, standing_size_lem, Given, chosen, segments, sum_of, copies_agree_lem, good_format}
 use Rattle.srp.specs.Credit.{Open, Port, with_held, has_tag}
@@ -20,7 +21,7 @@ use Rattle.srp.specs.declared.Direction.TheVariants.{Out, In}
 use Rattle.srp.proofs.FieldLaws.{both}
 use Rattle.srp.specs.declared.Refusal.{Refusal}
 use Rattle.srp.specs.declared.Reply.{Reply}
-use Rattle.srp.specs.declared.Reply.TheVariants.{Refused, Performed}
+use Rattle.srp.specs.declared.Reply.TheVariants.{Performed}
 use Rattle.words.specs.declared.Head.{Head}
 use Rattle.words.specs.declared.Part.{Part}
 use Rattle.words.specs.declared.Slot.{Slot}
@@ -120,13 +121,13 @@ module _ (l st l' st' : List ℕ) (tag i : ℕ) (live : (head_of l).live ≡ tru
 -- ── the store
 
 -- tables that are not accepted leave it
-pub kept : {l st l' : List ℕ} {tag : ℕ} {r : Reply} → (r ≡ Performed → ⊥) → Stores l st l' st tag r
+pub kept : {l st l' : List ℕ} {tag : ℕ} {r : Result Reply Refusal} → (r ≡ Ok Performed → ⊥) → Stores l st l' st tag r
 kept ne = record { kept = λ _. refl; brought = λ e. absurd (ne e) }
 
 -- accepted, they stand at their command's place
-pub placed : {l st l' st' : List ℕ} {tag i : ℕ} → FoundAt l tag i → OwnPlace i l st l' st' → Stores l st l' st' tag Performed
+pub placed : {l st l' st' : List ℕ} {tag i : ℕ} → FoundAt l tag i → OwnPlace i l st l' st' → Stores l st l' st' tag (Ok Performed)
 placed {l} {st} {l'} {st'} {tag} {i} F P =
     record { kept = λ ne. absurd (ne refl); brought = λ _. record { slot = i; inside = F.inside; tagged = F.tagged; place = P } }
 
-pub not_performed : (f : Refusal) → ◌≡◌ {A = Reply} (Refused f) Performed → ⊥
+pub not_performed : (f : Refusal) → ◌≡◌ {A = Result Reply Refusal} (Err f) (Ok Performed) → ⊥
 not_performed f e = let z : ◌≡◌ {A = ℕ} 0 1 = cc in omega arith

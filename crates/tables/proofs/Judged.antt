@@ -6,6 +6,7 @@ use mathlib.Core.List.{List}
 use Prim.Native.Nat.{ℕ, ◌+◌, ◌*◌, ◌%◌, ◌^◌, ◌≤◌, ◌<◌}
 use native.Mathlib.Omega.{arith}
 use lib.ListN.{length, get_or}
+use Rattle.std.specs.Prelude.{Err}
 use Rattle.srp.specs.Limits.{buffer_size}
 use Rattle.srp.specs.Both.{Both}
 use Rattle.srp.specs.Descriptors.{fetched, Given, chosen, segments, sum_of, reachable, good_format, good_fields}
@@ -14,7 +15,6 @@ use Rattle.srp.specs.Tables.{brought, tables_outcome, tables_def}
 use Rattle.srp.specs.declared.Descriptor.{Descriptor}
 use Rattle.srp.specs.declared.Direction.TheVariants.{Out, In}
 use Rattle.srp.specs.declared.Refusal.TheVariants.{TableLength}
-use Rattle.srp.specs.declared.Reply.TheVariants.{Refused}
 use Rattle.srp.proofs.FieldLaws.{both}
 use Rattle.cut.specs.declared.Total.{Total}
 use Rattle.cut.specs.declared.Total.TheVariants.{Sum, Wrong}
@@ -78,11 +78,11 @@ module _ (l st b : List ℕ) (tag i : ℕ) (out inn : List ℕ) (live : (head_of
       tables_judged (view l st) (length b) tag (tables out inn) enough (view_live l st ∙ live) {c = open_of st c} (found_slot F live st S)
       awaited (rw waits refl)
 
-  pub unfit_out : (length out ≡ fetched c.awaits.out → ⊥) → tables_def (view l st) (length b) tag (tables out inn) ≡ silent (view l st) (Refused TableLength)
+  pub unfit_out : (length out ≡ fetched c.awaits.out → ⊥) → tables_def (view l st) (length b) tag (tables out inn) ≡ silent (view l st) (Err TableLength)
   unfit_out ne = judged ∙ out_9 (view l st) tag (tables out inn) awaited ne
 
   module _ (lo : length out ≡ fetched c.awaits.out) where
-    pub unfit_in : (length inn ≡ fetched c.awaits.inn → ⊥) → tables_def (view l st) (length b) tag (tables out inn) ≡ silent (view l st) (Refused TableLength)
+    pub unfit_in : (length inn ≡ fetched c.awaits.inn → ⊥) → tables_def (view l st) (length b) tag (tables out inn) ≡ silent (view l st) (Err TableLength)
     unfit_in ne = judged ∙ in_9 (view l st) tag (tables out inn) awaited lo ne
 
     module _ (li : length inn ≡ fetched c.awaits.inn) where

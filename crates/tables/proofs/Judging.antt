@@ -8,6 +8,7 @@ use Prim.Native.Nat.{ℕ, ◌≤◌, ◌<◌}
 use lib.Dec.{eqb}
 use lib.ListN.{length}
 use borrow.Author.Tests.{eq-eqb, ne_eqb, lt-ltb, le-ltb}
+use Rattle.std.specs.Prelude.{Err}
 use Rattle.srp.specs.Limits.{buffer_size}
 use Rattle.srp.specs.Lists.{find}
 use Rattle.srp.specs.Both.{Both}
@@ -18,24 +19,23 @@ use Rattle.srp.specs.Take.{silent, is_open_lem, Tables, tables_fit, fields_fit}
 use Rattle.srp.specs.Tables.{is_waiting, tables_checks, tables_outcome, tables_by, tables_def}
 use Rattle.srp.specs.declared.Refusal.{Refusal}
 use Rattle.srp.specs.declared.Refusal.TheVariants.{ShortBuffer, TableLength, Fields, Closed, TagNotOpen, Waiting}
-use Rattle.srp.specs.declared.Reply.TheVariants.{Refused}
 use Rattle.tables.specs.Bringing.{judged_def, bad_def}
 
 -- ── 1, 21, 24 and 33
 
 module _ (p : Port) (room tag : ℕ) (t : Tables) where
   -- a short buffer
-  pub tables_1 : room < buffer_size → tables_def p room tag t ≡ silent p (Refused ShortBuffer)
+  pub tables_1 : room < buffer_size → tables_def p room tag t ≡ silent p (Err ShortBuffer)
   tables_1 h = rw (lt-ltb room buffer_size h) refl
 
   module _ (enough : buffer_size ≤ room) where
     -- a closed channel
-    pub tables_21 : p.live ≡ false → tables_def p room tag t ≡ silent p (Refused Closed)
+    pub tables_21 : p.live ≡ false → tables_def p room tag t ≡ silent p (Err Closed)
     tables_21 e = rw (le-ltb room buffer_size enough, e) refl
 
     module _ (o : p.live ≡ true) where
       -- no open command has the tag
-      pub tables_24 : is_open_lem p tag ≡ false → tables_def p room tag t ≡ silent p (Refused TagNotOpen)
+      pub tables_24 : is_open_lem p tag ≡ false → tables_def p room tag t ≡ silent p (Err TagNotOpen)
       tables_24 e = rw (le-ltb room buffer_size enough, o, e) refl
 
       module _ {c : Open} (f : find (has_tag tag) p.held ≡ some c) where
@@ -43,7 +43,7 @@ module _ (p : Port) (room tag : ℕ) (t : Tables) where
         drawn e = ap (λ (x : Option Refusal). tables_by x p tag t) e
 
         -- it does not wait
-        pub tables_33 : is_waiting (some c) ≡ false → tables_def p room tag t ≡ silent p (Refused Waiting)
+        pub tables_33 : is_waiting (some c) ≡ false → tables_def p room tag t ≡ silent p (Err Waiting)
         tables_33 e = drawn {r = some Waiting} (rw (le-ltb room buffer_size enough, o, f, e) refl)
 
         -- 9 and 10 follow
@@ -54,21 +54,21 @@ module _ (p : Port) (room tag : ℕ) (t : Tables) where
 
 module _ (p : Port) (tag : ℕ) (t : Tables) (g : Both Given) where
   by_tests : (x y : Bool) → tables_fit g t ≡ x → fields_fit g t ≡ y
-      → judged_def p tag t g ≡ cond x (cond y (tables_outcome p tag t) (bad_def tag p)) (silent p (Refused TableLength))
+      → judged_def p tag t g ≡ cond x (cond y (tables_outcome p tag t) (bad_def tag p)) (silent p (Err TableLength))
   by_tests x y e f =
       ap (λ (b : Bool). tables_by (first_of_checks ((not b, TableLength) ∷ (not (fields_fit g t), Fields) ∷ [])) p tag t) e
       ∙ ap (λ (b : Bool). tables_by (first_of_checks ((not x, TableLength) ∷ (not b, Fields) ∷ [])) p tag t) f
       ∙ end x y
     where
       end : (x y : Bool) → tables_by (first_of_checks ((not x, TableLength) ∷ (not y, Fields) ∷ [])) p tag t
-          ≡ cond x (cond y (tables_outcome p tag t) (bad_def tag p)) (silent p (Refused TableLength))
+          ≡ cond x (cond y (tables_outcome p tag t) (bad_def tag p)) (silent p (Err TableLength))
       end true true = refl
       end true false = refl
       end false true = refl
       end false false = refl
 
   -- the table of data-out has another length
-  pub out_9 : (length t.out ≡ fetched g.out.descriptor → ⊥) → judged_def p tag t g ≡ silent p (Refused TableLength)
+  pub out_9 : (length t.out ≡ fetched g.out.descriptor → ⊥) → judged_def p tag t g ≡ silent p (Err TableLength)
   out_9 ne =
       by_tests false (fields_fit g t)
       (ap (λ (x : Bool). x && eqb (length t.inn) (fetched g.inn.descriptor)) (ne_eqb (length t.out) (fetched g.out.descriptor) ne)) refl
@@ -79,7 +79,7 @@ module _ (p : Port) (tag : ℕ) (t : Tables) (g : Both Given) where
         ap (λ (y : Bool). y && eqb (length t.inn) (fetched g.inn.descriptor)) (eq-eqb (length t.out) (fetched g.out.descriptor) lo) ∙ e
 
     -- the table of data-in has another length
-    pub in_9 : (length t.inn ≡ fetched g.inn.descriptor → ⊥) → judged_def p tag t g ≡ silent p (Refused TableLength)
+    pub in_9 : (length t.inn ≡ fetched g.inn.descriptor → ⊥) → judged_def p tag t g ≡ silent p (Err TableLength)
     in_9 ne = by_tests false (fields_fit g t) (lent false (ne_eqb (length t.inn) (fetched g.inn.descriptor) ne)) refl
 
     module _ (li : length t.inn ≡ fetched g.inn.descriptor) where

@@ -1,6 +1,6 @@
 -- Tables, cut where the code is cut, and what each part promises. l, st and b are the port's words, its store and the lent buffer before the call, l', st'
 -- and b' after it; t are the tables.
-use Rattle.std.specs.Prelude.{◌≡◌, cond, not, List, [], ◌∷◌, ℕ, ◌/◌, ◌<◌, eqb, length, get_or}
+use Rattle.std.specs.Prelude.{◌≡◌, cond, not, List, [], ◌∷◌, ℕ, ◌/◌, ◌<◌, eqb, length, get_or, Result, Ok, Err}
 use Rattle.srp.specs.Lists.{find}
 use Rattle.srp.specs.Both.{Both}
 use Rattle.srp.specs.Refusals.{first_of_checks}
@@ -11,13 +11,14 @@ use Rattle.srp.specs.Tables.{bad_response, tables_by, tables_def}
 use Rattle.srp.specs.declared.Refusal.TheVariants.{TableLength, Fields}
 use Rattle.srp.specs.declared.Descriptor.{Descriptor}
 use Rattle.srp.specs.declared.Reply.{Reply}
-use Rattle.srp.specs.declared.Reply.TheVariants.{Refused, Performed}
+use Rattle.srp.specs.declared.Reply.TheVariants.{Performed}
 use Rattle.srp.specs.declared.Answer.{Answer}
 use Rattle.words.specs.Slots.{slots, no_slot}
 use Rattle.words.specs.Head.{head_of}
 use Rattle.words.specs.View.{view}
 use Rattle.state.specs.Promises.{AnswersAs, AnswersWith}
 use Rattle.store.specs.Places.{OwnPlace}
+use Rattle.srp.specs.declared.Refusal.{Refusal}
 
 abbrev pub tables : List ℕ → List ℕ → Tables
 tables out inn = record { out = out; inn = inn }
@@ -34,7 +35,7 @@ judged_def p tag t g = tables_by (first_of_checks ((not (tables_fit g t), TableL
 
 -- refusal 10: the command is answered, and ends
 abbrev pub bad_def : ℕ → Port → Outcome
-bad_def tag p = answering (leaving p p.announced (has_tag tag)) (Refused Fields) (bad_response (find (has_tag tag) p.held))
+bad_def tag p = answering (leaving p p.announced (has_tag tag)) (Err Fields) (bad_response (find (has_tag tag) p.held))
 
 -- ── the store
 
@@ -46,9 +47,9 @@ pub record Accepted (l st l' st' : List ℕ) (tag : ℕ) : Type 0 where
   pub tagged : (get_or (slots l) slot no_slot).request.tag ≡ tag
   pub place : OwnPlace slot l st l' st'
 
-pub record Stores (l st l' st' : List ℕ) (tag : ℕ) (r : Reply) : Type 0 where
-  pub kept : (r ≡ Performed → ⊥) → st' ≡ st
-  pub brought : r ≡ Performed → Accepted l st l' st' tag
+pub record Stores (l st l' st' : List ℕ) (tag : ℕ) (r : Result Reply Refusal) : Type 0 where
+  pub kept : (r ≡ Ok Performed → ⊥) → st' ≡ st
+  pub brought : r ≡ Ok Performed → Accepted l st l' st' tag
 
 -- ── what the parts promise
 

@@ -32,7 +32,7 @@ fn end_bad(s: &mut [u64], i: usize, q: Request, buf: &mut [u8]) -> Answer
     let delta = state::settle(s, 0);
     message::put_answer(buf, q.ucsolnt, q.tag, task::FIELDS_INVALID, delta);
     Answer {
-        reply: Reply::Refused(Refusal::Fields),
+        reply: Err(Refusal::Fields),
         wrote: message::ANSWER_SIZE,
     }
 }
@@ -103,7 +103,7 @@ fn judge(
     let in_part = store::new_part(segment_count(inn, n), in_total as u32);
     store::bring(s, store, i, out_part, in_part, out, inn);
     Answer {
-        reply: Reply::Performed,
+        reply: Ok(Reply::Performed),
         wrote: 0,
     }
 }

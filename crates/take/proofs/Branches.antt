@@ -5,6 +5,7 @@ use mathlib.Core.Bool.{Bool, true, false, cond, not, ◌&&◌, ◌||◌}
 use mathlib.Core.List.{List, [], ◌∷◌}
 use Prim.Native.Nat.{ℕ, ◌≤◌, ◌<◌}
 use borrow.Author.Tests.{eq-eqb, ne_eqb, lt-ltb, le-ltb}
+use Rattle.std.specs.Prelude.{Err}
 use Rattle.srp.specs.Limits.{buffer_size}
 use Rattle.srp.specs.Refusals.{Conduct, hangs_up, conduct_of, reason_in, first_of_checks}
 use Rattle.srp.specs.Descriptors.{given, good_fields}
@@ -17,19 +18,18 @@ use Rattle.srp.specs.declared.Command.{Command}
 use Rattle.srp.specs.declared.TaskRequest.{TaskRequest}
 use Rattle.srp.specs.declared.Message.{Message}
 use Rattle.srp.specs.declared.Message.TheVariants.{Bad, Cmd, TskMgmt, CredRsp}
-use Rattle.srp.specs.declared.Reply.TheVariants.{Refused}
 use Rattle.take.specs.Taking.{later_def, fields_def, bad_def}
 
 -- ── 1 and 21
 
 module _ (p : Port) (room : ℕ) (m : List ℕ) where
   -- a short buffer
-  pub take_1 : room < buffer_size → take_def p room m ≡ silent p (Refused ShortBuffer)
+  pub take_1 : room < buffer_size → take_def p room m ≡ silent p (Err ShortBuffer)
   take_1 h = rw (lt-ltb room 132 h) refl
 
   module _ (enough : buffer_size ≤ room) where
     -- a closed channel
-    pub take_21 : p.live ≡ false → take_def p room m ≡ silent p (Refused Closed)
+    pub take_21 : p.live ≡ false → take_def p room m ≡ silent p (Err Closed)
     take_21 e = rw (le-ltb room 132 enough, e) refl
 
     -- the message that was read

@@ -7,6 +7,7 @@ use Prim.Native.Nat.{ℕ, ◌*◌, ◌/◌, ◌≤◌}
 use native.Mathlib.Omega.{arith}
 use lib.ListN.{length}
 use lib.Seq.{take_all, take-length}
+use Rattle.std.specs.Prelude.{Result, Ok}
 use Rattle.srp.specs.Descriptors.{standing, standing_size_lem, placeless, giving, given, chosen}
 use Rattle.srp.specs.Credit.{Open, Port, due}
 use Rattle.srp.specs.Writing.{answer, solicited, placed}
@@ -37,11 +38,12 @@ use Rattle.cut.specs.declared.Total.TheVariants.{Sum}
 use Rattle.command.specs.Reading.{LiesIn, ListFits, FieldsRead}
 use Rattle.take.specs.Taking.{Summed}
 use Rattle.command.proofs.Judged.{fields_right}
+use Rattle.srp.specs.declared.Refusal.{Refusal}
 
 -- ── an answer
 
 -- a request that ends at once uses its own credit, and its answer carries what is due
-pub answered : (l₀ l st b l' b' : List ℕ) (x : Bool) (tag code d : ℕ) (y : Reply) → (view l st).live ≡ (view l₀ st).live → (head_of l).live ≡ true → Settled 1 d l l'
+pub answered : (l₀ l st b l' b' : List ℕ) (x : Bool) (tag code d : ℕ) (y : Result Reply Refusal) → (view l st).live ≡ (view l₀ st).live → (head_of l).live ≡ true → Settled 1 d l l'
     → b' ≡ placed (answer x tag code d ∷ []) b
     → AnswersAs l₀ st b l' st b' (record { reply = y; wrote = answer_size }) (answering (after_use 1 (view l st)) y (answer x tag code))
 answered l₀ l st b l' b' x tag code d y k e S w =
@@ -54,8 +56,8 @@ task_answer k = answer (solicited k.request (task_code k.function)) k.request.ta
 
 -- a task request's outcome is the answer behind its aborts
 pub task_ends : (p p' : Port) (m : List ℕ) (k : TaskRequest) → p' ≡ without_ended (Aborted k) p
-    → accepted p m (TskMgmt k) ≡ answering (after_use 1 p') (TaskAnswered k.request.tag k.request.lun) (task_answer k)
-task_ends p p' m k e = ap (λ (q : Port). answering (after_use 1 q) (TaskAnswered k.request.tag k.request.lun) (task_answer k)) (sym e)
+    → accepted p m (TskMgmt k) ≡ answering (after_use 1 p') (Ok (TaskAnswered k.request.tag k.request.lun)) (task_answer k)
+task_ends p p' m k e = ap (λ (q : Port). answering (after_use 1 q) (Ok (TaskAnswered k.request.tag k.request.lun)) (task_answer k)) (sym e)
 
 -- the message of another SOLNT and code
 pub answer_by : (b : List ℕ) (tag d : ℕ) {x y : Bool} {m n : ℕ} → x ≡ y → m ≡ n → placed (answer x tag m d ∷ []) b ≡ placed (answer y tag n d ∷ []) b

@@ -5,6 +5,7 @@ use mathlib.Core.Bool.{true, false, true≢false}
 use mathlib.Core.List.{List}
 use mathlib.Core.Option.{Option, none, some}
 use Prim.Native.Nat.{ℕ}
+use Rattle.std.specs.Prelude.{Result}
 use Rattle.srp.specs.Refusals.{first_of_checks}
 use Rattle.srp.specs.Credit.{Port}
 use Rattle.srp.specs.Take.{Outcome, later_checks, accepted, take_by}
@@ -19,7 +20,7 @@ use Rattle.store.specs.Places.{OwnPlace}
 use Rattle.take.specs.Taking.{later_def, takes_command, Stores}
 
 -- a command taken has its place
-pub taken : {l st l' st' : List ℕ} {r : Reply} → takes_command r ≡ true → OwnPlace (head_of l).held l st l' st' → Stores l st l' st' r
+pub taken : {l st l' st' : List ℕ} {r : Result Reply Refusal} → takes_command r ≡ true → OwnPlace (head_of l).held l st l' st' → Stores l st l' st' r
 taken e P = record { kept = λ f. absurd (true≢false (sym e ∙ f)); entered = λ t. P }
 
 -- an outcome without a command leaves the store

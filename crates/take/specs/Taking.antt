@@ -1,6 +1,6 @@
 -- Take, cut where the code is cut, and what each part promises. l, st and b are the port's words, its store and the lent buffer before the call, l', st'
 -- and b' after it; s is the message.
-use Rattle.std.specs.Prelude.{◌≡◌, Bool, true, false, not, ◌&&◌, List, [], ◌∷◌, ℕ, ◌-◌, length}
+use Rattle.std.specs.Prelude.{◌≡◌, Bool, true, false, not, ◌&&◌, List, [], ◌∷◌, ℕ, ◌-◌, length, Result, Ok, Err}
 use Rattle.srp.specs.Refusals.{first_of_checks, conduct_of, reason_in}
 use Rattle.srp.specs.Descriptors.{given, chosen}
 use Rattle.srp.specs.Credit.{Port, with_held}
@@ -13,7 +13,7 @@ use Rattle.srp.specs.declared.Command.{Command}
 use Rattle.srp.specs.declared.Message.{Message}
 use Rattle.srp.specs.declared.Message.TheVariants.{Cmd}
 use Rattle.srp.specs.declared.Reply.{Reply}
-use Rattle.srp.specs.declared.Reply.TheVariants.{Refused, Performed, NewCommand, TaskAnswered, CreditSettled, LoggedOut, Operation, Done, Served, Idle, Accepted, Rejected, Counts, Listed}
+use Rattle.srp.specs.declared.Reply.TheVariants.{Performed, NewCommand, TaskAnswered, CreditSettled, LoggedOut, Operation, Done, Served, Idle, Accepted, Rejected, Counts, Listed}
 use Rattle.srp.specs.declared.Answer.{Answer}
 use Rattle.cut.specs.declared.Total.TheVariants.{Sum}
 use Rattle.command.specs.Reading.{fields_of, ListFits}
@@ -34,7 +34,7 @@ fields_def p s c = take_by (first_of_checks ((not (waits c) && not (fields_fit (
 
 -- refusal 10: the command is taken and answered
 abbrev pub bad_def : Request → Port → Outcome
-bad_def r p = answering (with_held p (p.announced - 1) p.held) (Refused Fields) (answer r.ucsolnt r.tag 0x02)
+bad_def r p = answering (with_held p (p.announced - 1) p.held) (Err Fields) (answer r.ucsolnt r.tag 0x02)
 
 -- both directions' fields are good without a table: their sums, and what is known of their segments
 pub record Summed (s : List ℕ) (c : Command) (b d : ℕ) : Type 0 where
@@ -46,24 +46,24 @@ pub record Summed (s : List ℕ) (c : Command) (b d : ℕ) : Type 0 where
 -- ── the store
 
 -- a reply that says that a command was taken
-abbrev pub takes_command : Reply → Bool
-takes_command (Refused f) = false
-takes_command Performed = false
-takes_command (NewCommand tag lun cdb waits) = true
-takes_command (TaskAnswered tag lun) = false
-takes_command CreditSettled = false
-takes_command LoggedOut = false
-takes_command (Operation k p n) = false
-takes_command (Done n) = false
-takes_command (Served tag d p n) = false
-takes_command Idle = false
-takes_command Accepted = false
-takes_command (Rejected reason) = false
-takes_command (Counts n) = false
-takes_command (Listed n) = false
+abbrev pub takes_command : Result Reply Refusal → Bool
+takes_command (Err f) = false
+takes_command (Ok Performed) = false
+takes_command (Ok (NewCommand tag lun cdb waits)) = true
+takes_command (Ok (TaskAnswered tag lun)) = false
+takes_command (Ok CreditSettled) = false
+takes_command (Ok LoggedOut) = false
+takes_command (Ok (Operation k p n)) = false
+takes_command (Ok (Done n)) = false
+takes_command (Ok (Served tag d p n)) = false
+takes_command (Ok Idle) = false
+takes_command (Ok Accepted) = false
+takes_command (Ok (Rejected reason)) = false
+takes_command (Ok (Counts n)) = false
+takes_command (Ok (Listed n)) = false
 
 -- the store is lent memory: unless a command was taken every byte of it is as it was; a command taken changes the bytes of its own place and no other
-pub record Stores (l st l' st' : List ℕ) (r : Reply) : Type 0 where
+pub record Stores (l st l' st' : List ℕ) (r : Result Reply Refusal) : Type 0 where
   pub kept : takes_command r ≡ false → st' ≡ st
   pub entered : takes_command r ≡ true → OwnPlace (head_of l).held l st l' st'
 

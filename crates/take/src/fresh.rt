@@ -36,12 +36,12 @@ fn enter_waiting(s: &mut [u64], store: &mut [u8], msg: &[u8], c: Command) -> Ans
     let inn = command::standing(msg, i);
     store::enter(s, store, q, none, none, awaits, out, inn);
     Answer {
-        reply: Reply::NewCommand {
+        reply: Ok(Reply::NewCommand {
             tag: q.tag,
             lun: q.lun,
             cdb: c.cdb,
             waits: true,
-        },
+        }),
         wrote: 0,
     }
 }
@@ -83,12 +83,12 @@ fn enter_ready(
         inn,
     );
     Answer {
-        reply: Reply::NewCommand {
+        reply: Ok(Reply::NewCommand {
             tag: q.tag,
             lun: q.lun,
             cdb: c.cdb,
             waits: false,
-        },
+        }),
         wrote: 0,
     }
 }

@@ -23,7 +23,7 @@ fn hang_up(s: &mut [u64], buf: &mut [u8], f: Refusal) -> Answer
     requires buffer_size_in_bounds { buffer_size ≤ length buf.old }
     ensures { HangsUp s.old buf.old s.new buf.new f result }
 {
-    close::log_out(s, buf, Reply::Refused(f), answer::reason_of(f))
+    close::log_out(s, buf, Err(f), answer::reason_of(f))
 }
 
 // A command with bad fields is taken and answered.
@@ -37,7 +37,7 @@ fn answer_bad(s: &mut [u64], buf: &mut [u8], q: Request) -> Answer
     let delta = state::settle(s, 1);
     message::put_answer(buf, q.ucsolnt, q.tag, task::FIELDS_INVALID, delta);
     Answer {
-        reply: Reply::Refused(Refusal::Fields),
+        reply: Err(Refusal::Fields),
         wrote: message::ANSWER_SIZE,
     }
 }
@@ -57,10 +57,10 @@ fn end_task(s: &mut [u64], buf: &mut [u8], t: TaskRequest) -> Answer
     let due = state::settle(s, 1);
     message::put_answer(buf, solnt, q.tag, code, due);
     Answer {
-        reply: Reply::TaskAnswered {
+        reply: Ok(Reply::TaskAnswered {
             tag: q.tag,
             lun: q.lun,
-        },
+        }),
         wrote: message::ANSWER_SIZE,
     }
 }
@@ -100,7 +100,7 @@ fn take_credit(s: &mut [u64], buf: &mut [u8], tag: u64) -> Answer
     }
     state::set_unanswered(s, false);
     Answer {
-        reply: Reply::CreditSettled,
+        reply: Ok(Reply::CreditSettled),
         wrote: 0,
     }
 }
@@ -112,7 +112,7 @@ fn take_logout(s: &mut [u64]) -> Answer
 {
     words::clear(s);
     Answer {
-        reply: Reply::LoggedOut,
+        reply: Ok(Reply::LoggedOut),
         wrote: 0,
     }
 }

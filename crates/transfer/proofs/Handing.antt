@@ -9,6 +9,7 @@ use native.Mathlib.Omega.{arith}
 use lib.Dec.{ltb}
 use lib.ListN.{get_or}
 use borrow.Author.Tests.{lt-ltb, le-ltb}
+use Rattle.std.specs.Prelude.{Ok, Err}
 use Rattle.srp.specs.Lists.{find, change, without}
 use Rattle.srp.specs.Both.{of}
 use Rattle.srp.specs.Credit.{Side, movable, on_side, Open, Port, has_tag, place, with_moves}
@@ -22,7 +23,7 @@ use Rattle.srp.specs.declared.Kind.{Kind}
 use Rattle.srp.specs.declared.Piece.{Piece}
 use Rattle.srp.specs.declared.Place.{Place}
 use Rattle.srp.specs.declared.Refusal.TheVariants.{Offset, Unfinished}
-use Rattle.srp.specs.declared.Reply.TheVariants.{Refused, Performed, Operation, Done}
+use Rattle.srp.specs.declared.Reply.TheVariants.{Performed, Operation, Done}
 use Rattle.srp.proofs.Tags.{find_changed}
 use Rattle.words.specs.Slots.{slots, no_slot, PartIs, place_at_lem, moved_slot}
 use Rattle.words.specs.Line.{line}
@@ -101,7 +102,7 @@ module _ {l : List ℕ} {tag i : ℕ} (F : FoundAt l tag i) (live : (head_of l).
     same_pieces st e = ap (λ (s : Side). has_pieces s) (read_side st) ∙ e
 
     -- 31
-    pub too_far : min p.transfer.required p.total < offset → Names l l tag d offset count (Refused Offset)
+    pub too_far : min p.transfer.required p.total < offset → Names l l tag d offset count (Err Offset)
     too_far e st =
         replies_by (move_beyond (view l st) tag d offset count (open_view st) (here st) (found_first F live st) (unwaiting st) planned (same_bound st (lt-ltb (min p.transfer.required p.total) offset e)))
         (refused l st Offset)
@@ -111,7 +112,7 @@ module _ {l : List ℕ} {tag i : ℕ} (F : FoundAt l tag i) (live : (head_of l).
       within st = same_bound st (le-ltb (min p.transfer.required p.total) offset low)
 
       -- 32
-      pub under_way : p.transfer.at < p.transfer.end → Names l l tag d offset count (Refused Unfinished)
+      pub under_way : p.transfer.at < p.transfer.end → Names l l tag d offset count (Err Unfinished)
       under_way e st =
           replies_by (move_unfinished (view l st) tag d offset count (open_view st) (here st) (found_first F live st) (unwaiting st) planned (within st) (same_pieces st (lt-ltb p.transfer.at p.transfer.end e)))
           (refused l st Unfinished)
@@ -137,18 +138,18 @@ module _ {l : List ℕ} {tag i : ℕ} (F : FoundAt l tag i) (live : (head_of l).
             by Out = refl
             by In = refl
 
-        named : (l'' : List ℕ) (b : Bool) → ltb offset to ≡ b → slots l'' ≡ slots l' → head_of l'' ≡ head_of l' → line l'' ≡ joins b (place tag d) (line l) → Names l l'' tag d offset count Performed
+        named : (l'' : List ℕ) (b : Bool) → ltb offset to ≡ b → slots l'' ≡ slots l' → head_of l'' ≡ head_of l' → line l'' ≡ joins b (place tag d) (line l) → Names l l'' tag d offset count (Ok Performed)
         named l'' b e s h f st =
             replies_by (move_passed (view l st) tag d offset count (open_view st) (here st) (found_first F live st) (unwaiting st) planned (within st) (same_pieces st (le-ltb p.transfer.at p.transfer.end idle)))
             (performed refl
             (altered_view st d (moving offset count) l'' b (λ more. joins more (place tag d) (view l st).line) to_slot (a st) (has_pieces_lem st e) s h (f ∙ ap (joins b (place tag d)) (sym (view_line l st live)))) refl refl)
 
         -- without pieces it does not join the line
-        pub begun_empty : to ≤ offset → Names l l' tag d offset count Performed
+        pub begun_empty : to ≤ offset → Names l l' tag d offset count (Ok Performed)
         begun_empty e = named l' false (le-ltb offset to e) refl refl C.line
 
         -- with pieces it does
-        pub begun : {l'' : List ℕ} → offset < to → LineChanged l' l'' (joins true (place tag d)) → Names l l'' tag d offset count Performed
+        pub begun : {l'' : List ℕ} → offset < to → LineChanged l' l'' (joins true (place tag d)) → Names l l'' tag d offset count (Ok Performed)
         begun {l''} e D = named l'' true (lt-ltb offset to e) D.slots D.head (D.line ∙ ap (joins true (place tag d)) C.line)
 
   -- ── a step
@@ -169,27 +170,27 @@ module _ {l : List ℕ} {tag i : ℕ} (F : FoundAt l tag i) (live : (head_of l).
     hand_by e f = λ k. hand_out_lem (view l st) tag d ((found_number ∙ sym e) k) ((found_next ∙ f) k)
 
     -- no piece is left
-    pub none_left : {l' : List ℕ} {n : ℕ} → HandsNone l l' st i d n → StepsPlanned l l' st tag d (Done n)
+    pub none_left : {l' : List ℕ} {n : ℕ} → HandsNone l l' st i d n → StepsPlanned l l' st tag d (Ok (Done n))
     none_left H =
         record { replies = replies_by (hand_by H.number H.next) (performed refl (ap (λ (q : List ℕ). view q st) H.same) refl refl); done = λ n q. H.same }
 
     module _ {l' : List ℕ} {o : Piece} {n : ℕ} {more : Bool} (H : HandsOne l l' st i d o n more) where
       handed : (l'' : List ℕ) {k : Kind} → k ≡ kind_of d → slots l'' ≡ slots l' → head_of l'' ≡ head_of l' → line l'' ≡ keeps_place more (place tag d) (line l)
-          → StepsPlanned l l'' st tag d (Operation k o n)
+          → StepsPlanned l l'' st tag d (Ok (Operation k o n))
       handed l'' {k} q s h f =
           record {
             replies =
                 replies_by (hand_by refl H.next)
-                (performed (λ j. Operation (q j) (H.said j) (H.number j))
+                (performed (λ j. Ok (Operation (q j) (H.said j) (H.number j)))
                 (altered_view st d (handing H.piece.len) l'' more (λ more. keeps_place more (place tag d) (view l st).line) H.changed H.moved H.left s h (f ∙ ap (keeps_place more (place tag d)) (sym (view_line l st live))))
                 refl refl);
             done = λ n f. let z : ◌≡◌ {A = ℕ} 0 1 = cc in let y : ⊥ = omega arith in absurd y;
           }
 
       -- a piece is handed out, and more are left
-      pub more_left : {k : Kind} → more ≡ true → k ≡ kind_of d → StepsPlanned l l' st tag d (Operation k o n)
+      pub more_left : {k : Kind} → more ≡ true → k ≡ kind_of d → StepsPlanned l l' st tag d (Ok (Operation k o n))
       more_left e q = handed l' q refl refl (rw e H.changed.line)
 
       -- it was the last
-      pub last_handed : {l'' : List ℕ} {k : Kind} → more ≡ false → Leaves (Handed (place tag d)) l' l'' → k ≡ kind_of d → StepsPlanned l l'' st tag d (Operation k o n)
+      pub last_handed : {l'' : List ℕ} {k : Kind} → more ≡ false → Leaves (Handed (place tag d)) l' l'' → k ≡ kind_of d → StepsPlanned l l'' st tag d (Ok (Operation k o n))
       last_handed {l''} e L q = handed l'' q L.slots L.head (rw e (L.line st ∙ ap (without (same_place_lem (place tag d))) H.changed.line))

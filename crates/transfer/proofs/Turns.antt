@@ -8,6 +8,7 @@ use Prim.Native.Nat.{ℕ, ◌≤◌}
 use native.Mathlib.Omega.{arith}
 use lib.ListN.{length, get_or, take, drop}
 use lib.Seq.{drop-cons, get_or-take}
+use Rattle.std.specs.Prelude.{Result, Ok, Err}
 use Rattle.srp.specs.Credit.{Open, Port}
 use Rattle.srp.specs.Line.{put_back}
 use Rattle.srp.specs.Take.{silent}
@@ -17,7 +18,7 @@ use Rattle.srp.specs.declared.Piece.{Piece}
 use Rattle.srp.specs.declared.Place.{Place}
 use Rattle.srp.specs.declared.Refusal.TheVariants.{Closed}
 use Rattle.srp.specs.declared.Reply.{Reply}
-use Rattle.srp.specs.declared.Reply.TheVariants.{Refused, Served, Idle}
+use Rattle.srp.specs.declared.Reply.TheVariants.{Served, Idle}
 use Rattle.words.specs.Line.{count, ring, line}
 use Rattle.words.specs.Head.{head_of, SlotChanged}
 use Rattle.words.specs.View.{view}
@@ -31,6 +32,7 @@ use Rattle.state.proofs.Promises.{refused, replies_by, performed, found_none}
 use Rattle.transfer.specs.Stepping.{command_at, side_at, HandsNone, HandsOne}
 use Rattle.transfer.specs.Turning.{Turns, FirstIs, Serves}
 use Rattle.transfer.proofs.Handing.{view_line, altered_view, found_next, found_number}
+use Rattle.srp.specs.declared.Refusal.{Refusal}
 
 -- the first of a line that is not empty
 pub first_is : (l : List ℕ) {n : ℕ} (x : Place) → n ≡ count l → (n ≡ 0 → ⊥) → x ≡ get_or (ring l) 0 no_place → FirstIs l x
@@ -49,14 +51,14 @@ first_stays {l} {l'} C I = omega (arith, ap length C.line, line_long l, line_lon
 turn_open : (p : Port) → p.live ≡ true → turn_def p ≡ serve_first p p.line
 turn_open p e = rw e refl
 
-turn_closed : (p : Port) → p.live ≡ false → turn_def p ≡ silent p (Refused Closed)
+turn_closed : (p : Port) → p.live ≡ false → turn_def p ≡ silent p (Err Closed)
 turn_closed p e = rw e refl
 
 -- ── the call
 
 module _ (l st : List ℕ) where
   -- 21
-  pub turns_closed : (view l st).live ≡ false → Turns l l st (Refused Closed)
+  pub turns_closed : (view l st).live ≡ false → Turns l l st (Err Closed)
   turns_closed e = record { replies = replies_by (turn_closed (view l st) e) (refused l st Closed); idle = λ q. refl }
 
   module _ (live : (head_of l).live ≡ true) where
@@ -65,12 +67,12 @@ module _ (l st : List ℕ) where
     by_line e = turn_open (view l st) (view_live l st ∙ live) ∙ ap (serve_first (view l st)) (view_line l st live ∙ e)
 
     -- an empty line
-    pub turns_idle : {n : ℕ} → n ≡ count l → n ≡ 0 → Turns l l st Idle
+    pub turns_idle : {n : ℕ} → n ≡ count l → n ≡ 0 → Turns l l st (Ok Idle)
     turns_idle c e =
         record { replies = replies_by (by_line (ap (λ (k : ℕ). take k (ring l)) (sym c ∙ e))) (performed refl refl refl refl); idle = λ q. refl }
 
     -- a place whose command is not open
-    pub turns_unknown : {x : Place} → FirstIs l x → FoundIs l x.tag Nothing → Turns l l st Idle
+    pub turns_unknown : {x : Place} → FirstIs l x → FoundIs l x.tag Nothing → Turns l l st (Ok Idle)
     turns_unknown {x} I F =
         record {
           replies =
@@ -82,7 +84,7 @@ module _ (l st : List ℕ) where
         }
 
     -- else as it is served
-    pub turns_served : {l' : List ℕ} {r : Reply} → Serves l l' st r → Turns l l' st r
+    pub turns_served : {l' : List ℕ} {r : Result Reply Refusal} → Serves l l' st r → Turns l l' st r
     turns_served S = record { replies = replies_by (turn_open (view l st) (view_live l st ∙ live)) S.replies; idle = S.idle }
 
 -- ── the first served
@@ -98,18 +100,18 @@ module _ {l : List ℕ} {x : Place} {i : ℕ} (F : FoundAt l x.tag i) (live : (h
       ∙ (λ k. serve (view l st) x (drop 1 (line l)) ((found_number F live st d ∙ sym e) k) ((found_next F live st d ∙ f) k))
 
   -- it has no piece
-  pub serves_none : {l' : List ℕ} {n : ℕ} → HandsNone l l' st i d n → Serves l l' st Idle
+  pub serves_none : {l' : List ℕ} {n : ℕ} → HandsNone l l' st i d n → Serves l l' st (Ok Idle)
   serves_none H =
       record { replies = replies_by (serve_by refl H.next) (performed refl (ap (λ (q : List ℕ). view q st) H.same) refl refl); idle = λ q. H.same }
 
   -- its piece
   pub serves_one : {l' l'' : List ℕ} {o : Piece} {n : ℕ} {more : Bool} → HandsOne l l' st i d o n more → LineChanged l' l'' (λ q. put_back more x (drop 1 q))
-      → Serves l l'' st (Served x.tag d o n)
+      → Serves l l'' st (Ok (Served x.tag d o n))
   serves_one {l'} {l''} {o} {n} {more} H D =
       record {
         replies =
             replies_by (serve_by refl H.next)
-            (performed (λ j. Served x.tag d (H.said j) (H.number j))
+            (performed (λ j. Ok (Served x.tag d (H.said j) (H.number j)))
             (altered_view F live st d (handing H.piece.len) l'' more (λ more. put_back more x (drop 1 (line l))) H.changed H.moved H.left D.slots D.head
             (D.line ∙ ap (λ (q : List Place). put_back more x (drop 1 q)) H.changed.line))
             refl refl);

@@ -1,5 +1,5 @@
 -- What plan, move and step promise.
-use Rattle.std.specs.Prelude.{◌≡◌, Bool, List, ℕ, ◌+◌, get_or}
+use Rattle.std.specs.Prelude.{◌≡◌, Bool, List, ℕ, ◌+◌, get_or, Result, Ok}
 use Rattle.std.proofs.Math.Option.{none, some}
 use Rattle.srp.specs.Both.{of}
 use Rattle.srp.specs.Credit.{Side, Open, on_side}
@@ -15,24 +15,25 @@ use Rattle.words.specs.declared.Slot.{Slot}
 use Rattle.state.specs.Promises.{RepliesAs, RepliesWith}
 use Rattle.transfer.specs.declared.Handed.{Handed}
 use Rattle.transfer.specs.declared.Handed.TheVariants.{Nothing, One}
+use Rattle.srp.specs.declared.Refusal.{Refusal}
 
 -- ── promises: l and l' are the port's words before and after the call, st is the store, which stays
 
-abbrev pub Plans : (l l' : List ℕ) (tag out inn : ℕ) → Reply → Type 0
+abbrev pub Plans : (l l' : List ℕ) (tag out inn : ℕ) → Result Reply Refusal → Type 0
 Plans l l' tag out inn r = RepliesWith l l' r (λ p. plan_def p tag out inn)
 
-abbrev pub Names : (l l' : List ℕ) (tag : ℕ) (d : Direction) (offset count : ℕ) → Reply → Type 0
+abbrev pub Names : (l l' : List ℕ) (tag : ℕ) (d : Direction) (offset count : ℕ) → Result Reply Refusal → Type 0
 Names l l' tag d offset count r = RepliesWith l l' r (λ p. move_def p tag d offset count)
 
 -- a step that says done alters no word
-pub record Steps (l l' st : List ℕ) (tag : ℕ) (d : Direction) (r : Reply) : Type 0 where
+pub record Steps (l l' st : List ℕ) (tag : ℕ) (d : Direction) (r : Result Reply Refusal) : Type 0 where
   pub replies : RepliesAs l st l' st r (step_def (view l st) tag d)
-  pub done : (n : ℕ) → r ≡ Done n → l' ≡ l
+  pub done : (n : ℕ) → r ≡ Ok (Done n) → l' ≡ l
 
 -- of a planned command
-pub record StepsPlanned (l l' st : List ℕ) (tag : ℕ) (d : Direction) (r : Reply) : Type 0 where
+pub record StepsPlanned (l l' st : List ℕ) (tag : ℕ) (d : Direction) (r : Result Reply Refusal) : Type 0 where
   pub replies : RepliesAs l st l' st r (step_outcome (view l st) tag d)
-  pub done : (n : ℕ) → r ≡ Done n → l' ≡ l
+  pub done : (n : ℕ) → r ≡ Ok (Done n) → l' ≡ l
 
 -- ── a piece handed out, by a step or a turn
 

@@ -28,29 +28,36 @@ pub enum Handed {
 }
 
 // States what a command requires each way. Refused 21, 24, 33, 30.
-pub fn plan(s: &mut [u64; PORT], tag: u64, out: u32, inn: u32) -> Reply
+pub fn plan(s: &mut [u64; PORT], tag: u64, out: u32, inn: u32) -> Result<Reply, Refusal>
     ensures { Plans s.old s.new tag out inn result }
 {
     let h = words::get_head(s);
     let live = h.live;
     if !live {
-        return Reply::Refused(Refusal::Closed);
+        return Err(Refusal::Closed);
     }
     let Found::At(i) = state::find(s, tag) else {
-        return Reply::Refused(Refusal::TagNotOpen);
+        return Err(Refusal::TagNotOpen);
     };
     if waiting::load_waiting(s, i) {
-        return Reply::Refused(Refusal::Waiting);
+        return Err(Refusal::Waiting);
     }
     if commands::load_planned(s, i) {
-        return Reply::Refused(Refusal::Planned);
+        return Err(Refusal::Planned);
     }
     commands::set_plan(s, i, out, inn);
-    Reply::Performed
+    Ok(Reply::Performed)
 }
 
 // The move of a planned command that does not wait, in slot i; one with pieces joins the line. Refused 31, 32.
-fn begin(s: &mut [u64], tag: u64, i: usize, d: Direction, offset: u32, count: u32) -> Reply
+fn begin(
+    s: &mut [u64],
+    tag: u64,
+    i: usize,
+    d: Direction,
+    offset: u32,
+    count: u32,
+) -> Result<Reply, Refusal>
     requires s_len { length s.old ≡ port_words }
     requires s_value { (head_of s.old).live ≡ true }
     requires found_at { FoundAt s.old tag i }
@@ -62,41 +69,47 @@ fn begin(s: &mut [u64], tag: u64, i: usize, d: Direction, offset: u32, count: u3
     let t = p.transfer;
     let movable = wire::least(t.required as u64, p.total as u64);
     if movable < offset as u64 {
-        return Reply::Refused(Refusal::Offset);
+        return Err(Refusal::Offset);
     }
     if t.at < t.end {
-        return Reply::Refused(Refusal::Unfinished);
+        return Err(Refusal::Unfinished);
     }
     let end = wire::least((offset as u64) + (count as u64), movable) as u32;
     commands::set_move(s, i, d, t.highest, offset, end, 0);
     if end <= offset {
-        return Reply::Performed;
+        return Ok(Reply::Performed);
     }
     let x = Place {
         tag: tag,
         direction: d,
     };
     line::join(s, x);
-    Reply::Performed
+    Ok(Reply::Performed)
 }
 
 // Names a move: so many bytes of a direction from an offset on, trimmed at min(R, B). Refused 21, 24, 33, 29, 31, 32.
-pub fn name_move(s: &mut [u64; PORT], tag: u64, d: Direction, offset: u32, count: u32) -> Reply
+pub fn name_move(
+    s: &mut [u64; PORT],
+    tag: u64,
+    d: Direction,
+    offset: u32,
+    count: u32,
+) -> Result<Reply, Refusal>
     ensures { Names s.old s.new tag d offset count result }
 {
     let h = words::get_head(s);
     let live = h.live;
     if !live {
-        return Reply::Refused(Refusal::Closed);
+        return Err(Refusal::Closed);
     }
     let Found::At(i) = state::find(s, tag) else {
-        return Reply::Refused(Refusal::TagNotOpen);
+        return Err(Refusal::TagNotOpen);
     };
     if waiting::load_waiting(s, i) {
-        return Reply::Refused(Refusal::Waiting);
+        return Err(Refusal::Waiting);
     }
     if !commands::load_planned(s, i) {
-        return Reply::Refused(Refusal::Unplanned);
+        return Err(Refusal::Unplanned);
     }
     begin(s, tag, i, d, offset, count)
 }
@@ -175,7 +188,7 @@ fn step_planned(
     i: usize,
     d: Direction,
     maximum: u32,
-) -> Reply
+) -> Result<Reply, Refusal>
     requires s_len { length s.old ≡ port_words }
     requires store_len { length store.now ≡ store_size }
     requires s_value { (head_of s.old).live ≡ true }
@@ -184,44 +197,49 @@ fn step_planned(
     ensures { StepsPlanned s.old s.new store.now tag d result }
 {
     match hand_out(s, store, i, d, maximum) {
-        Handed::Nothing(n) => Reply::Done(n),
+        Handed::Nothing(n) => Ok(Reply::Done(n)),
         Handed::One(piece, n, more) => {
             if more {
-                return Reply::Operation(kind_for(d), piece, n);
+                return Ok(Reply::Operation(kind_for(d), piece, n));
             }
             let x = Place {
                 tag: tag,
                 direction: d,
             };
             moves::leave(s, Leaving::Handed(x));
-            Reply::Operation(kind_for(d), piece, n)
+            Ok(Reply::Operation(kind_for(d), piece, n))
         }
     }
 }
 
 // The next piece of a direction's current move, or done, each with the number handed out for the move. Refused 21, 24, 33, 29.
-pub fn step(s: &mut [u64; PORT], store: &[u8; STORE], tag: u64, d: Direction) -> Reply
+pub fn step(
+    s: &mut [u64; PORT],
+    store: &[u8; STORE],
+    tag: u64,
+    d: Direction,
+) -> Result<Reply, Refusal>
     ensures { Steps s.old s.new store.now tag d result }
 {
     let h = words::get_head(s);
     let live = h.live;
     if !live {
-        return Reply::Refused(Refusal::Closed);
+        return Err(Refusal::Closed);
     }
     let Found::At(i) = state::find(s, tag) else {
-        return Reply::Refused(Refusal::TagNotOpen);
+        return Err(Refusal::TagNotOpen);
     };
     if waiting::load_waiting(s, i) {
-        return Reply::Refused(Refusal::Waiting);
+        return Err(Refusal::Waiting);
     }
     if !commands::load_planned(s, i) {
-        return Reply::Refused(Refusal::Unplanned);
+        return Err(Refusal::Unplanned);
     }
     step_planned(s, store, tag, i, d, h.terms.maximum)
 }
 
 // Serves the move x, the first of the line, whose command is in slot i.
-fn serve(s: &mut [u64], store: &[u8], x: Place, i: usize, maximum: u32) -> Reply
+fn serve(s: &mut [u64], store: &[u8], x: Place, i: usize, maximum: u32) -> Result<Reply, Refusal>
     requires s_len { length s.old ≡ port_words }
     requires store_len { length store.now ≡ store_size }
     requires s_value { (head_of s.old).live ≡ true }
@@ -232,29 +250,29 @@ fn serve(s: &mut [u64], store: &[u8], x: Place, i: usize, maximum: u32) -> Reply
 {
     let d = x.direction;
     match hand_out(s, store, i, d, maximum) {
-        Handed::Nothing(_) => Reply::Idle,
+        Handed::Nothing(_) => Ok(Reply::Idle),
         Handed::One(piece, n, more) => {
             line::pass(s, x, more);
-            Reply::Served(x.tag, d, piece, n)
+            Ok(Reply::Served(x.tag, d, piece, n))
         }
     }
 }
 
 // The next piece of the first move in the line, which goes to its end if pieces remain; idle with an empty line. Refused 21.
-pub fn turn(s: &mut [u64; PORT], store: &[u8; STORE]) -> Reply
+pub fn turn(s: &mut [u64; PORT], store: &[u8; STORE]) -> Result<Reply, Refusal>
     ensures { Turns s.old s.new store.now result }
 {
     let h = words::get_head(s);
     let live = h.live;
     if !live {
-        return Reply::Refused(Refusal::Closed);
+        return Err(Refusal::Closed);
     }
     if line::len(s) == 0 {
-        return Reply::Idle;
+        return Ok(Reply::Idle);
     }
     let x = line::at(s, 0);
     let Found::At(i) = state::find(s, x.tag) else {
-        return Reply::Idle;
+        return Ok(Reply::Idle);
     };
     serve(s, store, x, i, h.terms.maximum)
 }

@@ -3,6 +3,7 @@ use mathlib.Core.Path.{◌≡◌, refl, sym, ◌∙◌, ap}
 use mathlib.Core.Bool.{Bool, true}
 use mathlib.Core.List.{[], ◌∷◌}
 use native.Mathlib.Omega.{arith}
+use Rattle.std.specs.Prelude.{Ok}
 use Rattle.srp.specs.Credit.{Port, with_unanswered}
 use Rattle.srp.specs.Writing.{credit_request, placed}
 use Rattle.srp.specs.declared.Reply.TheVariants.{Performed}
@@ -22,6 +23,6 @@ returns c =
     let live : (head_of l).live ≡ true = c.requires.s_value in
     let A : Alters l c.set_unanswered.new.s (λ p. with_unanswered p true) = c.set_unanswered.ensures in
     let x : a.crsolnt ≡ (view l st).terms.crsolnt = c.requires.crsolnt_value ∙ ap (λ (p : Port). p.terms.crsolnt) (sym (while_open l st live)) in
-    answered {p = with_unanswered (view l st) true} Performed (credit_request (view l st).terms.crsolnt)
+    answered {p = with_unanswered (view l st) true} (Ok Performed) (credit_request (view l st).terms.crsolnt)
     (altered_view l c.set_unanswered.new.s st live A) (unused (with_unanswered (view l st) true)) refl (A.live ∙ live) c.settle-delta.ensures
     (c.put_credit_request.ensures ∙ ap (λ (b : Bool). placed (credit_request b c.settle-delta.result ∷ []) a.buf.now) x) refl (omega arith)

@@ -5,6 +5,7 @@ use mathlib.Core.List.{List, [], ◌∷◌}
 use mathlib.Core.Option.{Option, some}
 use Prim.Native.Nat.{ℕ}
 use native.Mathlib.Omega.{arith}
+use Rattle.std.specs.Prelude.{Ok}
 use Rattle.srp.specs.Lists.{find}
 use Rattle.srp.specs.Credit.{Open, Port, due, has_tag}
 use Rattle.srp.specs.Writing.{placed}
@@ -44,8 +45,8 @@ returns c =
     let A : Alters l c.drop_commands.new.s (without_ended (Finished a.tag)) = c.drop_commands.ensures in
     let f : find (has_tag a.tag) (view l st).held ≡ some x =
     found_slot c.requires.found_at live st c.load-c.ensures in
-    answers_by (ap (λ (o : Option Open). answering p Performed (final_response o a.status a.sense.now)) f)
-    (answered {p = p} Performed (final_response (some x) a.status a.sense.now) (altered_view l c.drop_commands.new.s st live A) (unused p) refl (A.live ∙ live) c.settle-delta.ensures
+    answers_by (ap (λ (o : Option Open). answering p (Ok Performed) (final_response o a.status a.sense.now)) f)
+    (answered {p = p} (Ok Performed) (final_response (some x) a.status a.sense.now) (altered_view l c.drop_commands.new.s st live A) (unused p) refl (A.live ∙ live) c.settle-delta.ensures
     (c.put_response.ensures ∙ ap (λ (m : List ℕ). placed (m ∷ []) a.buf.now) (response_is c.load-c.result a.status c.settle-delta.result a.sense.now st c.header-h.result c.header-h.ensures))
-    (ap (λ (n : ℕ). record { reply = Performed; wrote = n }) (sym (response_long x a.status a.sense.now (due p))))
+    (ap (λ (n : ℕ). record { reply = Ok Performed; wrote = n }) (sym (response_long x a.status a.sense.now (due p))))
     (rw (response_long x a.status a.sense.now (due p)) (omega arith)))

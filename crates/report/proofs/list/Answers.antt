@@ -2,6 +2,7 @@ use mathlib.Core.Path.{refl, sym, ◌∙◌, ap, subst}
 use mathlib.Core.List.{◌++◌, map}
 use Prim.Native.Nat.{ℕ, ◌+◌}
 use lib.ListN.{get_or, set, drop}
+use Rattle.std.specs.Prelude.{Ok}
 use Rattle.words.specs.Slots.{slots, no_slot}
 use Rattle.srp.specs.Take.{Outcome}
 use Rattle.srp.specs.declared.Record.{Record}
@@ -48,7 +49,7 @@ returns c =
     let G = c.get_head-h.ensures in
     let e = head_open G (ap not c.if-not-live.false) in
     record {
-      reply = ap Listed (sym (held_is G st e)) ∙ sym (ap (λ (o : Outcome). o.reply) (listed (view l st) (view_live l st ∙ e)));
+      reply = ap (λ k. Ok (Listed k)) (sym (held_is G st e)) ∙ sym (ap (λ (o : Outcome). o.reply) (listed (view l st) (view_live l st ∙ e)));
       count = sym (held_is G st e) ∙ open_count l st e;
       records =
           filled l c.get_head-h.result.held c.loop-i.records c.loop-i.i c.loop-i.invariant c.loop-i-test.false

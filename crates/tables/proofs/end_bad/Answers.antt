@@ -5,13 +5,13 @@ use mathlib.Core.Option.{Option, some}
 use Prim.Native.Nat.{ℕ}
 use native.Mathlib.Omega.{arith}
 use lib.ListN.{get_or}
+use Rattle.std.specs.Prelude.{Err}
 use Rattle.srp.specs.Credit.{Open, Port, due}
 use Rattle.srp.specs.Writing.{answer, placed}
 use Rattle.srp.specs.Take.{answering}
 use Rattle.srp.specs.Tables.{bad_response}
 use Rattle.srp.specs.declared.Refusal.TheVariants.{Fields}
 use Rattle.srp.specs.declared.Request.{Request}
-use Rattle.srp.specs.declared.Reply.TheVariants.{Refused}
 use Rattle.words.specs.Slots.{slots, no_slot}
 use Rattle.words.specs.Head.{head_of}
 use Rattle.words.specs.View.{open_of, view}
@@ -32,8 +32,8 @@ returns c =
     let p : Port = without_ended (Finished a.q.tag) (view l st) in
     let live : (head_of l).live ≡ true = c.requires.s_value in
     let A = c.drop_commands.ensures in
-    answers_by (ap (λ (o : Option Open). answering p (Refused Fields) (bad_response o)) (found_first c.requires.found_at live st))
-    (answered {p = p} (Refused Fields) (bad_response (some x)) (altered_view l c.drop_commands.new.s st live A) (unused p) refl (A.live ∙ live) c.settle-delta.ensures
+    answers_by (ap (λ (o : Option Open). answering p (Err Fields) (bad_response o)) (found_first c.requires.found_at live st))
+    (answered {p = p} (Err Fields) (bad_response (some x)) (altered_view l c.drop_commands.new.s st live A) (unused p) refl (A.live ∙ live) c.settle-delta.ensures
     (c.put_answer.ensures ∙ ap (λ (r : Request). placed (answer r.ucsolnt r.tag 0x02 c.settle-delta.result ∷ []) a.buf.now) c.requires.q_value)
-    (ap (λ (n : ℕ). record { reply = Refused Fields; wrote = n }) (sym (answer_long x.request.ucsolnt x.request.tag 0x02 (due p))))
+    (ap (λ (n : ℕ). record { reply = Err Fields; wrote = n }) (sym (answer_long x.request.ucsolnt x.request.tag 0x02 (due p))))
     (rw (answer_long x.request.ucsolnt x.request.tag 0x02 (due p)) (omega arith)))

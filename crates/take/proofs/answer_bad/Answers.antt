@@ -1,6 +1,6 @@
 use mathlib.Core.Path.{refl}
+use Rattle.std.specs.Prelude.{Err}
 use Rattle.srp.specs.declared.Refusal.TheVariants.{Fields}
-use Rattle.srp.specs.declared.Reply.TheVariants.{Refused}
 use Rattle.take.proofs.Endings.{answered}
 use Rattle.take.proofs.answer_bad.Goals as goal
 
@@ -8,4 +8,4 @@ use Rattle.take.proofs.answer_bad.Goals as goal
 pub returns : goal.returns
 returns c st =
     let a = c.args in
-    answered a.s.now a.s.now st a.buf.now _ _ a.q.ucsolnt a.q.tag 2 c.settle-delta.result (Refused Fields) refl c.requires.s_value c.settle-delta.ensures c.put_answer.ensures
+    answered a.s.now a.s.now st a.buf.now _ _ a.q.ucsolnt a.q.tag 2 c.settle-delta.result (Err Fields) refl c.requires.s_value c.settle-delta.ensures c.put_answer.ensures

@@ -1,5 +1,6 @@
 use mathlib.Core.Path.{◌∙◌, ap}
 use native.Mathlib.Omega.{arith}
+use Rattle.std.specs.Prelude.{Ok}
 use Rattle.srp.specs.Credit.{Port}
 use Rattle.srp.specs.Writing.{solicited}
 use Rattle.srp.specs.Take.{task_code}
@@ -30,5 +31,5 @@ returns c st m =
     let n = c.code_of-code.ensures in
     let e = altered_view a.s.now l st c.requires.s_value c.drop_commands.ensures in
     answers_by (task_ends (view a.s.now st) (view l st) m k e)
-    (answered a.s.now l st a.buf.now _ _ (solicited k.request (task_code k.function)) k.request.tag (task_code k.function) c.settle-due.result (TaskAnswered k.request.tag k.request.lun) (ap (λ (p : Port). p.live) e) (c.drop_commands.ensures.live ∙ c.requires.s_value) c.settle-due.ensures
+    (answered a.s.now l st a.buf.now _ _ (solicited k.request (task_code k.function)) k.request.tag (task_code k.function) c.settle-due.result (Ok (TaskAnswered k.request.tag k.request.lun)) (ap (λ (p : Port). p.live) e) (c.drop_commands.ensures.live ∙ c.requires.s_value) c.settle-due.ensures
     (c.put_answer.ensures ∙ answer_by a.buf.now k.request.tag c.settle-due.result (c.solicited-solnt.ensures ∙ ap (solicited k.request) n) n))

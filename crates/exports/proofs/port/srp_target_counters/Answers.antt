@@ -1,5 +1,6 @@
 use mathlib.Core.Path.{sym, ◌∙◌, ap}
 use mathlib.Core.List.{[]}
+use Rattle.std.specs.Prelude.{Result}
 use Rattle.srp.specs.declared.Reply.{Reply}
 use Rattle.srp.specs.Answers as def
 use Rattle.srp.specs.Calls.{counters_def}
@@ -9,6 +10,7 @@ use Rattle.exports.proofs.InC.{in_numbers, silently}
 use Rattle.exports.proofs.Listing.{counters_unwritten}
 use Rattle.exports.proofs.Plain.{counters_wordless}
 use Rattle.exports.proofs.port.srp_target_counters.Goals as goal
+use Rattle.srp.specs.declared.Refusal.{Refusal}
 
 -- src/port.rt:214:9
 pub give_nothing-requires : goal.give_nothing-requires
@@ -29,4 +31,4 @@ returns c =
     let p = view c.args.port.now st in
     let e = c.in-Counts.is in
     in_numbers (silently (counters_def p) (c.counters-r.ensures st) (counters_unwritten p))
-    (sym (ap (λ (x : Reply). def.returned x) e), c.counter_words.ensures 0 ∙ sym (ap (λ (x : Reply). answer_words (record { reply = x; wrote = 0 })) e))
+    (sym (ap (λ (x : Result Reply Refusal). def.returned x) e), c.counter_words.ensures 0 ∙ sym (ap (λ (x : Result Reply Refusal). answer_words (record { reply = x; wrote = 0 })) e))

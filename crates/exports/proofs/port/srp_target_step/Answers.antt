@@ -1,5 +1,6 @@
 -- `exports::srp_target_step` meets its contract.
 use mathlib.Core.Path.{sym, ◌∙◌, ap}
+use Rattle.std.specs.Prelude.{Result}
 use Rattle.srp.specs.declared.Reply.{Reply}
 use Rattle.srp.specs.Answers as def
 use Rattle.answer.specs.Words.{answer_words}
@@ -7,6 +8,7 @@ use Rattle.words.specs.View.{view}
 use Rattle.exports.proofs.InC.{step_in_c}
 use Rattle.exports.proofs.Plain.{step_ends}
 use Rattle.exports.proofs.port.srp_target_step.Goals as goal
+use Rattle.srp.specs.declared.Refusal.{Refusal}
 
 pub give_end-requires : goal.give_end-requires
 give_end-requires c =
@@ -20,4 +22,4 @@ returns-in_default c =
 pub returns : goal.returns
 returns c =
     let e = c.in-Operation.is in
-    step_in_c c.args.direction c.direction_of-d.ensures c.step-r.ensures (sym (ap (λ (x : Reply). def.returned x) e), c.operation_words.ensures 0 ∙ sym (ap (λ (x : Reply). answer_words (record { reply = x; wrote = 0 })) e))
+    step_in_c c.args.direction c.direction_of-d.ensures c.step-r.ensures (sym (ap (λ (x : Result Reply Refusal). def.returned x) e), c.operation_words.ensures 0 ∙ sym (ap (λ (x : Result Reply Refusal). answer_words (record { reply = x; wrote = 0 })) e))
