@@ -5,3 +5,4 @@ pub mod Parting
 pub mod Answering
 pub mod Opened
 pub mod Waiting
+pub mod Drawn

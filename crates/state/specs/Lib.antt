@@ -1,3 +1,4 @@
 pub mod Changes
 pub mod Leaving
 pub mod Promises
+pub mod Opening

@@ -3,6 +3,7 @@
 #![tactic(auto)]
 
 pub mod moves;
+pub mod opening;
 
 ghost use Rattle.std.specs.Prelude.{◌≡◌, ◌+◌, ◌-◌, ◌≤◌, ◌<◌, length};
 ghost use Rattle.srp.specs.Credit.{with_wanted, with_unanswered};
