@@ -11,8 +11,7 @@ use Rattle.srp.specs.Credit.{Side, on_side}
 use Rattle.srp.specs.Calls.{has_pieces, handing, next_in}
 use Rattle.srp.specs.declared.Direction.{Direction}
 use Rattle.srp.specs.declared.Piece.{Piece}
-use Rattle.srp.specs.declared.Cut.{Cut}
-use Rattle.srp.specs.declared.Cut.TheVariants.{CutPiece, CutDone}
+use Rattle.std.specs.Prelude.{Option as Answered, Some, None}
 use Rattle.cut.specs.Walk.{next_wrapped}
 use Rattle.words.specs.Slots.{slots, no_slot, PartIs, place_at_lem, moved_slot}
 use Rattle.words.specs.Head.{head_of, SlotChanged}
@@ -34,13 +33,13 @@ module _ (l st : List ℕ) (i : ℕ) (d : Direction) {p : Part} (P : PartIs l i 
   next_read : next_in (head_of l).terms (side_at l st i d) ≡ coming
   next_read = ap (next_in (head_of l).terms) read
 
-  module _ {r : Cut} (is : r ≡ next_wrapped coming) where
+  module _ {r : Answered Piece} (is : r ≡ next_wrapped coming) where
     -- no piece is left
-    pub hands_none : r ≡ CutDone → HandsNone l l st i d p.transfer.number
+    pub hands_none : r ≡ None → HandsNone l l st i d p.transfer.number
     hands_none e = record { next = next_read ∙ no_piece coming is e; number = sym (ap (λ (s : Side). s.transfer.number) read); same = refl }
 
     -- a piece is handed out
-    pub hands_one : {l' : List ℕ} (h to : ℕ) (m : Piece) {more : Bool} → r ≡ CutPiece m → to ≡ p.transfer.at + m.len
+    pub hands_one : {l' : List ℕ} (h to : ℕ) (m : Piece) {more : Bool} → r ≡ Some m → to ≡ p.transfer.at + m.len
         → SlotChanged l l' i (moved_slot d h to p.transfer.end (p.transfer.number + 1))
         → open_of st (moved_slot d h to p.transfer.end (p.transfer.number + 1) (get_or (slots l) i no_slot)) ≡ on_side d (handing m.len) (command_at l st i)
         → more ≡ ltb to p.transfer.end → HandsOne l l' st i d m (p.transfer.number + 1) more

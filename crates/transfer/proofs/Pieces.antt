@@ -15,9 +15,7 @@ use Rattle.srp.specs.declared.Direction.{Direction}
 use Rattle.srp.specs.declared.Direction.TheVariants.{Out, In}
 use Rattle.srp.specs.declared.Terms.{Terms}
 use Rattle.srp.specs.declared.Piece.{Piece}
-use Rattle.srp.specs.declared.Refusal.{Refusal}
-use Rattle.srp.specs.declared.Cut.{Cut}
-use Rattle.srp.specs.declared.Cut.TheVariants.{CutRefused, CutPiece, CutDone}
+use Rattle.std.specs.Prelude.{Option as Answered, Some, None}
 use Rattle.srp.proofs.CutLaws.{up_to_lem}
 use Rattle.srp.proofs.Pieces.{piece_fits}
 use Rattle.cut.specs.Walk.{next_wrapped}
@@ -76,36 +74,28 @@ ends_by T some_byte s o e =
 
 -- ── the next piece as the walk over the memory descriptors answers it
 
-module _ (n : Option Piece) {r : Cut} (is : r ≡ next_wrapped n) where
-  -- never refused
-  pub no_refusal : {f : Refusal} → r ≡ CutRefused f → ⊥
-  no_refusal {f} e = go n (sym is ∙ e)
-    where
-      go : (n : Option Piece) → next_wrapped n ≡ CutRefused f → ⊥
-      go none q = let z : ◌≡◌ {A = ℕ} 0 1 = cc in omega arith
-      go (some o) q = let z : ◌≡◌ {A = ℕ} 0 1 = cc in omega arith
-
+module _ (n : Option Piece) {r : Answered Piece} (is : r ≡ next_wrapped n) where
   -- done
-  pub no_piece : r ≡ CutDone → n ≡ none
+  pub no_piece : r ≡ None → n ≡ none
   no_piece e = go n (sym is ∙ e)
     where
-      go : (n : Option Piece) → next_wrapped n ≡ CutDone → n ≡ none
+      go : (n : Option Piece) → next_wrapped n ≡ None → n ≡ none
       go none q = refl
       go (some o) q = let z : ◌≡◌ {A = ℕ} 0 1 = cc in let y : ⊥ = omega arith in absurd y
 
   -- a piece, its address in 64 bits
-  pub a_piece : {m : Piece} → r ≡ CutPiece m → (o : Piece) × (n ≡ some o) × (m ≡ wrapped o)
+  pub a_piece : {m : Piece} → r ≡ Some m → (o : Piece) × (n ≡ some o) × (m ≡ wrapped o)
   a_piece {m} e = go n (sym is ∙ e)
     where
-      go : (n : Option Piece) → next_wrapped n ≡ CutPiece m → (o : Piece) × (n ≡ some o) × (m ≡ wrapped o)
+      go : (n : Option Piece) → next_wrapped n ≡ Some m → (o : Piece) × (n ≡ some o) × (m ≡ wrapped o)
       go none q = let z : ◌≡◌ {A = ℕ} 0 1 = cc in let y : ⊥ = omega arith in absurd y
       go (some o) q = (o, refl, (cc))
 
 -- ── the move's next byte
 
 -- behind the next piece it stays in 32 bits, and is at or behind as many bytes as there are operations then
-pub next_fits : (l st : List ℕ) (at : ℕ) (p : Part) {r : Cut} (m : Piece) → PartFits p → p.transfer.end < 2 ^ 32
-    → r ≡ next_wrapped (next_in (head_of l).terms (side_of st at p)) → r ≡ CutPiece m → (p.transfer.at + m.len < 2 ^ 32) × (p.transfer.number + 1 ≤ p.transfer.at + m.len)
+pub next_fits : (l st : List ℕ) (at : ℕ) (p : Part) {r : Answered Piece} (m : Piece) → PartFits p → p.transfer.end < 2 ^ 32
+    → r ≡ next_wrapped (next_in (head_of l).terms (side_of st at p)) → r ≡ Some m → (p.transfer.at + m.len < 2 ^ 32) × (p.transfer.number + 1 ≤ p.transfer.at + m.len)
 next_fits l st at p m fits small is f =
     let T : Terms = (head_of l).terms in
     let o = a_piece (next_in T (side_of st at p)) is f in

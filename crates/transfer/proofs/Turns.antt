@@ -8,7 +8,7 @@ use Prim.Native.Nat.{ℕ, ◌≤◌}
 use native.Mathlib.Omega.{arith}
 use lib.ListN.{length, get_or, take, drop}
 use lib.Seq.{drop-cons, get_or-take}
-use Rattle.std.specs.Prelude.{Result, Ok, Err}
+use Rattle.std.specs.Prelude.{Result, Ok, Err, None}
 use Rattle.srp.specs.Credit.{Open, Port}
 use Rattle.srp.specs.Line.{put_back}
 use Rattle.srp.specs.Take.{silent}
@@ -27,7 +27,6 @@ use Rattle.words.proofs.Ports.{view_live}
 use Rattle.line.specs.Changes.{no_place, LineChanged}
 use Rattle.line.proofs.Ring.{line_long}
 use Rattle.state.specs.Changes.{FoundAt, FoundIs}
-use Rattle.state.specs.declared.Found.TheVariants.{Nothing}
 use Rattle.state.proofs.Promises.{refused, replies_by, performed, found_none}
 use Rattle.transfer.specs.Stepping.{command_at, side_at, HandsNone, HandsOne}
 use Rattle.transfer.specs.Turning.{Turns, FirstIs, Serves}
@@ -72,7 +71,7 @@ module _ (l st : List ℕ) where
         record { replies = replies_by (by_line (ap (λ (k : ℕ). take k (ring l)) (sym c ∙ e))) (performed refl refl refl refl); idle = λ q. refl }
 
     -- a place whose command is not open
-    pub turns_unknown : {x : Place} → FirstIs l x → FoundIs l x.tag Nothing → Turns l l st (Ok Idle)
+    pub turns_unknown : {x : Place} → FirstIs l x → FoundIs l x.tag None → Turns l l st (Ok Idle)
     turns_unknown {x} I F =
         record {
           replies =

@@ -14,8 +14,8 @@ ghost use Rattle.state.specs.Changes.{FoundAt};
 ghost use Rattle.transfer.specs.Stepping.{Plans, Names, HandsOut, Steps, StepsPlanned};
 ghost use Rattle.transfer.specs.Turning.{FirstIs, Serves, Turns};
 
-use srp::{Cut, Direction, Kind, Piece, Place, Refusal, Reply};
-use state::{Found, Leaving, moves};
+use srp::{Direction, Kind, Piece, Place, Refusal, Reply};
+use state::{Leaving, moves, opening};
 use wire::layout::SEGMENT;
 use words::{LIST, PLACE, PORT, Part, STORE, commands, waiting};
 
@@ -31,17 +31,8 @@ pub enum Handed {
 pub fn plan(s: &mut [u64; PORT], tag: u64, out: u32, inn: u32) -> Result<Reply, Refusal>
     ensures { Plans s.old s.new tag out inn result }
 {
-    let h = words::get_head(s);
-    let live = h.live;
-    if !live {
-        return Err(Refusal::Closed);
-    }
-    let Found::At(i) = state::find(s, tag) else {
-        return Err(Refusal::TagNotOpen);
-    };
-    if waiting::load_waiting(s, i) {
-        return Err(Refusal::Waiting);
-    }
+    opening::open_head(s)?;
+    let i = opening::find_ready(s, tag)?;
     if commands::load_planned(s, i) {
         return Err(Refusal::Planned);
     }
@@ -51,14 +42,13 @@ pub fn plan(s: &mut [u64; PORT], tag: u64, out: u32, inn: u32) -> Result<Reply, 
 
 // The move of a planned command that does not wait, in slot i; one with pieces joins the line. Refused 31, 32.
 fn begin(
-    s: &mut [u64],
+    s: &mut [u64; PORT],
     tag: u64,
     i: usize,
     d: Direction,
     offset: u32,
     count: u32,
 ) -> Result<Reply, Refusal>
-    requires s_len { length s.old ≡ port_words }
     requires s_value { (head_of s.old).live ≡ true }
     requires found_at { FoundAt s.old tag i }
     requires no_slot_value { (get_or (slots s.old) i no_slot).awaits.waiting ≡ false }
@@ -67,23 +57,19 @@ fn begin(
 {
     let p = commands::load_part(s, i, d);
     let t = p.transfer;
-    let movable = wire::least(t.required as u64, p.total as u64);
+    let movable = (t.required as u64).min(p.total as u64);
     if movable < offset as u64 {
         return Err(Refusal::Offset);
     }
     if t.at < t.end {
         return Err(Refusal::Unfinished);
     }
-    let end = wire::least((offset as u64) + (count as u64), movable) as u32;
+    let end = ((offset as u64) + (count as u64)).min(movable) as u32;
     commands::set_move(s, i, d, t.highest, offset, end, 0);
     if end <= offset {
         return Ok(Reply::Performed);
     }
-    let x = Place {
-        tag: tag,
-        direction: d,
-    };
-    line::join(s, x);
+    line::join(s, Place { tag, direction: d });
     Ok(Reply::Performed)
 }
 
@@ -97,17 +83,8 @@ pub fn name_move(
 ) -> Result<Reply, Refusal>
     ensures { Names s.old s.new tag d offset count result }
 {
-    let h = words::get_head(s);
-    let live = h.live;
-    if !live {
-        return Err(Refusal::Closed);
-    }
-    let Found::At(i) = state::find(s, tag) else {
-        return Err(Refusal::TagNotOpen);
-    };
-    if waiting::load_waiting(s, i) {
-        return Err(Refusal::Waiting);
-    }
+    opening::open_head(s)?;
+    let i = opening::find_ready(s, tag)?;
     if !commands::load_planned(s, i) {
         return Err(Refusal::Unplanned);
     }
@@ -126,25 +103,15 @@ fn place_for(place: u8, d: Direction) -> usize
     }
 }
 
-fn kind_for(d: Direction) -> Kind
-    ensures { result ≡ kind_of d }
-{
-    match d {
-        Direction::Out => Kind::Read,
-        Direction::In => Kind::Write,
-    }
-}
-
-fn larger(a: u32, b: u32) -> u32
-    ensures { result ≡ max a b }
-{
-    if a < b { b } else { a }
-}
-
 // The next piece of a direction's current move, or done.
-fn next_for(s: &[u64], store: &[u8], place: u8, p: Part, d: Direction, maximum: u32) -> Cut
-    requires s_len { length s.now ≡ port_words }
-    requires store_len { length store.now ≡ store_size }
+fn next_for(
+    s: &[u64; PORT],
+    store: &[u8; STORE],
+    place: u8,
+    p: Part,
+    d: Direction,
+    maximum: u32,
+) -> Option<Piece>
     requires place_lt_most_slots { place < most_slots }
     requires segments_le_most_copies { p.segments ≤ most_copies }
     requires maximum_value { maximum ≡ (head_of s.now).terms.maximum }
@@ -157,40 +124,38 @@ fn next_for(s: &[u64], store: &[u8], place: u8, p: Part, d: Direction, maximum: 
 }
 
 // The next piece of a direction's current move, of the command in slot i, is handed out.
-fn hand_out(s: &mut [u64], store: &[u8], i: usize, d: Direction, maximum: u32) -> Handed
-    requires s_len { length s.old ≡ port_words }
-    requires store_len { length store.now ≡ store_size }
+fn hand_out(
+    s: &mut [u64; PORT],
+    store: &[u8; STORE],
+    i: usize,
+    d: Direction,
+    maximum: u32,
+) -> Handed
     requires i_lt_most_slots { i < most_slots }
     requires maximum_value { maximum ≡ (head_of s.old).terms.maximum }
     ensures { HandsOut s.old s.new store.now i d result }
 {
     let p = commands::load_part(s, i, d);
     let place = commands::load_place(s, i);
-    match next_for(s, store, place, p, d, maximum) {
-        // next_piece refuses nothing: this arm is shown not to be reached
-        Cut::CutRefused(_) => Handed::Nothing(p.transfer.number),
-        Cut::CutDone => Handed::Nothing(p.transfer.number),
-        Cut::CutPiece(piece) => {
-            let next = p.transfer.at + piece.len;
-            let highest = larger(p.transfer.highest, next);
-            let number = p.transfer.number + 1;
-            commands::set_move(s, i, d, highest, next, p.transfer.end, number);
-            Handed::One(piece, number, next < p.transfer.end)
-        }
-    }
+    let Some(piece) = next_for(s, store, place, p, d, maximum) else {
+        return Handed::Nothing(p.transfer.number);
+    };
+    let next = p.transfer.at + piece.len;
+    let highest = p.transfer.highest.max(next);
+    let number = p.transfer.number + 1;
+    commands::set_move(s, i, d, highest, next, p.transfer.end, number);
+    Handed::One(piece, number, next < p.transfer.end)
 }
 
 // The next piece of the planned command in slot i, or done; the last piece takes the move out of the line.
 fn step_planned(
-    s: &mut [u64],
-    store: &[u8],
+    s: &mut [u64; PORT],
+    store: &[u8; STORE],
     tag: u64,
     i: usize,
     d: Direction,
     maximum: u32,
 ) -> Result<Reply, Refusal>
-    requires s_len { length s.old ≡ port_words }
-    requires store_len { length store.now ≡ store_size }
     requires s_value { (head_of s.old).live ≡ true }
     requires found_at { FoundAt s.old tag i }
     requires maximum_value { maximum ≡ (head_of s.old).terms.maximum }
@@ -199,15 +164,12 @@ fn step_planned(
     match hand_out(s, store, i, d, maximum) {
         Handed::Nothing(n) => Ok(Reply::Done(n)),
         Handed::One(piece, n, more) => {
+            let operation = Reply::Operation(Kind::from(d), piece, n);
             if more {
-                return Ok(Reply::Operation(kind_for(d), piece, n));
+                return Ok(operation);
             }
-            let x = Place {
-                tag: tag,
-                direction: d,
-            };
-            moves::leave(s, Leaving::Handed(x));
-            Ok(Reply::Operation(kind_for(d), piece, n))
+            moves::leave(s, Leaving::Handed(Place { tag, direction: d }));
+            Ok(operation)
         }
     }
 }
@@ -221,17 +183,8 @@ pub fn step(
 ) -> Result<Reply, Refusal>
     ensures { Steps s.old s.new store.now tag d result }
 {
-    let h = words::get_head(s);
-    let live = h.live;
-    if !live {
-        return Err(Refusal::Closed);
-    }
-    let Found::At(i) = state::find(s, tag) else {
-        return Err(Refusal::TagNotOpen);
-    };
-    if waiting::load_waiting(s, i) {
-        return Err(Refusal::Waiting);
-    }
+    let h = opening::open_head(s)?;
+    let i = opening::find_ready(s, tag)?;
     if !commands::load_planned(s, i) {
         return Err(Refusal::Unplanned);
     }
@@ -239,9 +192,13 @@ pub fn step(
 }
 
 // Serves the move x, the first of the line, whose command is in slot i.
-fn serve(s: &mut [u64], store: &[u8], x: Place, i: usize, maximum: u32) -> Result<Reply, Refusal>
-    requires s_len { length s.old ≡ port_words }
-    requires store_len { length store.now ≡ store_size }
+fn serve(
+    s: &mut [u64; PORT],
+    store: &[u8; STORE],
+    x: Place,
+    i: usize,
+    maximum: u32,
+) -> Result<Reply, Refusal>
     requires s_value { (head_of s.old).live ≡ true }
     requires first_is { FirstIs s.old x }
     requires found_at { FoundAt s.old x.tag i }
@@ -262,16 +219,12 @@ fn serve(s: &mut [u64], store: &[u8], x: Place, i: usize, maximum: u32) -> Resul
 pub fn turn(s: &mut [u64; PORT], store: &[u8; STORE]) -> Result<Reply, Refusal>
     ensures { Turns s.old s.new store.now result }
 {
-    let h = words::get_head(s);
-    let live = h.live;
-    if !live {
-        return Err(Refusal::Closed);
-    }
+    let h = opening::open_head(s)?;
     if line::len(s) == 0 {
         return Ok(Reply::Idle);
     }
     let x = line::at(s, 0);
-    let Found::At(i) = state::find(s, x.tag) else {
+    let Some(i) = state::find(s, x.tag) else {
         return Ok(Reply::Idle);
     };
     serve(s, store, x, i, h.terms.maximum)

@@ -1,78 +1,17 @@
 -- `transfer::plan` meets its contract.
-use mathlib.Core.Path.{◌≡◌, refl, sym, ◌∙◌}
-use mathlib.Core.Bool.{true}
-use lib.ListN.{get_or}
-use Rattle.words.specs.Slots.{slots, no_slot}
-use Rattle.words.specs.Head.{head_of}
-use Rattle.words.specs.View.{open_of, view}
-use Rattle.words.proofs.Ports.{view_live}
-use Rattle.state.specs.Changes.{FoundAt}
-use Rattle.srp.specs.Calls.{planned}
-use Rattle.srp.specs.declared.Refusal.TheVariants.{Closed, TagNotOpen, Planned, Waiting}
-use Rattle.state.proofs.Promises.{refused, replies_by, performed, changed_view, found_none, found_first}
-use Rattle.state.proofs.Opened.{head_open, port_closed}
-use Rattle.state.proofs.Waiting.{waits_as}
-use Rattle.transfer.proofs.Checks.{plan_closed, plan_unknown, plan_waiting, plan_again, plan_passed}
-use borrow.Author.Rules.{rules}
-use mathlib.Core.Path.{ap}
-use mathlib.Core.Bool.{not}
+use Rattle.srp.specs.Calls.{plan_checks, plan_outcome}
+use Rattle.words.specs.View.{view}
+use Rattle.state.proofs.Drawn.{refuses_closed, refuses_unready}
 use Rattle.transfer.proofs.plan.Goals as goal
 
-pub returns-then-not-live : goal.returns-then-not-live
-returns-then-not-live c =
+pub returns-in_err-open_head : goal.returns-in_err-open_head
+returns-in_err-open_head c =
     let a = c.args in
-    let l = a.s.now in
-    λ st. replies_by (plan_closed (view l st) a.tag a.out a.inn (port_closed c.get_head-h.ensures st (ap not c.if-not-live.true))) (refused l st Closed)
+    λ st. let p = view a.s.now st in
+      refuses_closed a.s.now st (plan_outcome p a.tag a.out a.inn) (plan_checks p a.tag) c.from_residual.result c.from_residual.ensures.1 c.in_err-open_head.ensures
 
-pub returns-in_default : goal.returns-in_default
-returns-in_default c =
+pub returns-in_err-i : goal.returns-in_err-i
+returns-in_err-i c =
     let a = c.args in
-    let l = a.s.now in
-    let live : (head_of l).live ≡ true = head_open c.get_head-h.ensures (ap not c.if-not-live.false) in
-    λ st. replies_by (plan_unknown (view l st) a.tag a.out a.inn (view_live l st ∙ live) (found_none l a.tag (rw c.in_default.is at c.find.ensures) live st)) (refused l st TagNotOpen)
-
-pub load_waiting-requires : goal.load_waiting-requires
-load_waiting-requires c =
-    let a = c.args in
-    let F : FoundAt a.s.now a.tag c.in-At.i = rw c.in-At.is at c.find.ensures in
-    record { s_len = search rules; i_lt_most_slots = F.small }
-
-pub returns-then-load_waiting : goal.returns-then-load_waiting
-returns-then-load_waiting c =
-    let a = c.args in
-    let l = a.s.now in
-    let live : (head_of l).live ≡ true = head_open c.get_head-h.ensures (ap not c.if-not-live.false) in
-    let F : FoundAt l a.tag c.in-At.i = rw c.in-At.is at c.find.ensures in
-    let x = get_or (slots l) c.in-At.i no_slot in
-    λ st. replies_by (plan_waiting (view l st) a.tag a.out a.inn (view_live l st ∙ live) (open_of st x) (found_first F live st) (waits_as st x ∙ sym c.load_waiting.ensures ∙ c.if-load_waiting.true)) (refused l st Waiting)
-
-pub load_planned-requires : goal.load_planned-requires
-load_planned-requires c =
-    let a = c.args in
-    let F : FoundAt a.s.now a.tag c.in-At.i = rw c.in-At.is at c.find.ensures in
-    record { s_len = search rules; i_lt_most_slots = F.small }
-
-pub returns-then-load_planned : goal.returns-then-load_planned
-returns-then-load_planned c =
-    let a = c.args in
-    let l = a.s.now in
-    let live : (head_of l).live ≡ true = head_open c.get_head-h.ensures (ap not c.if-not-live.false) in
-    let F : FoundAt l a.tag c.in-At.i = rw c.in-At.is at c.find.ensures in
-    let x = get_or (slots l) c.in-At.i no_slot in
-    λ st. replies_by (plan_again (view l st) a.tag a.out a.inn (view_live l st ∙ live) (open_of st x) (found_first F live st) (waits_as st x ∙ sym c.load_waiting.ensures ∙ c.if-load_waiting.false) (sym c.load_planned.ensures ∙ c.if-load_planned.true)) (refused l st Planned)
-
-pub set_plan-requires : goal.set_plan-requires
-set_plan-requires c =
-    let a = c.args in
-    let F : FoundAt a.s.now a.tag c.in-At.i = rw c.in-At.is at c.find.ensures in
-    record { s_len = search rules; i_lt_most_slots = F.small }
-
-pub returns : goal.returns
-returns c =
-    let a = c.args in
-    let l = a.s.now in
-    let live : (head_of l).live ≡ true = head_open c.get_head-h.ensures (ap not c.if-not-live.false) in
-    let F : FoundAt l a.tag c.in-At.i = rw c.in-At.is at c.find.ensures in
-    let x = get_or (slots l) c.in-At.i no_slot in
-    λ st. replies_by (plan_passed (view l st) a.tag a.out a.inn (view_live l st ∙ live) (open_of st x) (found_first F live st) (waits_as st x ∙ sym c.load_waiting.ensures ∙ c.if-load_waiting.false) (sym c.load_planned.ensures ∙ c.if-load_planned.false))
-    (performed refl (changed_view l c.set_plan.new.s st live F c.set_plan.ensures (planned a.out a.inn) refl) refl refl)
+    λ st. let p = view a.s.now st in
+      refuses_unready a.s.now st (plan_outcome p a.tag a.out a.inn) (plan_checks p a.tag) c.from_residual-in_err-i.result c.from_residual-in_err-i.ensures.1 c.in_ok-open_head.ensures.live a.tag c.in_err-i.ensures
