@@ -10,25 +10,25 @@ use Rattle.transfer.proofs.begin.Goals as goal
 pub returns-then-movable-offset : goal.returns-then-movable-offset
 returns-then-movable-offset c =
     let a = c.args in
-    too_far c.requires.found_at c.requires.s_value a.d a.offset a.count c.load_part-p.ensures c.requires.no_slot_value c.requires.no_slot_value_2 (rw c.least-movable.ensures at c.if-movable-offset.true)
+    too_far c.requires.found_at c.requires.s_value a.d a.offset a.count c.load_part-p.ensures c.requires.no_slot_value c.requires.no_slot_value_2 (rw c.min-movable.ensures at c.if-movable-offset.true)
 
 pub returns-then-t : goal.returns-then-t
 returns-then-t c =
     let a = c.args in
-    under_way c.requires.found_at c.requires.s_value a.d a.offset a.count c.load_part-p.ensures c.requires.no_slot_value c.requires.no_slot_value_2 (rw c.least-movable.ensures at c.if-movable-offset.false) c.if-t.true
+    under_way c.requires.found_at c.requires.s_value a.d a.offset a.count c.load_part-p.ensures c.requires.no_slot_value c.requires.no_slot_value_2 (rw c.min-movable.ensures at c.if-movable-offset.false) c.if-t.true
 
 pub returns-then-end-offset : goal.returns-then-end-offset
 returns-then-end-offset c =
     let a = c.args in
     let P = c.load_part-p.ensures in
-    let to = c.least-end.result in
-    begun_empty c.requires.found_at c.requires.s_value a.d a.offset a.count P c.requires.no_slot_value c.requires.no_slot_value_2 (rw c.least-movable.ensures at c.if-movable-offset.false) to c.if-t.false c.set_move.ensures
-    (λ st. named_open st (get_or (slots a.s.now) a.i no_slot) a.d P.whole a.offset a.count (c.least-end.ensures ∙ ap (λ (k : ℕ). min (a.offset + a.count) k) c.least-movable.ensures)) c.if-end-offset.true
+    let to = c.min-end.result in
+    begun_empty c.requires.found_at c.requires.s_value a.d a.offset a.count P c.requires.no_slot_value c.requires.no_slot_value_2 (rw c.min-movable.ensures at c.if-movable-offset.false) to c.if-t.false c.set_move.ensures
+    (λ st. named_open st (get_or (slots a.s.now) a.i no_slot) a.d P.whole a.offset a.count (c.min-end.ensures ∙ ap (λ (k : ℕ). min (a.offset + a.count) k) c.min-movable.ensures)) c.if-end-offset.true
 
 pub returns : goal.returns
 returns c =
     let a = c.args in
     let P = c.load_part-p.ensures in
-    let to = c.least-end.result in
-    begun c.requires.found_at c.requires.s_value a.d a.offset a.count P c.requires.no_slot_value c.requires.no_slot_value_2 (rw c.least-movable.ensures at c.if-movable-offset.false) to c.if-t.false c.set_move.ensures
-    (λ st. named_open st (get_or (slots a.s.now) a.i no_slot) a.d P.whole a.offset a.count (c.least-end.ensures ∙ ap (λ (k : ℕ). min (a.offset + a.count) k) c.least-movable.ensures)) c.if-end-offset.false c.join.ensures
+    let to = c.min-end.result in
+    begun c.requires.found_at c.requires.s_value a.d a.offset a.count P c.requires.no_slot_value c.requires.no_slot_value_2 (rw c.min-movable.ensures at c.if-movable-offset.false) to c.if-t.false c.set_move.ensures
+    (λ st. named_open st (get_or (slots a.s.now) a.i no_slot) a.d P.whole a.offset a.count (c.min-end.ensures ∙ ap (λ (k : ℕ). min (a.offset + a.count) k) c.min-movable.ensures)) c.if-end-offset.false c.join.ensures
