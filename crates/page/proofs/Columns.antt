@@ -5,11 +5,10 @@ use mathlib.Core.List.{List, [], ◌∷◌, ◌++◌, append_assoc}
 use Prim.Native.Nat.{ℕ, ◌+◌}
 use lib.ListN.{length, take, drop, length-replicate, replicate-append-replicate}
 use lib.Seq.{take_at, drop_at}
+use Rattle.std.specs.Prelude.{Option, Some, None}
 use Rattle.srp.specs.Outside.{hex}
 use Rattle.text.proofs.Digits.{length_hex}
 use Rattle.page.specs.Page.{sign, letters, spaces, padded, count_text_lem, hex_text, number_text, over, hex_columns, number_columns, InColumns}
-use Rattle.page.specs.declared.Entry.{Entry}
-use Rattle.page.specs.declared.Entry.TheVariants.{Blank, Number}
 use Rattle.page.proofs.Lines.{over_nothing, letters_long, count_long}
 
 -- ── a text, or nothing, over spaces
@@ -28,13 +27,13 @@ module _ (at k : ℕ) (m : List ℕ) where
       ∙ ap (λ (x : List ℕ). x ++ m) (sym (replicate-append-replicate at k 0x20))
       ∙ append_assoc (spaces at) (spaces k) m
 
-  hex_laid : (e : Entry) → over at (hex_text k e) (spaces (at + k) ++ m) ≡ spaces at ++ (hex_columns k e ++ m)
-  hex_laid Blank = left
-  hex_laid (Number n) = laid (hex k n) (length_hex k n)
+  hex_laid : (e : Option ℕ) → over at (hex_text k e) (spaces (at + k) ++ m) ≡ spaces at ++ (hex_columns k e ++ m)
+  hex_laid None = left
+  hex_laid (Some n) = laid (hex k n) (length_hex k n)
 
-number_laid : (at : ℕ) (m : List ℕ) (e : Entry) → over at (number_text e) (spaces (at + 5) ++ m) ≡ spaces at ++ (number_columns e ++ m)
-number_laid at m Blank = left at 5 m
-number_laid at m (Number n) = laid at 5 m (count_text_lem n) (count_long n)
+number_laid : (at : ℕ) (m : List ℕ) (e : Option ℕ) → over at (number_text e) (spaces (at + 5) ++ m) ≡ spaces at ++ (number_columns e ++ m)
+number_laid at m None = left at 5 m
+number_laid at m (Some n) = laid at 5 m (count_text_lem n) (count_long n)
 
 -- ── the line
 

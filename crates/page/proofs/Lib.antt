@@ -1,4 +1,3 @@
-pub mod Types
 pub mod Counts
 pub mod Lines
 pub mod Columns

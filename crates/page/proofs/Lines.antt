@@ -3,32 +3,26 @@
 use mathlib.Core.Path.{◌≡◌, refl, sym, ap, subst, ◌∙◌}
 use mathlib.Core.Bool.{Bool, true, false, cond, ◌&&◌}
 use mathlib.Core.List.{List, [], ◌∷◌, ◌++◌, append_assoc}
-use mathlib.Core.Option.{none, some}
 use Prim.Native.Nat.{ℕ, zero, suc, ◌+◌, ◌/◌, ◌%◌, ◌^◌, ◌≤◌, ◌<◌}
 use native.Mathlib.Nat.{mod-lt}
 use native.Mathlib.Omega.{arith}
-use borrow.Author.Tests.{ltb-true, ltb-false, leb-true, lt-ltb, le-ltb}
+use borrow.Author.Tests.{ltb-true, ltb-false, leb-true}
 use lib.Dec.{ltb, leb, eqb}
 use lib.ListN.{length, take, drop, get_or, set, replicate, length-append, length-drop, take-append-drop}
 use lib.Seq.{length-take-le, take-append-le, drop-append-le, take_at, drop_at, drop-cons, set_at}
-use Rattle.std.specs.Prelude.{Result, Ok, Err}
+use Rattle.std.specs.Prelude.{Option, Some, None}
 use Rattle.srp.specs.Lists.{All}
 use Rattle.srp.specs.Writing.{placed}
 use Rattle.srp.specs.Outside.{hex_digit_lem, hex}
-use Rattle.srp.specs.declared.Refusal.TheVariants.{ShortBuffer}
-use Rattle.srp.specs.declared.Reply.{Reply}
-use Rattle.srp.specs.declared.Reply.TheVariants.{Performed}
 use Rattle.srp.proofs.ListLaws.{all_take, all_drop, all_append}
 use Rattle.srp.proofs.FieldLaws.{both}
 use Rattle.text.proofs.Digits.{length_hex}
 use Rattle.page.specs.Types.{name_of}
-use Rattle.page.specs.Page.{line_of, sign, letters, padded, count_text_lem, hex_text, number_text, over, blank, columns, line_text, line_from, trace_line, line_length, Traced, Printable, OneLine, EveryLine, lead}
+use Rattle.page.specs.Page.{line_of, sign, letters, padded, count_text_lem, hex_text, number_text, over, blank, columns, line_text, line_from, line_length, Printable, OneLine, EveryLine, lead}
 use Rattle.page.specs.declared.Way.{Way}
 use Rattle.page.specs.declared.Way.TheVariants.{Towards, From}
 use Rattle.page.specs.declared.Name.{Name}
 use Rattle.page.specs.declared.Name.TheVariants.{LoginReq, TskMgmt, Cmd, ILogout, CredRsp, LoginRsp, LoginRej, Rsp, CredReq, TLogout, Unknown}
-use Rattle.page.specs.declared.Entry.{Entry}
-use Rattle.page.specs.declared.Entry.TheVariants.{Blank, Number}
 use Rattle.page.specs.declared.Line.{Line}
 use Rattle.page.proofs.Counts.{five}
 use Rattle.srp.specs.declared.Refusal.{Refusal}
@@ -130,21 +124,21 @@ count_long n = (count_good n).0
 
 -- ── an entry: no wider than its columns
 
-pub hex_fits : (k : ℕ) (e : Entry) → length (hex_text k e) ≤ k
-hex_fits k Blank = omega arith
-hex_fits k (Number n) = omega (arith, length_hex k n)
+pub hex_fits : (k : ℕ) (e : Option ℕ) → length (hex_text k e) ≤ k
+hex_fits k None = omega arith
+hex_fits k (Some n) = omega (arith, length_hex k n)
 
-pub number_fits : (e : Entry) → length (number_text e) ≤ 5
-number_fits Blank = omega arith
-number_fits (Number n) = omega (arith, (count_good n).0)
+pub number_fits : (e : Option ℕ) → length (number_text e) ≤ 5
+number_fits None = omega arith
+number_fits (Some n) = omega (arith, (count_good n).0)
 
-hex_entry_printable : (k : ℕ) (e : Entry) → All Printable (hex_text k e)
-hex_entry_printable k Blank = tt
-hex_entry_printable k (Number n) = hex_printable k n
+hex_entry_printable : (k : ℕ) (e : Option ℕ) → All Printable (hex_text k e)
+hex_entry_printable k None = tt
+hex_entry_printable k (Some n) = hex_printable k n
 
-number_printable : (e : Entry) → All Printable (number_text e)
-number_printable Blank = tt
-number_printable (Number n) = (count_good n).1
+number_printable : (e : Option ℕ) → All Printable (number_text e)
+number_printable None = tt
+number_printable (Some n) = (count_good n).1
 
 -- ── the line
 
@@ -255,17 +249,3 @@ module _ (w : Way) (n : ℕ) (s before : List ℕ) where
   pub named : {m : Name} → m ≡ name_of n s → {l : Line} → l ≡ line_of w m n s → {after : List ℕ} → after ≡ placed (line_text l ∷ []) before
       → after ≡ placed (line_from w n s ∷ []) before
   named {m} em {l} el e = e ∙ ap (λ (k : Line). placed (line_text k ∷ []) before) (el ∙ ap (λ (x : Name). line_of w x n s) em)
-
--- a buffer that is too short, and one that has room
-module _ (w : Way) (s before : List ℕ) where
-  abbrev reply : Bool → Result Reply Refusal
-  reply b = elim (cond b (some ShortBuffer) none) as (λ _. Result Reply Refusal) [ none ↦ Ok Performed | some f ↦ Err f ]
-
-  abbrev wrote : Bool → List ℕ
-  wrote b = placed (elim (cond b (some ShortBuffer) none) as (λ _. List (List ℕ)) [ none ↦ trace_line w s ∷ [] | some f ↦ [] ]) before
-
-  pub short : length before < line_length → Traced w s before before (Err ShortBuffer)
-  short h = let e = lt-ltb (length before) line_length h in record { reply = ap reply (sym e); buffer = ap wrote (sym e) }
-
-  pub written : line_length ≤ length before → {after : List ℕ} → after ≡ placed (trace_line w s ∷ []) before → Traced w s before after (Ok Performed)
-  written h q = let e = le-ltb (length before) line_length h in record { reply = ap reply (sym e); buffer = q ∙ ap wrote (sym e) }

@@ -8,6 +8,7 @@ use native.Mathlib.Omega.{arith}
 use borrow.Author.Tests.{eq-eqb, le-ltb}
 use lib.ListN.{length, drop, length-append}
 use lib.Seq.{drop_at}
+use Rattle.std.specs.Prelude.{Option, Some, None}
 use Rattle.srp.specs.Bytes.{bytes, get, gets, type_of, write}
 use Rattle.srp.specs.Messages.{tag, lun, delta, reason, out_format, in_format, rspvalid, snsvalid, sense_length, login_req, tsk_mgmt, i_logout, cred_rsp, login_rsp, login_rej, rsp, cred_req, t_logout}
 use Rattle.srp.specs.ReadBack.{Written}
@@ -21,8 +22,6 @@ use Rattle.page.specs.Written.{Shows, Follow, PrintsWritten}
 use Rattle.page.specs.declared.Way.{Way}
 use Rattle.page.specs.declared.Name.{Name}
 use Rattle.page.specs.declared.Name.TheVariants.{LoginReq, TskMgmt, Cmd, ILogout, CredRsp, LoginRsp, LoginRej, Rsp, CredReq, TLogout, Unknown}
-use Rattle.page.specs.declared.Entry.{Entry}
-use Rattle.page.specs.declared.Entry.TheVariants.{Blank, Number}
 
 -- ── its type
 
@@ -54,79 +53,79 @@ module _ (w : Way) (s : List ℕ) where
   -- ── its fields
 
   -- with the tag t
-  tag_is : (m : Name) (t : ℕ) → get tag s ≡ t → (l d c : Entry) → line_text (tagged w m s l d c) ≡ line_text (record { way = w; name = m; tag = Number t; lun = l; number = d; code = c })
-  tag_is m t e l d c = ap (λ (x : ℕ). line_text (record { way = w; name = m; tag = Number x; lun = l; number = d; code = c })) e
+  tag_is : (m : Name) (t : ℕ) → get tag s ≡ t → (l d c : Option ℕ) → line_text (tagged w m s l d c) ≡ line_text (record { way = w; name = m; tag = Some t; lun = l; number = d; code = c })
+  tag_is m t e l d c = ap (λ (x : ℕ). line_text (record { way = w; name = m; tag = Some x; lun = l; number = d; code = c })) e
 
   -- ── each type
 
   login_request : (t n f c l a i g : ℕ) → Written login_req (t ∷ n ∷ f ∷ c ∷ l ∷ a ∷ i ∷ g ∷ []) → s ≡ write login_req (t ∷ n ∷ f ∷ c ∷ l ∷ a ∷ i ∷ g ∷ [])
-      → Shows w s LoginReq t Blank Blank Blank
+      → Shows w s LoginReq t None None None
   login_request t n f c l a i g W e =
       let v : gets login_req.fields s ≡ t ∷ n ∷ f ∷ c ∷ l ∷ a ∷ i ∷ g ∷ [] = ap (gets login_req.fields) e ∙ W.values in
       let at : get tag s ≡ t = cc v in
-      shown LoginReq (ap type_of e ∙ W.code) code_names.0 (eq-eqb (length s) 64 (ap (length {A = ℕ}) e ∙ W.long)) ∙ tag_is LoginReq t at Blank Blank Blank
+      shown LoginReq (ap type_of e ∙ W.code) code_names.0 (eq-eqb (length s) 64 (ap (length {A = ℕ}) e ∙ W.long)) ∙ tag_is LoginReq t at None None None
 
-  task : (u c t l f k : ℕ) → Written tsk_mgmt (u ∷ c ∷ t ∷ l ∷ f ∷ k ∷ []) → s ≡ write tsk_mgmt (u ∷ c ∷ t ∷ l ∷ f ∷ k ∷ []) → Shows w s TskMgmt t (Number l) Blank Blank
+  task : (u c t l f k : ℕ) → Written tsk_mgmt (u ∷ c ∷ t ∷ l ∷ f ∷ k ∷ []) → s ≡ write tsk_mgmt (u ∷ c ∷ t ∷ l ∷ f ∷ k ∷ []) → Shows w s TskMgmt t (Some l) None None
   task u c t l f k W e =
       let v : gets tsk_mgmt.fields s ≡ u ∷ c ∷ t ∷ l ∷ f ∷ k ∷ [] = ap (gets tsk_mgmt.fields) e ∙ W.values in
       let at : get tag s ≡ t = cc v in
       let of : get lun s ≡ l = cc v in
       shown TskMgmt (ap type_of e ∙ W.code) code_names.1 (eq-eqb (length s) 48 (ap (length {A = ℕ}) e ∙ W.long))
-      ∙ tag_is TskMgmt t at (Number (get lun s)) Blank Blank
-      ∙ ap (λ (x : ℕ). line_text (record { way = w; name = TskMgmt; tag = Number t; lun = Number x; number = Blank; code = Blank })) of
+      ∙ tag_is TskMgmt t at (Some (get lun s)) None None
+      ∙ ap (λ (x : ℕ). line_text (record { way = w; name = TskMgmt; tag = Some t; lun = Some x; number = None; code = None })) of
 
   -- SRP_I_LOGOUT and SRP_CRED_RSP: a tag
-  initiator_logout : (t : ℕ) → Written i_logout (t ∷ []) → s ≡ write i_logout (t ∷ []) → Shows w s ILogout t Blank Blank Blank
+  initiator_logout : (t : ℕ) → Written i_logout (t ∷ []) → s ≡ write i_logout (t ∷ []) → Shows w s ILogout t None None None
   initiator_logout t W e =
       let at : get tag s ≡ t = cc (ap (gets i_logout.fields) e ∙ W.values) in
-      shown ILogout (ap type_of e ∙ W.code) code_names.3 (eq-eqb (length s) 16 (ap (length {A = ℕ}) e ∙ W.long)) ∙ tag_is ILogout t at Blank Blank Blank
+      shown ILogout (ap type_of e ∙ W.code) code_names.3 (eq-eqb (length s) 16 (ap (length {A = ℕ}) e ∙ W.long)) ∙ tag_is ILogout t at None None None
 
-  credit_response : (t : ℕ) → Written cred_rsp (t ∷ []) → s ≡ write cred_rsp (t ∷ []) → Shows w s CredRsp t Blank Blank Blank
+  credit_response : (t : ℕ) → Written cred_rsp (t ∷ []) → s ≡ write cred_rsp (t ∷ []) → Shows w s CredRsp t None None None
   credit_response t W e =
       let at : get tag s ≡ t = cc (ap (gets cred_rsp.fields) e ∙ W.values) in
-      shown CredRsp (ap type_of e ∙ W.code) code_names.4 (eq-eqb (length s) 16 (ap (length {A = ℕ}) e ∙ W.long)) ∙ tag_is CredRsp t at Blank Blank Blank
+      shown CredRsp (ap type_of e ∙ W.code) code_names.4 (eq-eqb (length s) 16 (ap (length {A = ℕ}) e ∙ W.long)) ∙ tag_is CredRsp t at None None None
 
   -- a delta, or a reason, at the same place
-  with_delta : (m : Name) (t d : ℕ) → get delta s ≡ d → line_text (record { way = w; name = m; tag = Number t; lun = Blank; number = Number (get delta s); code = Blank }) ≡ line_text (record { way = w; name = m; tag = Number t; lun = Blank; number = Number d; code = Blank })
-  with_delta m t d e = ap (λ (x : ℕ). line_text (record { way = w; name = m; tag = Number t; lun = Blank; number = Number x; code = Blank })) e
+  with_delta : (m : Name) (t d : ℕ) → get delta s ≡ d → line_text (record { way = w; name = m; tag = Some t; lun = None; number = Some (get delta s); code = None }) ≡ line_text (record { way = w; name = m; tag = Some t; lun = None; number = Some d; code = None })
+  with_delta m t d e = ap (λ (x : ℕ). line_text (record { way = w; name = m; tag = Some t; lun = None; number = Some x; code = None })) e
 
-  with_reason : (m : Name) (t r : ℕ) → get reason s ≡ r → line_text (record { way = w; name = m; tag = Number t; lun = Blank; number = Blank; code = Number (get reason s) }) ≡ line_text (record { way = w; name = m; tag = Number t; lun = Blank; number = Blank; code = Number r })
-  with_reason m t r e = ap (λ (x : ℕ). line_text (record { way = w; name = m; tag = Number t; lun = Blank; number = Blank; code = Number x })) e
+  with_reason : (m : Name) (t r : ℕ) → get reason s ≡ r → line_text (record { way = w; name = m; tag = Some t; lun = None; number = None; code = Some (get reason s) }) ≡ line_text (record { way = w; name = m; tag = Some t; lun = None; number = None; code = Some r })
+  with_reason m t r e = ap (λ (x : ℕ). line_text (record { way = w; name = m; tag = Some t; lun = None; number = None; code = Some x })) e
 
-  login_response_lem : (d t a b f k : ℕ) → Written login_rsp (d ∷ t ∷ a ∷ b ∷ f ∷ k ∷ []) → s ≡ write login_rsp (d ∷ t ∷ a ∷ b ∷ f ∷ k ∷ []) → Shows w s LoginRsp t Blank (Number d) Blank
+  login_response_lem : (d t a b f k : ℕ) → Written login_rsp (d ∷ t ∷ a ∷ b ∷ f ∷ k ∷ []) → s ≡ write login_rsp (d ∷ t ∷ a ∷ b ∷ f ∷ k ∷ []) → Shows w s LoginRsp t None (Some d) None
   login_response_lem d t a b f k W e =
       let v : gets login_rsp.fields s ≡ d ∷ t ∷ a ∷ b ∷ f ∷ k ∷ [] = ap (gets login_rsp.fields) e ∙ W.values in
       let at : get tag s ≡ t = cc v in
       let of : get delta s ≡ d = cc v in
       shown LoginRsp (ap type_of e ∙ W.code) code_names.5 (eq-eqb (length s) 52 (ap (length {A = ℕ}) e ∙ W.long))
-      ∙ tag_is LoginRsp t at Blank (Number (get delta s)) Blank
+      ∙ tag_is LoginRsp t at None (Some (get delta s)) None
       ∙ with_delta LoginRsp t d of
 
-  login_rejection : (r t f : ℕ) → Written login_rej (r ∷ t ∷ f ∷ []) → s ≡ write login_rej (r ∷ t ∷ f ∷ []) → Shows w s LoginRej t Blank Blank (Number r)
+  login_rejection : (r t f : ℕ) → Written login_rej (r ∷ t ∷ f ∷ []) → s ≡ write login_rej (r ∷ t ∷ f ∷ []) → Shows w s LoginRej t None None (Some r)
   login_rejection r t f W e =
       let v : gets login_rej.fields s ≡ r ∷ t ∷ f ∷ [] = ap (gets login_rej.fields) e ∙ W.values in
       let at : get tag s ≡ t = cc v in
       let of : get reason s ≡ r = cc v in
       shown LoginRej (ap type_of e ∙ W.code) code_names.6 (eq-eqb (length s) 32 (ap (length {A = ℕ}) e ∙ W.long))
-      ∙ tag_is LoginRej t at Blank Blank (Number (get reason s))
+      ∙ tag_is LoginRej t at None None (Some (get reason s))
       ∙ with_reason LoginRej t r of
 
-  credit_request_lem : (o d t : ℕ) → Written cred_req (o ∷ d ∷ t ∷ []) → s ≡ write cred_req (o ∷ d ∷ t ∷ []) → Shows w s CredReq t Blank (Number d) Blank
+  credit_request_lem : (o d t : ℕ) → Written cred_req (o ∷ d ∷ t ∷ []) → s ≡ write cred_req (o ∷ d ∷ t ∷ []) → Shows w s CredReq t None (Some d) None
   credit_request_lem o d t W e =
       let v : gets cred_req.fields s ≡ o ∷ d ∷ t ∷ [] = ap (gets cred_req.fields) e ∙ W.values in
       let at : get tag s ≡ t = cc v in
       let of : get delta s ≡ d = cc v in
       shown CredReq (ap type_of e ∙ W.code) code_names.8 (eq-eqb (length s) 16 (ap (length {A = ℕ}) e ∙ W.long))
-      ∙ tag_is CredReq t at Blank (Number (get delta s)) Blank
+      ∙ tag_is CredReq t at None (Some (get delta s)) None
       ∙ with_delta CredReq t d of
 
-  target_logout_lem : (o r t : ℕ) → Written t_logout (o ∷ r ∷ t ∷ []) → s ≡ write t_logout (o ∷ r ∷ t ∷ []) → Shows w s TLogout t Blank Blank (Number r)
+  target_logout_lem : (o r t : ℕ) → Written t_logout (o ∷ r ∷ t ∷ []) → s ≡ write t_logout (o ∷ r ∷ t ∷ []) → Shows w s TLogout t None None (Some r)
   target_logout_lem o r t W e =
       let v : gets t_logout.fields s ≡ o ∷ r ∷ t ∷ [] = ap (gets t_logout.fields) e ∙ W.values in
       let at : get tag s ≡ t = cc v in
       let of : get reason s ≡ r = cc v in
       shown TLogout (ap type_of e ∙ W.code) code_names.9 (eq-eqb (length s) 16 (ap (length {A = ℕ}) e ∙ W.long))
-      ∙ tag_is TLogout t at Blank Blank (Number (get reason s))
+      ∙ tag_is TLogout t at None None (Some (get reason s))
       ∙ with_reason TLogout t r of
 
 -- ── a command
@@ -136,7 +135,7 @@ low_format no_data = omega arith
 low_format (direct a h n) = omega arith
 low_format (indirect a h n t c) = omega arith
 
-command : (w : Way) (s : List ℕ) (c : CommandFields) → Reads c s → Shows w s Cmd c.request.tag (Number c.request.lun) Blank Blank
+command : (w : Way) (s : List ℕ) (c : CommandFields) → Reads c s → Shows w s Cmd c.request.tag (Some c.request.lun) None None
 command w s c R =
     let at : get tag s ≡ c.request.tag = cc R.fields in
     let of : get lun s ≡ c.request.lun = cc R.fields in
@@ -145,8 +144,8 @@ command w s c R =
     let known : strange_format s ≡ false = rw (out, inn, le-ltb 2 (format_of c.out) (low_format c.out), le-ltb 2 (format_of c.inn) (low_format c.inn)) in
     let fit : fits Cmd (length s) s ≡ true = rw (eq-eqb (length s) (exact_length s) R.long, known) in
     shown w s Cmd R.code code_names.2 fit
-    ∙ tag_is w s Cmd c.request.tag at (Number (get lun s)) Blank Blank
-    ∙ ap (λ (x : ℕ). line_text (record { way = w; name = Cmd; tag = Number c.request.tag; lun = Number x; number = Blank; code = Blank })) of
+    ∙ tag_is w s Cmd c.request.tag at (Some (get lun s)) None None
+    ∙ ap (λ (x : ℕ). line_text (record { way = w; name = Cmd; tag = Some c.request.tag; lun = Some x; number = None; code = None })) of
 
 -- ── a response
 
@@ -154,7 +153,7 @@ response : (w : Way) (s : List ℕ) (o d t v n a b x y z p q sense k : ℕ) (res
     → Written rsp (o ∷ d ∷ t ∷ v ∷ n ∷ a ∷ b ∷ x ∷ y ∷ z ∷ p ∷ q ∷ sense ∷ k ∷ [])
     → Follow v n sense rest
     → s ≡ write rsp (o ∷ d ∷ t ∷ v ∷ n ∷ a ∷ b ∷ x ∷ y ∷ z ∷ p ∷ q ∷ sense ∷ k ∷ []) ++ rest
-    → Shows w s Rsp t Blank (Number d) (cond (flag v) (Number (get (bytes 3 1) rest)) Blank)
+    → Shows w s Rsp t None (Some d) (cond (flag v) (Some (get (bytes 3 1) rest)) None)
 response w s o d t v n a b x y z p q sense k rest W F e =
     let vs : gets rsp.fields s ≡ o ∷ d ∷ t ∷ v ∷ n ∷ a ∷ b ∷ x ∷ y ∷ z ∷ p ∷ q ∷ sense ∷ k ∷ [] = ap (gets rsp.fields) e ∙ W.values_before rest in
     let at : get tag s ≡ t = cc vs in
@@ -170,10 +169,10 @@ response w s o d t v n a b x y z p q sense k rest W F e =
     get_behind (bytes 3 1) 36 s ∙ ap (λ (l : List ℕ). get (bytes 3 1) (drop 36 l)) e
     ∙ ap (get (bytes 3 1)) (drop_at (write rsp (o ∷ d ∷ t ∷ v ∷ n ∷ a ∷ b ∷ x ∷ y ∷ z ∷ p ∷ q ∷ sense ∷ k ∷ [])) rest 36 fixed) in
     shown w s Rsp (ap type_of e ∙ W.code_before rest) code_names.7 (eq-eqb (length s) (response_size s) whole)
-    ∙ tag_is w s Rsp t at Blank (Number (get delta s)) (cond (flag (get rspvalid s)) (Number (get rsp_code s)) Blank)
-    ∙ ap (λ (m : ℕ). line_text (record { way = w; name = Rsp; tag = Number t; lun = Blank; number = Number m; code = cond (flag (get rspvalid s)) (Number (get rsp_code s)) Blank })) of
-    ∙ ap (λ (m : ℕ). line_text (record { way = w; name = Rsp; tag = Number t; lun = Blank; number = Number d; code = cond (flag m) (Number (get rsp_code s)) Blank })) valid
-    ∙ ap (λ (m : ℕ). line_text (record { way = w; name = Rsp; tag = Number t; lun = Blank; number = Number d; code = cond (flag v) (Number m) Blank })) code
+    ∙ tag_is w s Rsp t at None (Some (get delta s)) (cond (flag (get rspvalid s)) (Some (get rsp_code s)) None)
+    ∙ ap (λ (m : ℕ). line_text (record { way = w; name = Rsp; tag = Some t; lun = None; number = Some m; code = cond (flag (get rspvalid s)) (Some (get rsp_code s)) None })) of
+    ∙ ap (λ (m : ℕ). line_text (record { way = w; name = Rsp; tag = Some t; lun = None; number = Some d; code = cond (flag m) (Some (get rsp_code s)) None })) valid
+    ∙ ap (λ (m : ℕ). line_text (record { way = w; name = Rsp; tag = Some t; lun = None; number = Some d; code = cond (flag v) (Some m) None })) code
 
 -- ── all of them
 

@@ -1,5 +1,5 @@
 -- Document 02, job 2, "A trace page": a message as one line of exactly 80 columns. It has n bytes and begins with s (specs/Types.antt).
-use Rattle.std.specs.Prelude.{◌≡◌, cond, List, [], ◌∷◌, ◌++◌, ℕ, ◌+◌, ◌-◌, ◌%◌, ◌≤◌, ltb, eqb, length, take, drop, replicate, Result, Ok, Err}
+use Rattle.std.specs.Prelude.{Option, Some, None, ◌≡◌, cond, List, [], ◌∷◌, ◌++◌, ℕ, ◌+◌, ◌-◌, ◌%◌, ◌≤◌, ltb, eqb, length, take, drop, replicate, Result, Ok, Err}
 use Rattle.std.proofs.Math.Option.{none, some}
 use Prim.Native.Char.{code}
 use Rattle.srp.specs.Lists.{All}
@@ -19,8 +19,6 @@ use Rattle.page.specs.declared.Way.{Way}
 use Rattle.page.specs.declared.Way.TheVariants.{Towards, From}
 use Rattle.page.specs.declared.Name.{Name}
 use Rattle.page.specs.declared.Name.TheVariants.{LoginReq, TskMgmt, Cmd, ILogout, CredRsp, LoginRsp, LoginRej, Rsp, CredReq, TLogout, Unknown}
-use Rattle.page.specs.declared.Entry.{Entry}
-use Rattle.page.specs.declared.Entry.TheVariants.{Blank, Number}
 use Rattle.page.specs.declared.Line.{Line}
 use Rattle.srp.specs.declared.Refusal.{Refusal}
 
@@ -31,36 +29,36 @@ abbrev pub rsp_code : Field
 rsp_code = bytes 39 1
 
 -- every type has a tag
-abbrev pub tagged : Way → Name → List ℕ → Entry → Entry → Entry → Line
-tagged w n s l d c = record { way = w; name = n; tag = Number (get tag s); lun = l; number = d; code = c }
+abbrev pub tagged : Way → Name → List ℕ → (l d c : Option ℕ) → Line
+tagged w n s l d c = record { way = w; name = n; tag = Some (get tag s); lun = l; number = d; code = c }
 
-abbrev pub lun_of_lem : List ℕ → Entry
-lun_of_lem s = Number (get lun s)
+abbrev pub lun_of_lem : List ℕ → Option ℕ
+lun_of_lem s = Some (get lun s)
 
 -- "delta (a login's N too)"; a reason stands at the same place
-abbrev pub delta_of_lem : List ℕ → Entry
-delta_of_lem s = Number (get delta s)
+abbrev pub delta_of_lem : List ℕ → Option ℕ
+delta_of_lem s = Some (get delta s)
 
-abbrev pub reason_of_lem : List ℕ → Entry
-reason_of_lem s = Number (get reason s)
+abbrev pub reason_of_lem : List ℕ → Option ℕ
+reason_of_lem s = Some (get reason s)
 
 -- RSP_CODE stands in an SRP_RSP with RSPVALID
-abbrev pub code_of : List ℕ → Entry
-code_of s = cond (flag (get rspvalid s)) (Number (get rsp_code s)) Blank
+abbrev pub code_of : List ℕ → Option ℕ
+code_of s = cond (flag (get rspvalid s)) (Some (get rsp_code s)) None
 
 -- the fields of each type: LUN, delta, reason or RSP_CODE; UNKNOWN prints "its length in 50-54 by the delta's rule, the rest but column 1 spaces"
 abbrev pub line_of : Way → Name → ℕ → List ℕ → Line
-line_of w LoginReq n s = tagged w LoginReq s Blank Blank Blank
-line_of w TskMgmt n s = tagged w TskMgmt s (lun_of_lem s) Blank Blank
-line_of w Cmd n s = tagged w Cmd s (lun_of_lem s) Blank Blank
-line_of w ILogout n s = tagged w ILogout s Blank Blank Blank
-line_of w CredRsp n s = tagged w CredRsp s Blank Blank Blank
-line_of w LoginRsp n s = tagged w LoginRsp s Blank (delta_of_lem s) Blank
-line_of w LoginRej n s = tagged w LoginRej s Blank Blank (reason_of_lem s)
-line_of w Rsp n s = tagged w Rsp s Blank (delta_of_lem s) (code_of s)
-line_of w CredReq n s = tagged w CredReq s Blank (delta_of_lem s) Blank
-line_of w TLogout n s = tagged w TLogout s Blank Blank (reason_of_lem s)
-line_of w Unknown n s = record { way = w; name = Unknown; tag = Blank; lun = Blank; number = Number n; code = Blank }
+line_of w LoginReq n s = tagged w LoginReq s None None None
+line_of w TskMgmt n s = tagged w TskMgmt s (lun_of_lem s) None None
+line_of w Cmd n s = tagged w Cmd s (lun_of_lem s) None None
+line_of w ILogout n s = tagged w ILogout s None None None
+line_of w CredRsp n s = tagged w CredRsp s None None None
+line_of w LoginRsp n s = tagged w LoginRsp s None (delta_of_lem s) None
+line_of w LoginRej n s = tagged w LoginRej s None None (reason_of_lem s)
+line_of w Rsp n s = tagged w Rsp s None (delta_of_lem s) (code_of s)
+line_of w CredReq n s = tagged w CredReq s None (delta_of_lem s) None
+line_of w TLogout n s = tagged w TLogout s None None (reason_of_lem s)
+line_of w Unknown n s = record { way = w; name = Unknown; tag = None; lun = None; number = Some n; code = None }
 
 -- ── its texts
 
@@ -99,13 +97,13 @@ abbrev pub count_text_lem : ℕ → List ℕ
 count_text_lem n = cond (ltb 99999 n) (codes "*****") (aligned 5 (decimal n))
 
 -- a text or nothing, which leaves its columns' spaces
-abbrev pub hex_text : ℕ → Entry → List ℕ
-hex_text k Blank = []
-hex_text k (Number n) = hex k n
+abbrev pub hex_text : ℕ → Option ℕ → List ℕ
+hex_text k None = []
+hex_text k (Some n) = hex k n
 
-abbrev pub number_text : Entry → List ℕ
-number_text Blank = []
-number_text (Number n) = count_text_lem n
+abbrev pub number_text : Option ℕ → List ℕ
+number_text None = []
+number_text (Some n) = count_text_lem n
 
 -- ── its columns
 
@@ -190,14 +188,14 @@ ReadsBeginning = (w : Way) (n : ℕ) (s : List ℕ) → line_from w n (take most
 -- ── from left to right
 
 -- "16 hex digits or spaces", "8 hex digits or spaces"
-abbrev pub hex_columns : ℕ → Entry → List ℕ
-hex_columns k Blank = spaces k
-hex_columns k (Number n) = hex k n
+abbrev pub hex_columns : ℕ → Option ℕ → List ℕ
+hex_columns k None = spaces k
+hex_columns k (Some n) = hex k n
 
 -- "or spaces (50-54, right-aligned decimal, ***** above 99,999)"
-abbrev pub number_columns : Entry → List ℕ
-number_columns Blank = spaces 5
-number_columns (Number n) = count_text_lem n
+abbrev pub number_columns : Option ℕ → List ℕ
+number_columns None = spaces 5
+number_columns (Some n) = count_text_lem n
 
 -- no text reaches into the columns of another
 abbrev pub InColumns : Type 0

@@ -3,6 +3,7 @@
 
 mod entries;
 mod kinds;
+mod message;
 mod writing;
 
 ghost use Rattle.std.specs.Prelude.{◌≡◌, [], ◌∷◌, ◌≤◌, length};
@@ -10,6 +11,7 @@ ghost use Rattle.srp.specs.Writing.{placed};
 ghost use Rattle.page.specs.Types.{Begins};
 ghost use Rattle.page.specs.Page.{line_length, line_from, Traced};
 
+use message::Message;
 use srp::{Refusal, Reply};
 
 // A line, its line feed included.
@@ -41,22 +43,15 @@ pub enum Name {
     Unknown,
 }
 
-// What stands in some columns, if anything.
-#[derive(Clone, Copy)]
-pub enum Entry {
-    Blank,
-    Number(u64),
-}
-
-// What a line says: `number` is a delta, or an unknown message's length; `code` is a reason or an RSP_CODE.
+// What a line says, each number if it stands there: `number` is a delta, or an unknown message's length; `code` is a reason or an RSP_CODE.
 #[derive(Clone, Copy)]
 pub struct Line {
     pub way: Way,
     pub name: Name,
-    pub tag: Entry,
-    pub lun: Entry,
-    pub number: Entry,
-    pub code: Entry,
+    pub tag: Option<u64>,
+    pub lun: Option<u64>,
+    pub number: Option<u64>,
+    pub code: Option<u64>,
 }
 
 // The line of a message of `len` bytes, of which `start` has the first 40, or all.
@@ -65,8 +60,9 @@ pub fn put_start(start: &[u8], len: usize, way: Way, buf: &mut [u8])
     requires line_length_in_bounds { line_length ≤ length buf.old }
     ensures { buf.new ≡ placed (line_from way len start.now ∷ []) buf.old }
 {
-    let name = kinds::name_of(start, len);
-    writing::put_line(buf, entries::line_of(start, len, way, name));
+    let message = Message { start, len };
+    let name = message.name();
+    writing::put_line(buf, message.line(way, name));
 }
 
 // Writes a message's line into a lent buffer of at least 81 bytes. Refused 1.

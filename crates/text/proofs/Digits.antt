@@ -5,7 +5,6 @@ use mathlib.Core.Bool.{Bool, true, false}
 use mathlib.Core.List.{List, [], ◌∷◌, ◌++◌, append_assoc, append-nil}
 use Prim.Native.Nat.{ℕ, zero, suc, ◌+◌, ◌-◌, ◌*◌, ◌/◌, ◌%◌, ◌^◌, ◌≤◌, ◌<◌}
 use native.Mathlib.Nat.{pow-suc}
-use native.Mathlib.Numerals.{unary_clauses}
 use native.Mathlib.Omega.{arith}
 use borrow.Author.Tests.{lt-ltb, le-ltb, ltb-true, ltb-false}
 use lib.Bits.{bit_and, and_mask}
@@ -39,9 +38,6 @@ pub record Spelling (before : List ℕ) (at n count : ℕ) (text : List ℕ) (i 
   pub room : at + count ≤ length text
   pub same : take (at + i) text ++ hex (count - i) n ≡ take at before ++ hex count n
   pub behind : drop (at + i) text ≡ drop (at + i) before
-
-pub start : (text : List ℕ) (at n count : ℕ) → at + count ≤ length text → Spelling text at n count text 0
-start text at n count h = record { upto = omega arith; kept = refl; room = h; same = simp unary_clauses; behind = refl }
 
 module _ {before text : List ℕ} {at n count i : ℕ} (w : Spelling before at n count text i) where
   pub on : i < count → {v : ℕ} → v ≡ hex_digit_lem (n / 16 ^ (count - 1 - i) % 16) → Spelling before at n count (set text (at + i) v) (i + 1)

@@ -21,30 +21,15 @@ words_short NoSign = omega arith
 words_short NoDigit = omega arith
 words_short Odd = omega arith
 
--- all that was put from the front on
-pub from_front : {a b x : List ℕ} {n : ℕ} → Appends a 0 x b n → take n b ≡ x
-from_front p = p.text
-
 -- a message's line in front
 pub in_front : (w : Way) (n : ℕ) (s before : List ℕ) {after : List ℕ} → after ≡ placed (line_from w n s ∷ []) before → take 81 after ≡ line_from w n s
 in_front w n s before e = ap (take 81) e ∙ take_at (line_from w n s) (drop (length (line_from w n s)) before) 81 (line_from_long w n s)
-
--- a fault's line is short enough
-pub fault_short : (k : ℕ) (f : Fault) {a b : List ℕ} {n : ℕ} → Appends a 0 (fault_line k f) b n → n ≤ longest
-fault_short k f p =
-    let l : length (fault_line k f) ≡ 5 + (length (decimal k) + (length (fault_words f) + 1)) =
-    length-append (codes "line ") (decimal k ++ (fault_words f ++ (line_feed ∷ [])))
-    ∙ ap (λ (m : ℕ). 5 + m) (length-append (decimal k) (fault_words f ++ (line_feed ∷ [])) ∙ ap (λ (m : ℕ). length (decimal k) + m) (length-append (fault_words f) (line_feed ∷ []))) in
-    omega (arith, p.long, l, decimal_few k, words_short f)
 
 -- ── a message's end
 
 module _ (r : Reader) (w : Way) (st : List ℕ) where
   abbrev by : Bool → List ℕ
   by b = cond b (fault_line r.number Odd) (line_from w (r.digits / 2) (take (min (r.digits / 2) most_read) st))
-
-  pub odd_end : r.digits % 2 ≡ 1 → {a b : List ℕ} {n : ℕ} → Appends a 0 (fault_line r.number Odd) b n → (n ≤ longest) × (take n b ≡ message_end r w st)
-  odd_end e p = (fault_short r.number Odd p, from_front p ∙ ap by (sym (eq-eqb (r.digits % 2) 1 e)))
 
   pub even_end : (before : List ℕ) → (r.digits % 2 ≡ 1 → ⊥) → {k : ℕ} → k ≡ min (r.digits / 2) most_read → {after : List ℕ}
       → after ≡ placed (line_from w (r.digits / 2) (take k st) ∷ []) before → (81 ≤ longest) × (take 81 after ≡ message_end r w st)

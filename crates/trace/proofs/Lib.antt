@@ -2,6 +2,5 @@ pub mod Characters
 pub mod Pairs
 pub mod States
 pub mod Whole
-pub mod Going
 pub mod Ends
 pub mod Rows

@@ -1,7 +1,7 @@
 -- What a line is after so many of its characters: what the code keeps of it says what is printed.
 -- Assumes nothing.
+use Rattle.std.specs.Prelude.{Option, Some, None}
 use Rattle.std.proofs.Common.{◌≡◌, ℕ, suc, ◌+◌, ◌-◌, ◌*◌, ◌/◌, ◌%◌, ◌^◌, ◌<◌, ◌≤◌, min, Bool, true, false, cond, eqb, ltb, leb, List, [], ◌∷◌, ◌++◌, length, take, set, sym, refl, ap, ◌∙◌, subst, mod-eq_of_lt, arith, length-append, length-set, take_all, take-suc-set, set-set, ltb-false, ltb-true, eq-eqb, ne_eqb, eqb-true, leb-false, leb-true}
-use mathlib.Core.Option.{Option, none, some}
 use borrow.Author.Tests.{eqb-false}
 use lib.Seq.{take-append-le, take-set-le, set_out}
 use Rattle.page.specs.Types.{most_read}
@@ -10,8 +10,6 @@ use Rattle.page.specs.declared.Way.{Way}
 use Rattle.page.proofs.Beginnings.{reads_beginning}
 use Rattle.trace.specs.Input.{is_space_lem, digit_of_lem, content_by, values_of, pairs, fault_line, printed_by, printed}
 use Rattle.trace.specs.Reading.{fresh, with_content_lem, byte_with_lem, with_digit_lem, onward, turned, kept, message_end, end_by, line_end}
-use Rattle.trace.specs.declared.reader.Digit.{Digit}
-use Rattle.trace.specs.declared.reader.Digit.TheVariants.{Value, Other}
 use Rattle.trace.specs.declared.reader.Fault.TheVariants.{NoDigit, Odd}
 use Rattle.trace.specs.declared.reader.Content.{Content}
 use Rattle.trace.specs.declared.reader.Content.TheVariants.{Nothing, Comment, Message, Wrong}
@@ -55,7 +53,7 @@ module _ (vs : List ℕ) (r : Reader) (st : List ℕ) (v : ℕ) (O : Of vs r st)
   whole = mod-eq_of_lt few ∙ omega (arith, O.count)
 
   -- where its byte goes
-  place : kept (with_digit_lem (Value v) r) st ≡ set st (length vs / 2) (byte_with_lem r v)
+  place : kept (with_digit_lem (Some v) r) st ≡ set st (length vs / 2) (byte_with_lem r v)
   place =
       let less : suc (length vs) - 1 ≡ length vs = omega arith in
       ap (λ (d : ℕ). cond (eqb d 0) st (set st ((d - 1) / 2) (byte_with_lem r v))) whole
@@ -70,14 +68,14 @@ module _ (vs : List ℕ) (r : Reader) (st : List ℕ) (v : ℕ) (O : Of vs r st)
   longer : length (vs ++ (v ∷ [])) ≡ suc (length vs)
   longer = length-append vs (v ∷ []) ∙ omega arith
 
-  start_more : take (length (vs ++ (v ∷ [])) / 2) (kept (with_digit_lem (Value v) r) st) ≡ take most_read (pairs (vs ++ (v ∷ [])))
+  start_more : take (length (vs ++ (v ∷ [])) / 2) (kept (with_digit_lem (Some v) r) st) ≡ take most_read (pairs (vs ++ (v ∷ [])))
   start_more = go (eqb (length vs % 2) 0) refl
     where
-      go : (t : Bool) → eqb (length vs % 2) 0 ≡ t → take (length (vs ++ (v ∷ [])) / 2) (kept (with_digit_lem (Value v) r) st) ≡ take most_read (pairs (vs ++ (v ∷ [])))
+      go : (t : Bool) → eqb (length vs % 2) 0 ≡ t → take (length (vs ++ (v ∷ [])) / 2) (kept (with_digit_lem (Some v) r) st) ≡ take most_read (pairs (vs ++ (v ∷ [])))
       go true e =
           let z = eqb-true (length vs % 2) 0 e in
           let half : length (vs ++ (v ∷ [])) / 2 ≡ length vs / 2 = omega (arith, longer, z) in
-          ap (λ (n : ℕ). take n (kept (with_digit_lem (Value v) r) st)) half
+          ap (λ (n : ℕ). take n (kept (with_digit_lem (Some v) r) st)) half
           ∙ ap (take (length vs / 2)) place
           ∙ take-set-le (length vs / 2) st (length vs / 2) (byte_with_lem r v) (omega arith)
           ∙ O.start
@@ -85,13 +83,13 @@ module _ (vs : List ℕ) (r : Reader) (st : List ℕ) (v : ℕ) (O : Of vs r st)
       go false e =
           let z : length vs % 2 ≡ 1 = omega (arith, eqb-false (length vs % 2) 0 e) in
           let half : length (vs ++ (v ∷ [])) / 2 ≡ suc (length vs / 2) = omega (arith, longer, z) in
-          ap (λ (n : ℕ). take n (kept (with_digit_lem (Value v) r) st)) half
+          ap (λ (n : ℕ). take n (kept (with_digit_lem (Some v) r) st)) half
           ∙ ap (take (suc (length vs / 2))) place
           ∙ stored st vs (length vs / 2) (byte_with_lem r v) wide refl O.start
           ∙ ap (λ (b : ℕ). take most_read (pairs vs ++ (b ∷ []))) (joined z)
           ∙ ap (take most_read) (sym (pairs_odd vs v z))
 
-  pub one_more : Of (vs ++ (v ∷ [])) (with_digit_lem (Value v) r) (kept (with_digit_lem (Value v) r) st)
+  pub one_more : Of (vs ++ (v ∷ [])) (with_digit_lem (Some v) r) (kept (with_digit_lem (Some v) r) st)
   one_more =
       record {
         count = whole ∙ sym longer;
@@ -101,14 +99,14 @@ module _ (vs : List ℕ) (r : Reader) (st : List ℕ) (v : ℕ) (O : Of vs r st)
       }
 
   -- stored again it stays
-  pub again : kept (with_digit_lem (Value v) r) (kept (with_digit_lem (Value v) r) st) ≡ kept (with_digit_lem (Value v) r) st
+  pub again : kept (with_digit_lem (Some v) r) (kept (with_digit_lem (Some v) r) st) ≡ kept (with_digit_lem (Some v) r) st
   again =
       let less : suc (length vs) - 1 ≡ length vs = omega arith in
-      ap (λ (d : ℕ). cond (eqb d 0) (kept (with_digit_lem (Value v) r) st) (set (kept (with_digit_lem (Value v) r) st) ((d - 1) / 2) (byte_with_lem r v))) whole
+      ap (λ (d : ℕ). cond (eqb d 0) (kept (with_digit_lem (Some v) r) st) (set (kept (with_digit_lem (Some v) r) st) ((d - 1) / 2) (byte_with_lem r v))) whole
       ∙ rw (ne_eqb (suc (length vs)) 0 (λ z. omega (arith, z)), less)
       (ap (λ (x : List ℕ). set x (length vs / 2) (byte_with_lem r v)) place ∙ set-set st (length vs / 2) (byte_with_lem r v) (byte_with_lem r v) ∙ sym place)
 
-  pub as_wide : length (kept (with_digit_lem (Value v) r) st) ≡ most_read
+  pub as_wide : length (kept (with_digit_lem (Some v) r) st) ≡ most_read
   as_wide = ap (length {A = ℕ}) place ∙ length-set st (length vs / 2) (byte_with_lem r v) ∙ wide
 
 -- ── a line
@@ -117,15 +115,15 @@ module _ (vs : List ℕ) (r : Reader) (st : List ℕ) (v : ℕ) (O : Of vs r st)
 abbrev pub after : Content → Option (List ℕ) → Content
 after Nothing vs = Nothing
 after Comment vs = Comment
-after (Message w) none = Wrong NoDigit
-after (Message w) (some vs) = Message w
+after (Message w) None = Wrong NoDigit
+after (Message w) (Some vs) = Message w
 after (Wrong f) vs = Wrong f
 
 abbrev pub Held : Content → Option (List ℕ) → Reader → List ℕ → Type 0
 Held Nothing vs r st = Unit {0}
 Held Comment vs r st = Unit {0}
-Held (Message w) none r st = Unit {0}
-Held (Message w) (some vs) r st = Of vs r st
+Held (Message w) None r st = Unit {0}
+Held (Message w) (Some vs) r st = Of vs r st
 Held (Wrong f) vs r st = Unit {0}
 
 abbrev pub State : List ℕ → Reader → List ℕ → Type 0
@@ -173,14 +171,14 @@ ends k (c ∷ cs) r st A = ap (λ (x : Content). end_by x r st) A.state.0 ∙ go
     go : (m : Content) (vs : Option (List ℕ)) → Held m vs r st → end_by (after m vs) r st ≡ printed_by k m vs
     go Nothing vs H = refl
     go Comment vs H = refl
-    go (Message w) none H = ap (λ (x : ℕ). fault_line x NoDigit) A.number
-    go (Message w) (some xs) H = message_end_lem k w xs r st A.number A.wide H
+    go (Message w) None H = ap (λ (x : ℕ). fault_line x NoDigit) A.number
+    go (Message w) (Some xs) H = message_end_lem k w xs r st A.number A.wide H
     go (Wrong f) vs H = ap (λ (x : ℕ). fault_line x f) A.number
 
 -- ── one character more
 
 -- a first one
-begun : (m : Content) (r : Reader) (st : List ℕ) → r.digits ≡ 0 → (m ≡ after m (some [])) × Held m (some []) (with_content_lem m r) st
+begun : (m : Content) (r : Reader) (st : List ℕ) → r.digits ≡ 0 → (m ≡ after m (Some [])) × Held m (Some []) (with_content_lem m r) st
 begun Nothing r st e = (refl, tt)
 begun Comment r st e = (refl, tt)
 begun (Message w) r st e = (refl, record { count = e; last = λ z. absurd (let f : 0 ≡ 1 = z in omega (arith, f)); small = omega arith; start = refl })
@@ -199,7 +197,7 @@ first k c r st A =
 
 -- a further one, c, behind the first, x, and cs: m, vs and d are what these say
 module _ (k x : ℕ) (cs : List ℕ) (c : ℕ) (r : Reader) (st : List ℕ) (A : At k (x ∷ cs) r st) (room : length cs + 2 < 2 ^ 64)
-    (m : Content) (vs : Option (List ℕ)) (d : Digit) (is_m : content_by x ≡ m) (is_vs : values_of cs ≡ vs) (is_d : digit_of_lem c ≡ d) where
+    (m : Content) (vs : Option (List ℕ)) (d : Option ℕ) (is_m : content_by x ≡ m) (is_vs : values_of cs ≡ vs) (is_d : digit_of_lem c ≡ d) where
   was : (r.content ≡ after m vs) × Held m vs r st
   was =
       subst (λ (q : Option (List ℕ)). (r.content ≡ after m q) × Held m q r st) is_vs
@@ -224,8 +222,8 @@ module _ (k x : ℕ) (cs : List ℕ) (c : ℕ) (r : Reader) (st : List ℕ) (A :
       }
 
   grows : (ws : List ℕ) (v : ℕ) → v < 16 → Of ws r st
-      → (r.content ≡ after m (further vs d)) × Held m (further vs d) (with_digit_lem (Value v) r) (kept (with_digit_lem (Value v) r) st)
-      → At k (x ∷ cs ++ (c ∷ [])) (with_digit_lem (Value v) r) (kept (with_digit_lem (Value v) r) st)
+      → (r.content ≡ after m (further vs d)) × Held m (further vs d) (with_digit_lem (Some v) r) (kept (with_digit_lem (Some v) r) st)
+      → At k (x ∷ cs ++ (c ∷ [])) (with_digit_lem (Some v) r) (kept (with_digit_lem (Some v) r) st)
   grows ws v low O S =
       let few : r.digits + 1 < 2 ^ 64 = omega (arith, A.few, room) in
       record {
@@ -233,11 +231,11 @@ module _ (k x : ℕ) (cs : List ℕ) (c : ℕ) (r : Reader) (st : List ℕ) (A :
         wide = as_wide ws r st v O A.wide few low;
         few = rw (length-append cs (c ∷ []), mod-eq_of_lt few) (omega (arith, A.few));
         steady = again ws r st v O A.wide few low;
-        state = becomes (with_digit_lem (Value v) r) (kept (with_digit_lem (Value v) r) st) S;
+        state = becomes (with_digit_lem (Some v) r) (kept (with_digit_lem (Some v) r) st) S;
       }
 
 later : (k x : ℕ) (cs : List ℕ) (c : ℕ) (r : Reader) (st : List ℕ) → At k (x ∷ cs) r st → length cs + 2 < 2 ^ 64
-    → (m : Content) (vs : Option (List ℕ)) (d : Digit) → content_by x ≡ m → values_of cs ≡ vs → digit_of_lem c ≡ d
+    → (m : Content) (vs : Option (List ℕ)) (d : Option ℕ) → content_by x ≡ m → values_of cs ≡ vs → digit_of_lem c ≡ d
     → At k (x ∷ cs ++ (c ∷ [])) (onward (after m vs) r c) (kept (onward (after m vs) r c) st)
 later k x cs c r st A room Nothing vs d e f g = absurd (says_something x e)
 later k x cs c r st A room Comment vs d e f g = same_content (was k x cs c r st A room Comment vs d e f g).0
@@ -248,18 +246,18 @@ later k x cs c r st A room (Wrong w) vs d e f g = same_content (was k x cs c r s
   where
     same_content : r.content ≡ Wrong w → At k (x ∷ cs ++ (c ∷ [])) r (kept r st)
     same_content q = subst (λ (z : Content). At k (x ∷ cs ++ (c ∷ [])) (with_content_lem z r) (kept r st)) (sym q) (stays k x cs c r st A room (Wrong w) vs d e f g (Wrong w) (refl, tt))
-later k x cs c r st A room (Message w) none d e f g = same_content (was k x cs c r st A room (Message w) none d e f g).0
+later k x cs c r st A room (Message w) None d e f g = same_content (was k x cs c r st A room (Message w) None d e f g).0
   where
     same_content : r.content ≡ Wrong NoDigit → At k (x ∷ cs ++ (c ∷ [])) r (kept r st)
-    same_content q = subst (λ (z : Content). At k (x ∷ cs ++ (c ∷ [])) (with_content_lem z r) (kept r st)) (sym q) (stays k x cs c r st A room (Message w) none d e f g (Wrong NoDigit) (refl, tt))
-later k x cs c r st A room (Message w) (some ws) Other e f g =
-    subst (λ (z : Digit). At k (x ∷ cs ++ (c ∷ [])) (with_digit_lem z r) (kept (with_digit_lem z r) st)) (sym g) (stays k x cs c r st A room (Message w) (some ws) Other e f g (Wrong NoDigit) (refl, tt))
-later k x cs c r st A room (Message w) (some ws) (Value v) e f g =
-    let W = was k x cs c r st A room (Message w) (some ws) (Value v) e f g in
+    same_content q = subst (λ (z : Content). At k (x ∷ cs ++ (c ∷ [])) (with_content_lem z r) (kept r st)) (sym q) (stays k x cs c r st A room (Message w) None d e f g (Wrong NoDigit) (refl, tt))
+later k x cs c r st A room (Message w) (Some ws) None e f g =
+    subst (λ (z : Option ℕ). At k (x ∷ cs ++ (c ∷ [])) (with_digit_lem z r) (kept (with_digit_lem z r) st)) (sym g) (stays k x cs c r st A room (Message w) (Some ws) None e f g (Wrong NoDigit) (refl, tt))
+later k x cs c r st A room (Message w) (Some ws) (Some v) e f g =
+    let W = was k x cs c r st A room (Message w) (Some ws) (Some v) e f g in
     let few : r.digits + 1 < 2 ^ 64 = omega (arith, A.few, room) in
     let low = digit_small c v g in
-    subst (λ (z : Digit). At k (x ∷ cs ++ (c ∷ [])) (with_digit_lem z r) (kept (with_digit_lem z r) st)) (sym g)
-    (grows k x cs c r st A room (Message w) (some ws) (Value v) e f g ws v low W.1 (W.0, one_more ws r st v W.1 A.wide few low))
+    subst (λ (z : Option ℕ). At k (x ∷ cs ++ (c ∷ [])) (with_digit_lem z r) (kept (with_digit_lem z r) st)) (sym g)
+    (grows k x cs c r st A room (Message w) (Some ws) (Some v) e f g ws v low W.1 (W.0, one_more ws r st v W.1 A.wide few low))
 
 pub turns : (k : ℕ) (u : List ℕ) (c : ℕ) (r : Reader) (st : List ℕ) → At k u r st → length u + 1 < 2 ^ 64
     → At k (cond (is_space_lem c) u (u ++ (c ∷ []))) (turned r c) (kept (turned r c) st)

@@ -1,13 +1,10 @@
 -- What trace prints: of a line of its input, and of all of it.
-use Rattle.std.specs.Prelude.{ℕ, suc, ◌+◌, ◌-◌, ◌*◌, ◌%◌, Bool, cond, ◌&&◌, ◌||◌, List, [], ◌∷◌, ◌++◌, length, ◌==◌, nat_le}
-use Rattle.std.proofs.Math.Option.{Option, none, some}
+use Rattle.std.specs.Prelude.{Option, Some, None, ℕ, suc, ◌+◌, ◌-◌, ◌*◌, ◌%◌, Bool, cond, ◌&&◌, ◌||◌, List, [], ◌∷◌, ◌++◌, length, ◌==◌, nat_le}
 use Prim.Native.Char.{code}
 use Rattle.srp.specs.Outside.{decimal}
 use Rattle.text.specs.Codes.{line_feed, codes}
 use Rattle.page.specs.Page.{trace_line}
 use Rattle.page.specs.declared.Way.TheVariants.{Towards, From}
-use Rattle.trace.specs.declared.reader.Digit.{Digit}
-use Rattle.trace.specs.declared.reader.Digit.TheVariants.{Value, Other}
 use Rattle.trace.specs.declared.reader.Fault.{Fault}
 use Rattle.trace.specs.declared.reader.Fault.TheVariants.{NoSign, NoDigit, Odd}
 use Rattle.trace.specs.declared.reader.Content.{Content}
@@ -27,12 +24,12 @@ abbrev pub among : ℕ → ℕ → ℕ → Bool
 among first last c = nat_le first c && nat_le c last
 
 -- a hexadecimal digit: 0 to 9, A to F, a to f
-abbrev pub digit_of_lem : ℕ → Digit
+abbrev pub digit_of_lem : ℕ → Option ℕ
 digit_of_lem c =
-    cond (among (code "0") (code "9") c) (Value (c - code "0"))
-    (cond (among (code "A") (code "F") c) (Value (10 + (c - code "A")))
-    (cond (among (code "a") (code "f") c) (Value (10 + (c - code "a")))
-    Other))
+    cond (among (code "0") (code "9") c) (Some (c - code "0"))
+    (cond (among (code "A") (code "F") c) (Some (10 + (c - code "A")))
+    (cond (among (code "a") (code "f") c) (Some (10 + (c - code "a")))
+    None))
 
 -- '#' starts a comment; '>' and '<' a message towards the port and from it
 abbrev pub content_by : ℕ → Content
@@ -44,14 +41,14 @@ content_by c =
 
 -- ── a line
 
-abbrev pub valued : Digit → Option (List ℕ) → Option (List ℕ)
-valued Other vs = none
-valued (Value v) none = none
-valued (Value v) (some vs) = some (v ∷ vs)
+abbrev pub valued : Option ℕ → Option (List ℕ) → Option (List ℕ)
+valued None vs = None
+valued (Some v) None = None
+valued (Some v) (Some vs) = Some (v ∷ vs)
 
 -- the values of digits, if each character is one
 abbrev pub values_of : List ℕ → Option (List ℕ)
-values_of [] = some []
+values_of [] = Some []
 values_of (c ∷ cs) = valued (digit_of_lem c) (values_of cs)
 
 -- two digits are a byte
@@ -74,8 +71,8 @@ fault_line k f = codes "line " ++ (decimal k ++ (fault_words f ++ (line_feed ∷
 abbrev pub printed_by : ℕ → Content → Option (List ℕ) → List ℕ
 printed_by k Nothing vs = []
 printed_by k Comment vs = []
-printed_by k (Message w) none = fault_line k NoDigit
-printed_by k (Message w) (some vs) = cond (length vs % 2 == 1) (fault_line k Odd) (trace_line w (pairs vs))
+printed_by k (Message w) None = fault_line k NoDigit
+printed_by k (Message w) (Some vs) = cond (length vs % 2 == 1) (fault_line k Odd) (trace_line w (pairs vs))
 printed_by k (Wrong f) vs = fault_line k f
 
 -- line number k without its spaces; a blank one prints nothing

@@ -1,17 +1,14 @@
 -- The same, as the code reads it: character by character, with the first 40 bytes of a message, `st`, and its length.
-use Rattle.std.specs.Prelude.{◌≡◌, ℕ, ◌+◌, ◌-◌, ◌*◌, ◌/◌, ◌%◌, ◌^◌, ◌<◌, ◌≤◌, min, false, cond, List, [], ◌∷◌, ◌++◌, length, take, drop, ◌==◌, slice_set}
+use Rattle.std.specs.Prelude.{Option, Some, None, ◌≡◌, ℕ, ◌+◌, ◌-◌, ◌*◌, ◌/◌, ◌%◌, ◌^◌, ◌<◌, ◌≤◌, min, false, cond, List, [], ◌∷◌, ◌++◌, length, take, drop, ◌==◌, slice_set}
 use Rattle.page.specs.Types.{most_read}
 use Rattle.page.specs.Page.{line_from}
 use Rattle.page.specs.declared.Way.{Way}
 use Rattle.text.specs.Codes.{line_feed}
 use Rattle.trace.specs.Input.{is_space_lem, digit_of_lem, content_by, fault_line, trace_page}
-use Rattle.trace.specs.declared.reader.Digit.{Digit}
-use Rattle.trace.specs.declared.reader.Digit.TheVariants.{Value, Other}
 use Rattle.trace.specs.declared.reader.Fault.TheVariants.{NoDigit, Odd}
 use Rattle.trace.specs.declared.reader.Content.{Content}
 use Rattle.trace.specs.declared.reader.Content.TheVariants.{Nothing, Comment, Message, Wrong}
 use Rattle.trace.specs.declared.reader.Reader.{Reader}
-use Rattle.trace.specs.declared.reader.Part.{Part}
 
 -- ── a line as far as it was read
 
@@ -29,9 +26,9 @@ with_content_lem c r = record { number = r.number; content = c; digits = r.digit
 abbrev pub byte_with_lem : Reader → ℕ → ℕ
 byte_with_lem r v = cond (r.digits % 2 == 0) v (r.last % 16 * 16 + v % 16)
 
-abbrev pub with_digit_lem : Digit → Reader → Reader
-with_digit_lem Other r = with_content_lem (Wrong NoDigit) r
-with_digit_lem (Value v) r = record { number = r.number; content = r.content; digits = (r.digits + 1) % 2 ^ 64; last = byte_with_lem r v }
+abbrev pub with_digit_lem : Option ℕ → Reader → Reader
+with_digit_lem None r = with_content_lem (Wrong NoDigit) r
+with_digit_lem (Some v) r = record { number = r.number; content = r.content; digits = (r.digits + 1) % 2 ^ 64; last = byte_with_lem r v }
 
 -- one character more, by what the line is
 abbrev pub onward : Content → Reader → ℕ → Reader
@@ -75,16 +72,17 @@ page_from r st [] = line_end r st
 page_from r st (c ∷ cs) =
     cond (c == line_feed) (line_end r st ++ page_from (followed r) st cs) (page_from (turned r c) (kept (turned r c) st) cs)
 
--- behind a part that was read, whose line may have ended
-abbrev pub page_after : Part → List ℕ → List ℕ → List ℕ
-page_after p st cs = cond p.ended (line_end p.reader st ++ page_from (followed p.reader) st cs) (page_from p.reader st cs)
+-- a part of the input was read to its end, and no line ended: what is printed is the same, whatever follows
+pub record ReadsAll (input : List ℕ) (r : Reader) (st : List ℕ) (r' : Reader) (st' : List ℕ) : Type 0 where
+  pub page : (rest : List ℕ) → page_from r st (input ++ rest) ≡ page_from r' st' rest
 
--- from byte `from` of a part of the input on: what is printed is the same, whatever follows
-pub record Reads (input : List ℕ) (from : ℕ) (r : Reader) (st : List ℕ) (p : Part) (st' : List ℕ) : Type 0 where
-  pub on : from < p.at
-  pub upto : p.at ≤ length input
-  pub whole : p.ended ≡ false → p.at ≡ length input
-  pub page : (rest : List ℕ) → page_from r st (drop from input ++ rest) ≡ page_after p st' (drop p.at input ++ rest)
+-- or to the end of a line, behind which `left` is left of the part
+pub record ReadsLine (input : List ℕ) (r : Reader) (st left : List ℕ) (r' : Reader) (st' : List ℕ) : Type 0 where
+  pub at : ℕ
+  pub on : 0 < at
+  pub upto : at ≤ length input
+  pub behind : left ≡ drop at input
+  pub page : (rest : List ℕ) → page_from r st (input ++ rest) ≡ line_end r' st' ++ page_from (followed r') st' (left ++ rest)
 
 -- ── the whole
 

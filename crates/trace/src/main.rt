@@ -12,71 +12,58 @@ use std::io::{self, Read};
 // how many bytes are read at a time
 const PART: usize = 65536;
 
-// A part of the input was read and its lines were printed, if they could be written.
-#[derive(Clone, Copy)]
-struct Printed {
-    reader: Reader,
-    written: bool,
+// What ends the program before its input does.
+#[derive(Drop)]
+enum Failure {
+    Read,
+    Write,
 }
 
 fn main(rt: HostRuntime) -> io::Result<()> {
+    match print_input(&rt) {
+        Ok(()) => Ok(()),
+        Err(Failure::Read) => rt.eprint("trace: cannot read\n"),
+        Err(Failure::Write) => {
+            let _ = rt.eprint("trace: cannot write\n");
+            Ok(())
+        }
+    }
+}
+
+fn print_input(rt: &HostRuntime) -> Result<(), Failure> {
     let mut input = [0u8; PART];
     let mut start = [0u8; MOST_READ];
-    let mut r = reader::first();
+    let mut r = Reader::first();
     // more turns than any input has bytes: a proved loop ends
     for _ in 0..u64::MAX {
-        let Ok(n) = rt.stdin().read(&mut input) else {
-            return rt.eprint("trace: cannot read\n");
-        };
+        let n = rt.stdin().read(&mut input).map_err(|_| Failure::Read)?;
         if n == 0 {
             break;
         }
-        let printed = print_lines(&rt, &input[..n], r, &mut start);
-        if !printed.written {
-            return Ok(());
-        }
-        r = printed.reader;
+        print_lines(rt, &input[..n], &mut r, &mut start)?;
     }
     // the last line may have no line feed
-    print_line(&rt, r, &start);
-    Ok(())
+    print_line(rt, &r, &start)
 }
 
 // Prints the lines that end in a part of the input.
 fn print_lines(
-    rt: &(impl Print + Eprint),
+    rt: &impl Print,
     input: &[u8],
-    before: Reader,
+    r: &mut Reader,
     start: &mut [u8; MOST_READ],
-) -> Printed {
-    let mut r = before;
-    let mut at: usize = 0;
-    while at < input.len() {
-        let part = reader::read_line(input, at, r, &mut *start);
-        at = part.at;
-        r = part.reader;
-        if part.ended {
-            if !print_line(rt, r, start) {
-                return Printed {
-                    reader: r,
-                    written: false,
-                };
-            }
-            r = reader::next(r);
-        }
+) -> Result<(), Failure> {
+    let mut left = input;
+    while let Some(behind) = r.read_line(left, start) {
+        print_line(rt, r, start)?;
+        *r = r.next();
+        left = behind;
     }
-    Printed {
-        reader: r,
-        written: true,
-    }
+    Ok(())
 }
 
-fn print_line(rt: &(impl Print + Eprint), r: Reader, start: &[u8; MOST_READ]) -> bool {
+fn print_line(rt: &impl Print, r: &Reader, start: &[u8; MOST_READ]) -> Result<(), Failure> {
     let mut line = [0u8; lines::LONGEST];
     let n = lines::put_end(&mut line, r, start);
-    if rt.write_all(&line[..n]).is_ok() {
-        return true;
-    }
-    let _ = rt.eprint("trace: cannot write\n");
-    false
+    rt.write_all(&line[..n]).map_err(|_| Failure::Write)
 }

@@ -4,4 +4,4 @@ use Rattle.page.proofs.put_start.Goals as goal
 
 pub returns : goal.returns
 returns c =
-    named c.args.way c.args.len c.args.start.now c.args.buf.now c.name_of-name.ensures.0 c.line_of.ensures c.put_line.ensures
+    named c.args.way c.args.len c.args.start.now c.args.buf.now c.name-name.ensures.0 c.line.ensures c.put_line.ensures
