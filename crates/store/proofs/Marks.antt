@@ -1,6 +1,6 @@
 -- The places of the store: which are used, and that one is free while fewer than 16 commands are open.
 -- Assumes nothing.
-use mathlib.Core.Path.{◌≡◌, refl, sym, ◌∙◌, ap}
+use mathlib.Core.Path.{◌≡◌, refl, sym, ◌∙◌}
 use mathlib.Core.Bool.{Bool, true, false, not}
 use mathlib.Core.List.{List, [], ◌∷◌}
 use mathlib.Core.Logic.{⊎_elim}
@@ -13,14 +13,13 @@ use Rattle.std.specs.Option.{unwrap_or}
 use Rattle.std.proofs.lemmas.List.Sums.{passes_at_first}
 use lib.ListN.{length, get_or, set, length-set}
 use lib.Seq.{get_or-take, get_or-set_same}
-use Rattle.srp.specs.Bytes.{bit}
 use Rattle.words.specs.Sizes.{most_slots}
 use Rattle.words.specs.Slots.{slots, no_slot}
 use Rattle.words.specs.Head.{head_of}
 use Rattle.words.specs.View.{opens}
 use Rattle.words.proofs.Slots.{either}
 use Rattle.words.proofs.Ports.{opens_long}
-use Rattle.store.specs.Places.{trues, Marked, Free}
+use Rattle.store.specs.Places.{trues, Marked}
 
 -- ── marking
 
@@ -106,11 +105,3 @@ first_free_lem f long few k last e =
     let h : position_or_len not f < length f = some_free f (omega arith) in
     let is : k ≡ position_or_len not f = e ∙ rw (lt-ltb _ _ h) refl in
     (omega arith, rw is (unmarked _ (passes_at_first not f false h)))
-
--- a place that is not marked is free
-pub free_at : (but : ℕ) (l : List ℕ) (f : List Bool) (k : ℕ) → Marked but (opens l) f → k < most_slots → get_or f k false ≡ false → Free but (opens l) k
-free_at but l f k M h e =
-    record {
-      small = h;
-      apart = λ j q ne u. let z : ◌≡◌ {A = ℕ} 0 1 = ap bit (sym e ∙ ap (λ (x : ℕ). get_or f x false) (sym u) ∙ M.marks j q ne) in omega arith;
-    }
