@@ -1,23 +1,25 @@
 -- The places of the store: which are used, and that one is free while fewer than 16 commands are open.
 -- Assumes nothing.
-use mathlib.Core.Path.{◌≡◌, refl, sym, ◌∙◌, ap}
-use mathlib.Core.Bool.{Bool, true, false}
+use mathlib.Core.Path.{◌≡◌, refl, sym, ◌∙◌}
+use mathlib.Core.Bool.{Bool, true, false, not}
 use mathlib.Core.List.{List, [], ◌∷◌}
 use mathlib.Core.Logic.{⊎_elim}
 use Prim.Native.Nat.{ℕ, zero, suc, ◌+◌, ◌≤◌, ◌<◌}
 use native.Mathlib.Omega.{arith}
-use native.Mathlib.Numerals.{add-one}
 use borrow.Author.Count.{below_more}
-use lib.ListN.{length, get_or, drop, set, length-set}
-use lib.Seq.{drop-cons, get_or-take, get_or-set_same}
-use Rattle.srp.specs.Bytes.{bit}
+use borrow.Author.Tests.{lt-ltb}
+use Rattle.std.specs.List.{position, position_or_len}
+use Rattle.std.specs.Option.{unwrap_or}
+use Rattle.std.proofs.lemmas.List.Sums.{passes_at_first}
+use lib.ListN.{length, get_or, set, length-set}
+use lib.Seq.{get_or-take, get_or-set_same}
 use Rattle.words.specs.Sizes.{most_slots}
 use Rattle.words.specs.Slots.{slots, no_slot}
 use Rattle.words.specs.Head.{head_of}
 use Rattle.words.specs.View.{opens}
 use Rattle.words.proofs.Slots.{either}
 use Rattle.words.proofs.Ports.{opens_long}
-use Rattle.store.specs.Places.{trues, Marked, Free}
+use Rattle.store.specs.Places.{trues, Marked}
 
 -- ── marking
 
@@ -85,25 +87,21 @@ module _ (but : ℕ) (l : List ℕ) (n : ℕ) (f : List Bool) (i : ℕ) (K : Mar
 
 -- ── the search
 
--- less than one is none
-pub bit_none : (b : Bool) → bit b < 1 → b ≡ false
-bit_none true h = let z : ⊥ = omega arith in absurd z
-bit_none false h = refl
-
--- a true counts one
-pub bit_is : (b : Bool) → b ≡ true → bit b ≡ 1
-bit_is b h = rw h refl
-
--- while the first k places are all used: one place further, with that place's own mark counted
-pub trues_step : (f : List Bool) → length f ≡ most_slots → (k : ℕ) → k + trues (drop k f) ≡ trues f → k < most_slots → (d : Bool)
-    → k + (bit (get_or f k d) + trues (drop (k + 1) f)) ≡ trues f
+-- where fewer are true than there are, there is a first that is not
+some_free : (f : List Bool) → trues f < length f → position_or_len not f < length f
 unfolding trues
-trues_step f long k inv h d = let g : k < length f = omega arith in rw add-one (rw (drop-cons f k d) at inv)
+some_free [] h = let z : ⊥ = omega arith in absurd z
+some_free (true ∷ bs) h = let q = some_free bs (omega arith) in omega (arith, q)
+some_free (false ∷ bs) h = omega arith
 
--- a place that is not marked is free
-pub free_at : (but : ℕ) (l : List ℕ) (f : List Bool) (k : ℕ) → Marked but (opens l) f → k < most_slots → get_or f k false ≡ false → Free but (opens l) k
-free_at but l f k M h e =
-    record {
-      small = h;
-      apart = λ j q ne u. let z : ◌≡◌ {A = ℕ} 0 1 = ap bit (sym e ∙ ap (λ (x : ℕ). get_or f x false) (sym u) ∙ M.marks j q ne) in omega arith;
-    }
+unmarked : (b : Bool) → not b ≡ true → b ≡ false
+unmarked true h = sym h
+unmarked false h = refl
+
+-- it is found, and is not marked
+pub first_free_lem : (f : List Bool) → length f ≡ most_slots → trues f < most_slots → (k last : ℕ) → k ≡ unwrap_or (position not f) last
+    → (k < most_slots) × (get_or f k false ≡ false)
+first_free_lem f long few k last e =
+    let h : position_or_len not f < length f = some_free f (omega arith) in
+    let is : k ≡ position_or_len not f = e ∙ rw (lt-ltb _ _ h) refl in
+    (omega arith, rw is (unmarked _ (passes_at_first not f false h)))

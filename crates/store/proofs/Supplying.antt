@@ -10,7 +10,7 @@ use native.Mathlib.Nat.{zero-add, suc-add}
 use borrow.Author.Tests.{leb-true, leb-false}
 use lib.Dec.{leb}
 use lib.ListN.{length, get_or, take, drop, length-drop, length-take, take-append-drop}
-use lib.Seq.{paste, length-paste, drop-drop, take-nil, take-append-le, take-append-add, get_or-take, get_or-set_same}
+use lib.Seq.{paste, take-length, length-paste, drop-drop, take-nil, take-append-le, take-append-add, get_or-take, get_or-set_same}
 use Rattle.srp.specs.Lists.{over}
 use Rattle.srp.specs.declared.Direction.{Direction}
 use Rattle.srp.specs.declared.Direction.TheVariants.{Out, In}
@@ -71,11 +71,9 @@ module _ (st : List ℕ) (long : length st ≡ store_size) (p k : ℕ) (hp : p <
           let f : place_size * p + list_size ≡ p * place_size + list_size = omega arith in
           rw (e, f) (part list_size n (omega arith))
 
-  -- as they are copied, to a list of that length and from there
-  pub carried_by : (x : List ℕ) (m : ℕ) → m ≡ place_size → x ≡ take m (drop (p * place_size) st) → Carried st (paste st (k * place_size) x (length x)) p k
-  carried_by x m e q =
-      let all : x ≡ kept = rw e at q in
-      rw all carried
+  -- as they are copied within the store
+  pub carried_over : (m : ℕ) → m ≡ place_size → Carried st (paste st (k * place_size) (drop (p * place_size) st) m) p k
+  carried_over m e = rw e (rw (take-length kept, kept_long) at carried)
 
 -- ── the command changed
 

@@ -4,7 +4,7 @@
 
 mod supply;
 
-ghost use Rattle.std.specs.Prelude.{◌≡◌, Bool, false, ℕ, ◌+◌, ◌≤◌, ◌<◌, length, get_or};
+ghost use Rattle.std.specs.Prelude.{◌≡◌, Bool, false, not, ℕ, ◌+◌, ◌≤◌, ◌<◌, length, get_or, position};
 ghost use Rattle.std.proofs.Math.Seq.{paste};
 ghost use Rattle.words.specs.Sizes.{port_words, most_slots, store_size};
 ghost use Rattle.words.specs.Head.{head_of};
@@ -33,12 +33,19 @@ fn places(s: &[u64; PORT], but: usize) -> [bool; SLOTS]
     used
 }
 
+// The first place that is not used, if there is one.
+fn first_unused(used: &[bool; SLOTS]) -> Option<usize>
+    ensures { result ≡ position not used.now }
+{
+    used.iter().position(|u| !*u)
+}
+
 // The first place that is not used.
 fn first_free(used: [bool; SLOTS]) -> usize
     requires { trues used < most_slots }
     ensures { (result < most_slots) × (get_or used result false ≡ false) }
 {
-    used.iter().position(|u| !*u).unwrap_or(LAST)
+    first_unused(&used).unwrap_or(LAST)
 }
 
 // A place that no open command uses.

@@ -49,7 +49,15 @@ pub fn not_waiting() -> Awaited
 }
 
 // The command in slot i has its tables, and with them these directions: it waits no longer.
-pub fn bring(s: &mut [u64; PORT], store: &mut [u8; STORE], i: usize, o: Part, n: Part, out: &[u8], inn: &[u8])
+pub fn bring(
+    s: &mut [u64; PORT],
+    store: &mut [u8; STORE],
+    i: usize,
+    o: Part,
+    n: Part,
+    out: &[u8],
+    inn: &[u8],
+)
     requires i_bound { i < (head_of s.old).held }
     requires holding { Holding out.now o × Holding inn.now n }
     ensures { Supplied i s.old store.old s.new store.new o n out.now inn.now }

@@ -10,7 +10,7 @@ pub loop-i-init : goal.loop-i-init
 unfolding trues
 loop-i-init c =
     record {
-      count = c.get_head-h.ensures.held;
+      count = c.get_head-held.ensures.held;
       in_count = omega arith;
       long = refl;
       few = omega arith;
