@@ -1,6 +1,6 @@
 -- Parts of a list, the copies of a table's first entries, and a command that does not wait.
 -- Assumes nothing.
-use Rattle.std.proofs.Common.{◌≡◌, refl, ℕ, ◌+◌, ◌-◌, ◌<◌, Bool, true, false, not, ◌&&◌, List, [], ◌∷◌, length, take, drop, eqb, arith}
+use Rattle.std.proofs.Common.{◌≡◌, refl, ℕ, ◌+◌, ◌-◌, ◌<◌, false, List, [], ◌∷◌, length, take, drop, eqb, arith}
 use mathlib.Core.Bool.{and-false}
 use borrow.Author.Tests.{eqb-true, not-false}
 use Rattle.srp.specs.Descriptors.{fetched, same_bytes}

@@ -1,6 +1,6 @@
 -- The first check that hits: what none of them, or the one that does, tells.
 -- Assumes nothing.
-use mathlib.Core.Path.{◌≡◌, refl, subst}
+use mathlib.Core.Path.{◌≡◌, refl, ap, subst}
 use mathlib.Core.Bool.{Bool, true, false, cond, ◌||◌, true≢false}
 use mathlib.Core.List.{List, [], ◌∷◌}
 use mathlib.Core.Option.{Option, none, some, none-ne-some, some-ne-none, some-injective}
@@ -61,7 +61,12 @@ module _ {A : Type 0} where
   hit_by none m e = cc
   hit_by (some r) m e = cc
 
--- what comes where none hits
-pub none_hit : {B : Type 0} (o : Option Refusal) (x : B) (f : Refusal → B) → o ≡ none → x ≡ elim o [ none ↦ x | some r ↦ f r ]
-none_hit none x f e = refl
-none_hit (some r) x f e = cc
+-- what comes where none hits, or one
+module _ {B : Type 0} (x : B) (f : Refusal → B) where
+  pub none_hit : (o : Option Refusal) → o ≡ none → x ≡ elim o [ none ↦ x | some r ↦ f r ]
+  none_hit none e = refl
+  none_hit (some r) e = cc
+
+  pub some_hit : (o : Option Refusal) {r : Refusal} → o ≡ some r → f r ≡ elim o [ none ↦ x | some r ↦ f r ]
+  some_hit none e = cc
+  some_hit (some r) e = ap f (cc)

@@ -1,5 +1,5 @@
 -- `command::look_command` meets its contract. By what the shape was read as.
-use Rattle.std.proofs.Common.{sym, ap, ◌∙◌, rules}
+use Rattle.std.proofs.Common.{sym, ◌∙◌, rules}
 use Rattle.srp.specs.Refusals.{first_of_checks}
 use Rattle.srp.specs.Requests.{command_of_lem, look_checks}
 use Rattle.srp.proofs.Checks.{unhit, hit_by}
