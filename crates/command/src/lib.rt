@@ -1,24 +1,22 @@
 // Look: how an SRP_CMD is read without state; its CDB and its segments as parts of what the caller lent; bad fields.
 #![tactic(auto)]
 
-mod checks;
 mod descriptors;
 mod given;
 mod shape;
 mod total;
 
-ghost use Rattle.std.specs.Prelude.{◌≡◌, ◌≤◌, length};
+ghost use Rattle.std.specs.Prelude.{◌≡◌, ◌≤◌, length, Ok, IfOk};
 ghost use Rattle.srp.specs.Limits.{shortest_command};
-ghost use Rattle.srp.specs.Refusals.{first_of_checks};
+ghost use Rattle.srp.specs.Refusals.{first_of_checks, unless_bad};
 ghost use Rattle.srp.specs.Requests.{request_of_lem, command_of_lem, command_checks, look_checks, look_def, cdb_def, segments_def};
 ghost use Rattle.srp.specs.Take.{waits};
-ghost use Rattle.command.specs.Reading.{shape_of, FitsIn, FitsShape, CommandRead};
+ghost use Rattle.command.specs.Reading.{shape_of, FitsIn, FitsShape};
 
-pub use checks::{Length, MessageType, length_in, length_is, type_of};
-pub use descriptors::{Format, fetched_length, format_of, size};
+pub use descriptors::{fetched_length, is_agreed, size};
 pub use given::{placeless, segment_list, standing, standing_size};
-use shape::{Shape, Shaped};
-use srp::{Command, Direction, Look, Message, Request};
+use shape::Shape;
+use srp::{Command, Descriptor, Direction, Look, Refusal, Request};
 pub use total::fields;
 use wire::layout::{CDB, LUN, NOTIFICATION, SCSOLNT, TAG, UCSOLNT};
 
@@ -41,71 +39,63 @@ fn command_of(msg: &[u8], shape: Shape) -> Command
     requires fits_shape { FitsShape msg.now shape }
     ensures { (result ≡ command_of_lem msg.now) × FitsIn msg.now result }
 {
-    let out = shape.out;
-    let inn = shape.inn;
+    let Shape { cdb, out, inn } = shape;
     Command {
         request: read_request(msg),
-        cdb: shape.cdb,
-        out: descriptors::with_total(out, descriptors::total_length(msg, out)),
-        inn: descriptors::with_total(inn, descriptors::total_length(msg, inn)),
+        cdb,
+        out: Descriptor {
+            total: descriptors::total_length(msg, out),
+            ..out
+        },
+        inn: Descriptor {
+            total: descriptors::total_length(msg, inn),
+            ..inn
+        },
     }
 }
 
-// Refusals 3, 5, 6, 3, 7, 8 of a command, or what it says.
-pub fn read_command(msg: &[u8], formats: u32) -> Message
-    ensures { CommandRead (first_of_checks (command_checks formats msg.now)) msg.now result }
+// A command, or the first of the refusals 3, 5, 6, 3, 7, 8 that it draws.
+pub fn read_command(msg: &[u8], formats: u32) -> Result<Command, Refusal>
+    ensures command { result ≡ unless_bad (first_of_checks (command_checks formats msg.now)) (Ok (command_of_lem msg.now)) }
+    ensures fits { IfOk result (FitsIn msg.now) }
 {
-    match shape::read_shape(msg, formats) {
-        Shaped::Unfit(refusal) => Message::Bad(refusal),
-        Shaped::Fit(shape) => Message::Cmd(command_of(msg, shape)),
-    }
+    Ok(command_of(msg, shape::read_shape(msg, formats)?))
 }
 
 // The same behind look's refusals.
-pub fn look_command(msg: &[u8], agreed: u32, formats: u32) -> Message
-    ensures { CommandRead (first_of_checks (look_checks agreed formats msg.now)) msg.now result }
+pub fn look_command(msg: &[u8], agreed: u32, formats: u32) -> Result<Command, Refusal>
+    ensures command { result ≡ unless_bad (first_of_checks (look_checks agreed formats msg.now)) (Ok (command_of_lem msg.now)) }
+    ensures fits { IfOk result (FitsIn msg.now) }
 {
-    match shape::look_shape(msg, agreed, formats) {
-        Shaped::Unfit(refusal) => Message::Bad(refusal),
-        Shaped::Fit(shape) => Message::Cmd(command_of(msg, shape)),
-    }
+    Ok(command_of(msg, shape::look_shape(msg, agreed, formats)?))
 }
 
 // Whether a command waits for its tables: one is to be fetched, in either direction.
 pub fn waits(c: Command) -> bool
     ensures { result ≡ waits c }
 {
-    let out = c.out;
-    let inn = c.inn;
-    if fetched_length(out) != 0 {
-        return true;
-    }
-    fetched_length(inn) != 0
+    fetched_length(c.out) != 0 || fetched_length(c.inn) != 0
 }
 
 // Look: the table to fetch for each direction, or the refusal.
-pub fn look(msg: &[u8], agreed: u32, formats: u32) -> Look
+pub fn look(msg: &[u8], agreed: u32, formats: u32) -> Result<Look, Refusal>
     ensures { result ≡ look_def agreed formats msg.now }
 {
-    match shape::look_shape(msg, agreed, formats) {
-        Shaped::Unfit(refusal) => Look::LookRefused(refusal),
-        Shaped::Fit(shape) => {
-            let out = shape.out;
-            let inn = shape.inn;
-            Look::Fetches(descriptors::fetch(msg, out), descriptors::fetch(msg, inn))
-        }
-    }
+    let shape = shape::look_shape(msg, agreed, formats)?;
+    Ok(Look {
+        out: descriptors::fetch(msg, shape.out),
+        inn: descriptors::fetch(msg, shape.inn),
+    })
 }
 
 // The CDB, a part of the message; empty where look refuses it.
 pub fn cdb(msg: &[u8], agreed: u32, formats: u32) -> &[u8]
     ensures { result.now ≡ cdb_def agreed formats msg.now }
 {
-    let Message::Cmd(c) = look_command(msg, agreed, formats) else {
-        return &msg[0..0];
+    let Ok(c) = look_command(msg, agreed, formats) else {
+        return &[];
     };
-    let end = CDB + c.cdb;
-    &msg[CDB..end]
+    &msg[CDB..CDB + c.cdb]
 }
 
 // The segments of a direction; empty where look refuses the message.
@@ -118,13 +108,12 @@ pub fn segments<'a>(
 ) -> &'a [u8]
     ensures { result.now ≡ segments_def direction agreed formats msg.now table.now }
 {
-    let Message::Cmd(c) = look_command(msg, agreed, formats) else {
-        return &msg[0..0];
+    let Ok(c) = look_command(msg, agreed, formats) else {
+        return &[];
     };
-    let out = c.out;
-    let inn = c.inn;
-    match direction {
-        Direction::Out => segment_list(standing(msg, out), table, out),
-        Direction::In => segment_list(standing(msg, inn), table, inn),
-    }
+    let d = match direction {
+        Direction::Out => c.out,
+        Direction::In => c.inn,
+    };
+    segment_list(standing(msg, d), table, d)
 }

@@ -1,14 +1,15 @@
 // The shape of an SRP_CMD: what every check before refusal 10 reads of it, and all that look needs.
-ghost use Rattle.srp.specs.Refusals.{first_of_checks};
-ghost use Rattle.srp.specs.Requests.{command_checks, look_checks};
-ghost use Rattle.command.specs.Reading.{ShapeRead};
+ghost use Rattle.std.specs.Prelude.{◌≡◌, Ok, IfOk};
+ghost use Rattle.srp.specs.Refusals.{first_of_checks, unless_bad};
+ghost use Rattle.srp.specs.Requests.{command_of_lem, command_checks, look_checks};
+ghost use Rattle.command.specs.Reading.{shape_of, FitsShape};
 
-use crate::checks::{Length, MessageType, Setting};
-use crate::descriptors::{Count, Format};
-use crate::{checks, descriptors};
-use srp::limits::{SHORTEST_COMMAND, SHORTEST_MESSAGE};
+use crate::descriptors;
+use srp::limits::{
+    BOTH_FORMATS, LONGEST_AGREED, SHORTEST_AGREED, SHORTEST_COMMAND, SHORTEST_MESSAGE,
+};
 use srp::{Descriptor, Refusal};
-use wire::layout::{ADDITIONAL, CDB, FORMATS, IN_COUNT, OUT_COUNT, SHORTEST_CDB};
+use wire::layout::{ADDITIONAL, CDB, COMMAND, FORMATS, IN_COUNT, OUT_COUNT, SHORTEST_CDB};
 
 // The CDB's length, and both descriptors but for their total lengths, which no check before refusal 10 reads.
 #[derive(Clone, Copy)]
@@ -18,64 +19,57 @@ pub struct Shape {
     pub inn: Descriptor,
 }
 
-// The shape of an SRP_CMD, or which refusal it draws.
-#[derive(Clone, Copy)]
-pub enum Shaped {
-    Fit(Shape),
-    Unfit(Refusal),
-}
-
-// Refusals 3, 5, 6, 3, 7, 8 of a command, or its shape: all that look needs.
-pub fn read_shape(msg: &[u8], formats: u32) -> Shaped
-    ensures { ShapeRead (first_of_checks (command_checks formats msg.now)) msg.now result }
+// The shape of a command, or the first of the refusals 3, 5, 6, 3, 7, 8 that it draws.
+pub fn read_shape(msg: &[u8], formats: u32) -> Result<Shape, Refusal>
+    ensures shape { result ≡ unless_bad (first_of_checks (command_checks formats msg.now)) (Ok (shape_of (command_of_lem msg.now))) }
+    ensures fits { IfOk result (FitsShape msg.now) }
 {
-    let Length::Allowed = checks::length_from(msg.len(), SHORTEST_COMMAND) else {
-        return Shaped::Unfit(Refusal::Length);
-    };
-    let out_nibble = wire::read_bits(msg, FORMATS, 4, 4);
-    let Format::Agreed(out_format) = descriptors::format_of(formats, out_nibble) else {
-        return Shaped::Unfit(Refusal::OutFormat);
-    };
-    let in_nibble = wire::read_bits(msg, FORMATS, 0, 4);
-    let Format::Agreed(in_format) = descriptors::format_of(formats, in_nibble) else {
-        return Shaped::Unfit(Refusal::InFormat);
-    };
+    if msg.len() < SHORTEST_COMMAND {
+        return Err(Refusal::Length);
+    }
+    let out_format = wire::read_bits(msg, FORMATS, 4, 4);
+    if !descriptors::is_agreed(formats, out_format) {
+        return Err(Refusal::OutFormat);
+    }
+    let in_format = wire::read_bits(msg, FORMATS, 0, 4);
+    if !descriptors::is_agreed(formats, in_format) {
+        return Err(Refusal::InFormat);
+    }
     let out_count = wire::read8(msg, OUT_COUNT);
     let in_count = wire::read8(msg, IN_COUNT);
     let cdb = SHORTEST_CDB + 4 * (wire::read_bits(msg, ADDITIONAL, 2, 6) as usize);
     let out_at = CDB + cdb;
     let in_at = out_at + descriptors::size(out_format, out_count);
-    let end = in_at + descriptors::size(in_format, in_count);
-    let Length::Allowed = checks::length_is(msg.len(), end) else {
-        return Shaped::Unfit(Refusal::Length);
-    };
+    if msg.len() != in_at + descriptors::size(in_format, in_count) {
+        return Err(Refusal::Length);
+    }
     let out = descriptors::descriptor(msg, out_format, out_count, out_at);
-    let Count::Within = descriptors::count_of(out) else {
-        return Shaped::Unfit(Refusal::OutCount);
-    };
+    if descriptors::bad_count(out) {
+        return Err(Refusal::OutCount);
+    }
     let inn = descriptors::descriptor(msg, in_format, in_count, in_at);
-    let Count::Within = descriptors::count_of(inn) else {
-        return Shaped::Unfit(Refusal::InCount);
-    };
-    Shaped::Fit(Shape {
-        cdb: cdb,
-        out: out,
-        inn: inn,
-    })
+    if descriptors::bad_count(inn) {
+        return Err(Refusal::InCount);
+    }
+    Ok(Shape { cdb, out, inn })
 }
 
 // Look's refusals 2, 3, 4, and then those of a command.
-pub fn look_shape(msg: &[u8], agreed: u32, formats: u32) -> Shaped
-    ensures { ShapeRead (first_of_checks (look_checks agreed formats msg.now)) msg.now result }
+pub fn look_shape(msg: &[u8], agreed: u32, formats: u32) -> Result<Shape, Refusal>
+    ensures shape { result ≡ unless_bad (first_of_checks (look_checks agreed formats msg.now)) (Ok (shape_of (command_of_lem msg.now))) }
+    ensures fits { IfOk result (FitsShape msg.now) }
 {
-    let Setting::InRange = checks::setting_of(agreed, formats) else {
-        return Shaped::Unfit(Refusal::Setting);
-    };
-    let Length::Allowed = checks::length_in(msg.len(), SHORTEST_MESSAGE, agreed as usize) else {
-        return Shaped::Unfit(Refusal::Length);
-    };
-    let MessageType::SrpCmd = checks::type_of(wire::read8(msg, 0)) else {
-        return Shaped::Unfit(Refusal::OtherType);
-    };
+    if agreed < SHORTEST_AGREED || LONGEST_AGREED < agreed {
+        return Err(Refusal::Setting);
+    }
+    if wire::other_formats(BOTH_FORMATS, formats) {
+        return Err(Refusal::Setting);
+    }
+    if msg.len() < SHORTEST_MESSAGE || (agreed as usize) < msg.len() {
+        return Err(Refusal::Length);
+    }
+    if wire::read8(msg, 0) != COMMAND {
+        return Err(Refusal::OtherType);
+    }
     read_shape(msg, formats)
 }

@@ -1,11 +1,13 @@
 -- The first check that hits: what none of them, or the one that does, tells.
 -- Assumes nothing.
-use mathlib.Core.Path.{◌≡◌, refl, subst}
+use mathlib.Core.Path.{◌≡◌, refl, ap, subst}
 use mathlib.Core.Bool.{Bool, true, false, cond, ◌||◌, true≢false}
 use mathlib.Core.List.{List, [], ◌∷◌}
-use mathlib.Core.Option.{none, some, none-ne-some, some-ne-none, some-injective}
+use mathlib.Core.Option.{Option, none, some, none-ne-some, some-ne-none, some-injective}
+use Rattle.srp.specs.declared.Refusal.{Refusal}
 use Rattle.srp.specs.Lists.{All}
-use Rattle.srp.specs.Refusals.{first_of_checks}
+use Rattle.std.specs.declared.result.Result.TheVariants.{Ok, Err}
+use Rattle.srp.specs.Refusals.{unless_bad, first_of_checks}
 
 module _ {A : Type 0} where
   -- where none hits, every test is false
@@ -47,3 +49,24 @@ module _ (a b : Bool) where
 
   pub neither : a ≡ false → b ≡ false → (a || b) ≡ false
   neither e f = rw (e, f)
+
+-- ── an answer that no check refused, and a refused one
+
+module _ {A : Type 0} where
+  pub unhit : (o : Option Refusal) (m : A) {c : A} → unless_bad o (Ok m) ≡ Ok c → (o ≡ none) × (c ≡ m)
+  unhit none m e = (refl, cc)
+  unhit (some r) m e = cc
+
+  pub hit_by : (o : Option Refusal) (m : A) {r : Refusal} → unless_bad o (Ok m) ≡ Err r → o ≡ some r
+  hit_by none m e = cc
+  hit_by (some r) m e = cc
+
+-- what comes where none hits, or one
+module _ {B : Type 0} (x : B) (f : Refusal → B) where
+  pub none_hit : (o : Option Refusal) → o ≡ none → x ≡ elim o [ none ↦ x | some r ↦ f r ]
+  none_hit none e = refl
+  none_hit (some r) e = cc
+
+  pub some_hit : (o : Option Refusal) {r : Refusal} → o ≡ some r → f r ≡ elim o [ none ↦ x | some r ↦ f r ]
+  some_hit none e = cc
+  some_hit (some r) e = ap f (cc)

@@ -28,45 +28,28 @@ const NOT_SUPPORTED: u8 = 0x04;
 fn whole_lun(function: u8) -> bool
     ensures { result ≡ whole_lun_lem function }
 {
-    if function == ABORT_TASK_SET {
-        return true;
-    }
-    if function == CLEAR_TASK_SET {
-        return true;
-    }
-    function == LOGICAL_UNIT_RESET
+    matches!(
+        function,
+        ABORT_TASK_SET | CLEAR_TASK_SET | LOGICAL_UNIT_RESET
+    )
 }
 
 // Whether a task request aborts the open command that came as request r.
 pub fn aborts(t: TaskRequest, r: Request) -> bool
     ensures { result ≡ Rattle.srp.specs.Take.aborts t r }
 {
-    let of = t.request;
-    let function = t.function;
-    if of.lun != r.lun {
-        return false;
-    }
-    if whole_lun(function) {
-        return true;
-    }
-    if function != ABORT_TASK {
-        return false;
-    }
-    t.managed == r.tag
+    let reached = whole_lun(t.function) || (t.function == ABORT_TASK && t.managed == r.tag);
+    t.request.lun == r.lun && reached
 }
 
 // The RSP_CODE that answers a function.
 pub fn code_of(function: u8) -> u8
     ensures { result ≡ task_code function }
 {
-    if function == ABORT_TASK {
-        return COMPLETE;
+    match function {
+        ABORT_TASK => COMPLETE,
+        _ if whole_lun(function) => COMPLETE,
+        CLEAR_ACA => NOT_SUPPORTED,
+        _ => FIELDS_INVALID,
     }
-    if whole_lun(function) {
-        return COMPLETE;
-    }
-    if function == CLEAR_ACA {
-        return NOT_SUPPORTED;
-    }
-    FIELDS_INVALID
 }

@@ -1,33 +1,20 @@
 -- `command::look` meets its contract. By what the shape was read as.
---
-use mathlib.Core.Path.{sym, ap, ◌∙◌}
+use Rattle.std.proofs.Common.{sym, ap, ◌∙◌, rules, Ok}
 use Rattle.srp.specs.Refusals.{first_of_checks}
 use Rattle.srp.specs.Descriptors.{fetch_of}
-use Rattle.srp.specs.Requests.{out_descriptor, in_descriptor, command_of_lem, look_checks}
-use Rattle.srp.specs.declared.Look.TheVariants.{LookRefused, Fetches}
+use Rattle.srp.specs.Requests.{command_of_lem, look_checks}
+use Rattle.srp.proofs.Checks.{unhit, hit_by}
+use Rattle.command.specs.Reading.{shape_of}
 use Rattle.command.specs.declared.shape.Shape.{Shape}
-use Rattle.command.proofs.Refusing.{when_unfit, when_fit, when_bad, when_read, fits_shape}
 use Rattle.command.proofs.look.Goals as goal
 
-pub fetch-requires : goal.fetch-requires
-fetch-requires c =
-    (fits_shape c.in-Fit.is c.look_shape.ensures.1).out
-
-pub fetch-requires-in-Fit : goal.fetch-requires-in-Fit
-fetch-requires-in-Fit c =
-    (fits_shape c.in-Fit.is c.look_shape.ensures.1).inn
-
-pub returns-in-Unfit : goal.returns-in-Unfit
-returns-in-Unfit c =
+pub returns-in_err-shape : goal.returns-in_err-shape
+returns-in_err-shape c =
     let s = c.args.msg.now in
-    let o = first_of_checks (look_checks c.args.agreed c.args.formats s) in
-    let u = when_unfit o (command_of_lem s) (sym c.look_shape.ensures.0 ∙ c.in-Unfit.is) in
-    when_bad o (command_of_lem s) (Fetches (fetch_of (out_descriptor s) s) (fetch_of (in_descriptor s) s)) LookRefused (sym u)
+    rw (hit_by (first_of_checks (look_checks c.args.agreed c.args.formats s)) (shape_of (command_of_lem s)) (sym c.look_shape.ensures.shape ∙ c.in_err-shape.was)) (search rules)
 
-pub returns-in-Fit : goal.returns-in-Fit
-returns-in-Fit c =
+pub returns : goal.returns
+returns c =
     let s = c.args.msg.now in
-    let o = first_of_checks (look_checks c.args.agreed c.args.formats s) in
-    let u = when_fit o (command_of_lem s) (sym c.look_shape.ensures.0 ∙ c.in-Fit.is) in
-    let e = when_read o (command_of_lem s) (Fetches (fetch_of (out_descriptor s) s) (fetch_of (in_descriptor s) s)) LookRefused (sym u.1) in
-    rw (c.fetch.ensures, c.fetch-in-Fit.ensures) (ap (λ (x : Shape). Fetches (fetch_of x.out s) (fetch_of x.inn s)) u.0 ∙ e.0)
+    let u = unhit (first_of_checks (look_checks c.args.agreed c.args.formats s)) (shape_of (command_of_lem s)) (sym c.look_shape.ensures.shape ∙ c.in_ok-shape.was) in
+    rw (u.0, c.fetch.ensures, c.fetch-2.ensures) (ap (λ (x : Shape). Ok (record { out = fetch_of x.out s; inn = fetch_of x.inn s })) u.1)

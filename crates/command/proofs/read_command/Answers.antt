@@ -1,23 +1,17 @@
 -- `command::read_command` meets its contract. By what the shape was read as.
---
-use mathlib.Core.Path.{sym, ap, ◌∙◌}
+use Rattle.std.proofs.Common.{sym, ◌∙◌, rules}
 use Rattle.srp.specs.Refusals.{first_of_checks}
 use Rattle.srp.specs.Requests.{command_of_lem, command_checks}
-use Rattle.srp.specs.declared.Message.TheVariants.{Cmd}
-use Rattle.command.proofs.Refusing.{when_unfit, when_fit, fits_shape}
+use Rattle.srp.proofs.Checks.{unhit, hit_by}
+use Rattle.command.specs.Reading.{shape_of}
 use Rattle.command.proofs.read_command.Goals as goal
 
-pub command_of-requires : goal.command_of-requires
-command_of-requires c =
+pub returns-in_err-read_shape-clause-command : goal.returns-in_err-read_shape-clause-command
+returns-in_err-read_shape-clause-command c =
     let s = c.args.msg.now in
-    record { shape_value = (when_fit (first_of_checks (command_checks c.args.formats s)) (command_of_lem s) (sym c.read_shape.ensures.0 ∙ c.in-Fit.is)).0; fits_shape = fits_shape c.in-Fit.is c.read_shape.ensures.1 }
+    rw (hit_by (first_of_checks (command_checks c.args.formats s)) (shape_of (command_of_lem s)) (sym c.read_shape.ensures.shape ∙ c.in_err-read_shape.was)) (search rules)
 
-pub returns-in-Unfit : goal.returns-in-Unfit
-returns-in-Unfit c =
+pub command_of-requires-clause-shape_value : goal.command_of-requires-clause-shape_value
+command_of-requires-clause-shape_value c =
     let s = c.args.msg.now in
-    (when_unfit (first_of_checks (command_checks c.args.formats s)) (command_of_lem s) (sym c.read_shape.ensures.0 ∙ c.in-Unfit.is), tt)
-
-pub returns-in-Fit : goal.returns-in-Fit
-returns-in-Fit c =
-    let s = c.args.msg.now in
-    (ap Cmd c.command_of.ensures.0 ∙ (when_fit (first_of_checks (command_checks c.args.formats s)) (command_of_lem s) (sym c.read_shape.ensures.0 ∙ c.in-Fit.is)).1, c.command_of.ensures.1)
+    (unhit (first_of_checks (command_checks c.args.formats s)) (shape_of (command_of_lem s)) (sym c.read_shape.ensures.shape ∙ c.in_ok-read_shape.was)).1
