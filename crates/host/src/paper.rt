@@ -57,6 +57,15 @@ pub const IN_DIRECT: u8 = 0x01;
 
 pub const IN_INDIRECT: u8 = 0x02;
 
+// operations of disks, the first byte of a CDB: one without data; READ (10), WRITE (10) and XDWRITEREAD (10)
+pub const TEST_UNIT_READY: u8 = 0x00;
+
+pub const READ: u8 = 0x28;
+
+pub const WRITE: u8 = 0x2a;
+
+pub const WRITE_READ: u8 = 0x53;
+
 // SRP_TSK_MGMT
 pub const TASK_FUNCTION: usize = 30;
 
@@ -76,11 +85,6 @@ pub const TOTAL_LENGTH: usize = 16;
 pub const SEGMENT: usize = 16;
 
 pub const TABLE: usize = 20;
-
-// an SRP_CMD with one memory descriptor; where the descriptors stand of a table that is in the message
-pub const DIRECT_SIZE: usize = CMD_SIZE + SEGMENT;
-
-pub const ENTRIES: usize = CMD_SIZE + TABLE;
 
 // SRP_RSP; SRP_CRED_REQ has its delta and SRP_LOGIN_RSP its N at the same bytes
 pub const DELTA: usize = 4;

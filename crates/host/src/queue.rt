@@ -1,66 +1,57 @@
-// A queue of up to eight messages that keeps order: eight places of 256 bytes, each with a message's length and the message; then the number of the
-// oldest message's place, and how many there are.
-ghost use Rattle.std.specs.Prelude.{◌≤◌, length};
+// A queue of up to eight messages that keeps order.
+ghost use Rattle.std.specs.Prelude.{◌<◌, ◌≤◌};
 
-use crate::place;
+use crate::message::Message;
+use std::fmt;
 
-const PLACES: u8 = 8;
+const PLACES: usize = 8;
 
-const PLACE: usize = 256;
+// There are eight messages already.
+#[derive(Clone, Copy)]
+pub struct Full;
 
-const LONGEST: usize = 254;
-
-const FIRST: usize = (PLACES as usize) * PLACE;
-
-const COUNT: usize = FIRST + 1;
-
-// Bytes of a queue.
-pub const QUEUE: usize = COUNT + 1;
-
-// A message at a place, its length before it.
-fn put(q: &mut [u8; QUEUE], at: usize, msg: &[u8])
-    requires at_bound { at ≤ 1792 }
-    requires msg_len_bound { length msg.now ≤ 254 }
-{
-    wire::write8(&mut *q, at, msg.len() as u8);
-    place(q, at + 1, msg);
-}
-
-// One message joins, unless it has more than 254 bytes or there are eight.
-pub fn push(q: &mut [u8; QUEUE], msg: &[u8]) -> bool {
-    if LONGEST < msg.len() {
-        return false;
+impl fmt::Display for Full {
+    fn fmt<W: fmt::Write>(&self, f: &mut fmt::Formatter<W>) -> fmt::Result {
+        write!(f, "a message that the queue cannot take")
     }
-    let count = q[COUNT];
-    if PLACES <= count {
-        return false;
+}
+
+// The messages' places are used in a circle; `first` is the oldest message's.
+#[derive(Clone, Copy)]
+pub struct Queue {
+    places: [Message; PLACES],
+    first: usize,
+    count: usize,
+    ghost first_bound: { first < 8 },
+    ghost count_bound: { count ≤ 8 },
+}
+
+impl Queue {
+    pub fn new() -> Queue {
+        Queue {
+            places: [Message::new(); PLACES],
+            first: 0,
+            count: 0,
+        }
     }
-    let k = ((q[FIRST] % PLACES + count) % PLACES) as usize;
-    put(&mut *q, k * PLACE, msg);
-    wire::write8(q, COUNT, count + 1);
-    true
-}
 
-pub fn is_empty(q: &[u8; QUEUE]) -> bool {
-    q[COUNT] == 0
-}
-
-// The oldest message.
-pub fn front(q: &[u8; QUEUE]) -> &[u8] {
-    let at = ((q[FIRST] % PLACES) as usize) * PLACE;
-    let n = (q[at] % 255) as usize;
-    let start = at + 1;
-    let end = start + n;
-    let all = &q[..];
-    &all[start..end]
-}
-
-// The oldest message leaves.
-pub fn pop(q: &mut [u8; QUEUE]) {
-    let count = q[COUNT];
-    if count == 0 {
-        return;
+    pub fn push(&mut self, message: Message) -> Result<(), Full> {
+        if self.count == PLACES {
+            return Err(Full);
+        }
+        self.places[(self.first + self.count) % PLACES] = message;
+        self.count += 1;
+        Ok(())
     }
-    q[FIRST] = q[FIRST] % PLACES + 1;
-    q[COUNT] = count - 1;
+
+    // The oldest message leaves.
+    pub fn pop(&mut self) -> Option<Message> {
+        if self.count == 0 {
+            return None;
+        }
+        let oldest = self.places[self.first];
+        self.first = (self.first + 1) % PLACES;
+        self.count -= 1;
+        Some(oldest)
+    }
 }

@@ -1,117 +1,74 @@
 // Buffers that come and go; the counters and the listing.
-use crate::{WRITTEN, conclude};
-use host::queue::QUEUE;
-use host::{channel, show};
-use srp::{Record, Reply, limits};
+use crate::{Session, WRITTEN};
+use host::show;
+use srp::{Record, Reply};
 use std::io;
-use words::PORT;
-
-// as many commands as can be open
-const RECORDS: usize = limits::MOST_BUFFERS as usize;
+use words::SLOTS;
 
 // every number in the owner's list of records before a listing; no command of the programs has such a record
 const MARK: u32 = 0xffffffff;
 
-pub fn add(rt: &impl Print, port: &mut [u64; PORT], k: u32) -> io::Result<()> {
-    show::number(rt, b"   add ", k as u64)?;
-    show::end(rt)?;
-    show::refusal(rt, b"   ", credit::add(port, k))
-}
+const MARKED: Record = Record {
+    tag: MARK as u64,
+    lun: MARK as u64,
+    out: MARK,
+    inn: MARK,
+};
 
-pub fn withdraw(rt: &impl Print, port: &mut [u64; PORT], k: u32) -> io::Result<()> {
-    show::number(rt, b"   withdraw ", k as u64)?;
-    show::end(rt)?;
-    show::refusal(rt, b"   ", credit::withdraw(port, k))
-}
-
-pub fn grant(
-    rt: &impl Print,
-    port: &mut [u64; PORT],
-    to_initiator: &mut [u8; QUEUE],
-) -> io::Result<()> {
-    let mut buf = [0u8; WRITTEN];
-    show::text(rt, b"   grant\n")?;
-    let a = credit::grant(port, &mut buf);
-    conclude(rt, to_initiator, &buf, a)
-}
-
-// W, A, H and D, and the initiator's limit.
-pub fn show_counts(rt: &impl Print, port: &[u64; PORT], limit: u64) -> io::Result<()> {
-    show::text(rt, b"   counters: ")?;
-    match report::counters(port) {
-        Ok(Reply::Counts(c)) => show::counts(rt, c, limit),
-        r => show::refusal(rt, b"", r),
+// The open commands of a listing, and how much of the list behind them it left as it was.
+fn show_listed(rt: &impl Print, records: &[Record; SLOTS], n: usize) -> io::Result<()> {
+    for record in records.iter().take(n) {
+        show::record(rt, record)?;
     }
+    let rest = records.iter().skip(n);
+    let untouched = rest.take_while(|record| **record == MARKED).count();
+    println!(rt; "   the rest of the list: {untouched} records untouched")
 }
 
-// The oldest message to the initiator is delivered; the counters and the limit after that.
-pub fn deliver(
-    rt: &impl Print,
-    port: &[u64; PORT],
-    to_initiator: &mut [u8; QUEUE],
-    limit: u64,
-) -> io::Result<u64> {
-    let now = channel::deliver(rt, to_initiator, limit)?;
-    show_counts(rt, port, now)?;
-    Ok(now)
-}
+impl Session {
+    pub fn add(&mut self, rt: &impl Print, k: u32) -> io::Result<()> {
+        println!(rt; "   add {k}")?;
+        show::refusal(rt, "   ", credit::add(&mut self.port, k))
+    }
 
-fn show_records(rt: &impl Print, records: [Record; RECORDS], n: usize) -> io::Result<()> {
-    let mut i: usize = 0;
-    while i < RECORDS {
-        if n <= i {
-            return Ok(());
+    pub fn withdraw(&mut self, rt: &impl Print, k: u32) -> io::Result<()> {
+        println!(rt; "   withdraw {k}")?;
+        show::refusal(rt, "   ", credit::withdraw(&mut self.port, k))
+    }
+
+    pub fn grant(&mut self, rt: &impl Print) -> io::Result<()> {
+        let mut buf = [0u8; WRITTEN];
+        println!(rt; "   grant")?;
+        let a = credit::grant(&mut self.port, &mut buf);
+        self.conclude(rt, &buf, a)
+    }
+
+    // W, A, H and D, and the initiator's limit.
+    pub fn show_counts(&self, rt: &impl Print) -> io::Result<()> {
+        print!(rt; "   counters: ")?;
+        match report::counters(&self.port) {
+            Reply::Counts(c) => show::counts(rt, c, self.channel.limit),
+            r => show::refusal(rt, "", r),
         }
-        show::record(rt, records[i])?;
-        i += 1;
     }
-    Ok(())
-}
 
-fn marked() -> Record {
-    Record {
-        tag: MARK as u64,
-        lun: MARK as u64,
-        out: MARK,
-        inn: MARK,
+    // The initiator receives the oldest message to it.
+    pub fn receive(&mut self, rt: &impl Print) -> io::Result<()> {
+        self.channel.receive(rt)
     }
-}
 
-fn is_marked(r: Record) -> bool {
-    r.tag == MARK as u64 && r.lun == MARK as u64 && r.out == MARK && r.inn == MARK
-}
+    // The same, and the counters and the limit after that.
+    pub fn deliver(&mut self, rt: &impl Print) -> io::Result<()> {
+        self.receive(rt)?;
+        self.show_counts(rt)
+    }
 
-// How many records behind the first n are as they were, up to one that is not.
-fn untouched(records: [Record; RECORDS], n: usize) -> usize {
-    let mut i = n;
-    while i < RECORDS {
-        if !is_marked(records[i]) {
-            return i - n;
+    // The open commands, listed into a list of the owner's.
+    pub fn show_list(&self, rt: &impl Print) -> io::Result<()> {
+        let list = report::lend(&self.port, [MARKED; SLOTS]);
+        match list.reply {
+            Reply::Listed(n) => show_listed(rt, &list.records, n),
+            r => show::refusal(rt, "   ", r),
         }
-        i += 1;
-    }
-    i - n
-}
-
-// The open commands of a listing, and what it left of the list.
-fn show_listed(rt: &impl Print, records: [Record; RECORDS], n: usize) -> io::Result<()> {
-    show_records(rt, records, n)?;
-    show::number(
-        rt,
-        b"   the rest of the list: ",
-        untouched(records, n) as u64,
-    )?;
-    show::text(rt, b" records untouched\n")
-}
-
-// The open commands, listed into a list of the owner's.
-pub fn show_list(rt: &impl Print, port: &[u64; PORT]) -> io::Result<()> {
-    let blank = marked();
-    let list = report::lend(port, [blank; RECORDS]);
-    let reply = list.reply;
-    let records = list.records;
-    match reply {
-        Ok(Reply::Listed(n)) => show_listed(rt, records, n),
-        r => show::refusal(rt, b"   ", r),
     }
 }

@@ -1,20 +1,21 @@
 // The port's owner, for the programs that show and test the port: each call and each RDMA operation is shown as it goes by, and what the port writes
-// joins the queue to the initiator.
+// goes to the initiator.
 #![tactic(auto)]
 
 mod buffers;
+mod logins;
 mod requests;
-mod session;
 
-pub use buffers::{add, deliver, grant, show_counts, show_list, withdraw};
-use host::queue::QUEUE;
-use host::{first, queue, show};
-pub use requests::{
-    bring, end, finish, move_data, move_part, name_move, plan, step, take, take_fetching, turn,
-};
-pub use session::{close, log_in, show_division, submit_login, take_login};
+ghost use Rattle.std.specs.Prelude.{◌≤◌, length};
+
+use host::channel::Channel;
+use host::message::Message;
+use host::show;
+pub use logins::show_division;
+pub use requests::Fetches;
 use srp::{Answer, limits};
 use std::io;
+use words::{PORT, STORE};
 
 // What the port writes in a call.
 const WRITTEN: usize = limits::LONGEST_WRITTEN_MESSAGE as usize;
@@ -24,25 +25,47 @@ const AGREED: u32 = limits::LONGEST_AGREED;
 
 const FORMATS: u32 = limits::BOTH_FORMATS;
 
-// What a call wrote joins the queue to the initiator.
-fn send(rt: &impl Print, to_initiator: &mut [u8; QUEUE], buf: &[u8], n: usize) -> io::Result<()> {
-    if n == 0 {
-        return Ok(());
-    }
-    if !queue::push(to_initiator, first(buf, n)) {
-        show::text(rt, b"a message that the queue cannot take\n")?;
-    }
-    Ok(())
+// The port, the store that it is lent, and the channel between it and an initiator.
+#[derive(Clone, Copy)]
+pub struct Session {
+    port: [u64; PORT],
+    store: [u8; STORE],
+    channel: Channel,
 }
 
-// The same, and a refusal is shown.
-fn conclude(
-    rt: &impl Print,
-    to_initiator: &mut [u8; QUEUE],
-    buf: &[u8],
-    a: Answer,
-) -> io::Result<()> {
-    let reply = a.reply;
-    show::refusal(rt, b"   ", reply)?;
-    send(rt, to_initiator, buf, a.wrote)
+// The first n bytes, none where there are fewer.
+fn first(bytes: &[u8], n: usize) -> &[u8]
+    ensures { length result.now ≤ length bytes.now }
+{
+    bytes.get(..n).unwrap_or(&[])
+}
+
+impl Session {
+    // A closed port, and nothing under way.
+    pub fn new() -> Session {
+        Session {
+            port: [0; PORT],
+            store: [0; STORE],
+            channel: Channel::new(),
+        }
+    }
+
+    // The initiator sends a message.
+    pub fn submit(&mut self, rt: &impl Print, message: Message) -> io::Result<()> {
+        self.channel.submit(rt, message)
+    }
+
+    // What a call wrote goes to the initiator.
+    fn send(&mut self, rt: &impl Print, written: &[u8; WRITTEN], n: usize) -> io::Result<()> {
+        if n == 0 {
+            return Ok(());
+        }
+        self.channel.answer(rt, Message::copy_of(first(written, n)))
+    }
+
+    // The same, and a refusal is shown.
+    fn conclude(&mut self, rt: &impl Print, written: &[u8; WRITTEN], a: Answer) -> io::Result<()> {
+        show::refusal(rt, "   ", a.reply)?;
+        self.send(rt, written, a.wrote)
+    }
 }

@@ -1,9 +1,0 @@
--- at most 64 pieces
-use Rattle.std.proofs.Common.{◌-◌, ◌≤◌}
-use Rattle.owner.proofs.requests.step_all.Given as goal
-
-abbrev pub invariant-loop-k : goal.invariant-loop-k
-invariant-loop-k g l = l.k ≤ 64
-
-abbrev pub decreases-loop-k : goal.decreases-loop-k
-decreases-loop-k g l = 64 - l.k
