@@ -1,5 +1,4 @@
 pub mod Checks
 pub mod Pieces
-pub mod HandingOut
 pub mod Handing
 pub mod Turns

@@ -3,14 +3,14 @@
 use mathlib.Core.Path.{◌≡◌, refl, sym, ◌∙◌}
 use mathlib.Core.List.{List}
 use mathlib.Core.Option.{Option, none, some}
-use Prim.Native.Nat.{ℕ, ◌+◌, ◌-◌, ◌*◌, ◌^◌, ◌≤◌, ◌<◌, min, max}
+use Prim.Native.Nat.{ℕ, ◌+◌, ◌-◌, ◌*◌, ◌^◌, ◌≤◌, ◌<◌, min}
 use native.Mathlib.Omega.{arith}
 use lib.ListN.{take, drop}
 use Rattle.srp.specs.Descriptors.{segments_of}
 use Rattle.srp.specs.Cutting.{next, trimmed}
 use Rattle.srp.specs.Both.{of}
 use Rattle.srp.specs.Credit.{Side, on_side, rule_of}
-use Rattle.srp.specs.Calls.{moving, handing, next_in, wrapped}
+use Rattle.srp.specs.Calls.{moving, next_in, wrapped}
 use Rattle.srp.specs.declared.Direction.{Direction}
 use Rattle.srp.specs.declared.Direction.TheVariants.{Out, In}
 use Rattle.srp.specs.declared.Terms.{Terms}
@@ -45,17 +45,6 @@ module _ (st : List ℕ) (c : Slot) (d : Direction) {p : Part} (e : p ≡ part_f
       by : (d : Direction)
           → open_of st (moved_slot d (part_for d c).transfer.highest offset (trimmed offset count (min (part_for d c).transfer.required (part_for d c).total)) 0 c)
           ≡ on_side d (moving offset count) (open_of st c)
-      by Out = refl
-      by In = refl
-
-  -- with a piece more of n bytes handed out it is the command with it
-  pub handed_open : (n : ℕ) {to h : ℕ} → to ≡ p.transfer.at + n → h ≡ max p.transfer.highest to
-      → open_of st (moved_slot d h to p.transfer.end (p.transfer.number + 1) c) ≡ on_side d (handing n) (open_of st c)
-  handed_open n f g = rw (g, f, e) (by d)
-    where
-      by : (d : Direction)
-          → open_of st (moved_slot d (max (part_for d c).transfer.highest ((part_for d c).transfer.at + n)) ((part_for d c).transfer.at + n) (part_for d c).transfer.end ((part_for d c).transfer.number + 1) c)
-          ≡ on_side d (handing n) (open_of st c)
       by Out = refl
       by In = refl
 

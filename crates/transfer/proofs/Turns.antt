@@ -1,34 +1,31 @@
 -- Turn: the first move of the line served, or none to serve.
 -- Assumes nothing.
 use mathlib.Core.Path.{◌≡◌, refl, sym, ◌∙◌, ap}
-use mathlib.Core.Bool.{Bool, true, false}
+use mathlib.Core.Bool.{Bool, true}
 use mathlib.Core.List.{List, ◌∷◌}
 use mathlib.Core.Option.{Option, some}
 use Prim.Native.Nat.{ℕ, ◌≤◌}
 use native.Mathlib.Omega.{arith}
-use lib.ListN.{length, get_or, take, drop}
+use lib.ListN.{get_or, drop}
 use lib.Seq.{drop-cons, get_or-take}
-use Rattle.std.specs.Prelude.{Result, Ok, Err, None}
+use Rattle.std.specs.Prelude.{Result, Ok, None}
 use Rattle.srp.specs.Credit.{Open, Port}
 use Rattle.srp.specs.Line.{put_back}
-use Rattle.srp.specs.Take.{silent}
 use Rattle.srp.specs.Calls.{handing, next_of, number_in, serve, serve_first, turn_def}
 use Rattle.srp.specs.declared.Direction.{Direction}
 use Rattle.srp.specs.declared.Piece.{Piece}
 use Rattle.srp.specs.declared.Place.{Place}
-use Rattle.srp.specs.declared.Refusal.TheVariants.{Closed}
 use Rattle.srp.specs.declared.Reply.{Reply}
 use Rattle.srp.specs.declared.Reply.TheVariants.{Served, Idle}
 use Rattle.words.specs.Line.{count, ring, line}
-use Rattle.words.specs.Head.{head_of, SlotChanged}
+use Rattle.words.specs.Head.{head_of}
 use Rattle.words.specs.View.{view}
-use Rattle.words.specs.declared.Slot.{Slot}
 use Rattle.words.proofs.Ports.{view_live}
 use Rattle.line.specs.Changes.{no_place, LineChanged}
 use Rattle.line.proofs.Ring.{line_long}
 use Rattle.state.specs.Changes.{FoundAt, FoundIs}
-use Rattle.state.proofs.Promises.{refused, replies_by, performed, found_none}
-use Rattle.transfer.specs.Stepping.{command_at, side_at, HandsNone, HandsOne}
+use Rattle.state.proofs.Promises.{replies_by, performed, found_none}
+use Rattle.transfer.specs.Stepping.{command_at, side_at, HandsOne}
 use Rattle.transfer.specs.Turning.{Turns, FirstIs, Serves}
 use Rattle.transfer.proofs.Handing.{view_line, altered_view, found_next, found_number}
 use Rattle.srp.specs.declared.Refusal.{Refusal}
@@ -42,33 +39,17 @@ first_is l {n} x c ne e =
       first = drop-cons (line l) 0 no_place (omega (arith, line_long l, some)) ∙ ap (λ (y : Place). y ∷ drop 1 (line l)) (get_or-take (count l) (ring l) 0 no_place some ∙ sym e);
     }
 
--- a slot that changes leaves it
-pub first_stays : {l l' : List ℕ} {i : ℕ} {f : Slot → Slot} {x : Place} → SlotChanged l l' i f → FirstIs l x → 1 ≤ count l'
-first_stays {l} {l'} C I = omega (arith, ap length C.line, line_long l, line_long l', I.some)
-
 -- an open port's turn
 turn_open : (p : Port) → p.live ≡ true → turn_def p ≡ serve_first p p.line
 turn_open p e = rw e refl
 
-turn_closed : (p : Port) → p.live ≡ false → turn_def p ≡ silent p (Err Closed)
-turn_closed p e = rw e refl
-
 -- ── the call
 
 module _ (l st : List ℕ) where
-  -- 21
-  pub turns_closed : (view l st).live ≡ false → Turns l l st (Err Closed)
-  turns_closed e = record { replies = replies_by (turn_closed (view l st) e) (refused l st Closed); idle = λ q. refl }
-
   module _ (live : (head_of l).live ≡ true) where
     -- what it comes to by the line
     by_line : {x : List Place} → line l ≡ x → turn_def (view l st) ≡ serve_first (view l st) x
     by_line e = turn_open (view l st) (view_live l st ∙ live) ∙ ap (serve_first (view l st)) (view_line l st live ∙ e)
-
-    -- an empty line
-    pub turns_idle : {n : ℕ} → n ≡ count l → n ≡ 0 → Turns l l st (Ok Idle)
-    turns_idle c e =
-        record { replies = replies_by (by_line (ap (λ (k : ℕ). take k (ring l)) (sym c ∙ e))) (performed refl refl refl refl); idle = λ q. refl }
 
     -- a place whose command is not open
     pub turns_unknown : {x : Place} → FirstIs l x → FoundIs l x.tag None → Turns l l st (Ok Idle)
@@ -97,11 +78,6 @@ module _ {l : List ℕ} {x : Place} {i : ℕ} (F : FoundAt l x.tag i) (live : (h
   serve_by e f =
       ap (serve_first (view l st)) (view_line l st live ∙ I.first)
       ∙ (λ k. serve (view l st) x (drop 1 (line l)) ((found_number F live st d ∙ sym e) k) ((found_next F live st d ∙ f) k))
-
-  -- it has no piece
-  pub serves_none : {l' : List ℕ} {n : ℕ} → HandsNone l l' st i d n → Serves l l' st (Ok Idle)
-  serves_none H =
-      record { replies = replies_by (serve_by refl H.next) (performed refl (ap (λ (q : List ℕ). view q st) H.same) refl refl); idle = λ q. H.same }
 
   -- its piece
   pub serves_one : {l' l'' : List ℕ} {o : Piece} {n : ℕ} {more : Bool} → HandsOne l l' st i d o n more → LineChanged l' l'' (λ q. put_back more x (drop 1 q))

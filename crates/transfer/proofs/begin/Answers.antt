@@ -4,18 +4,8 @@ use Prim.Native.Nat.{ℕ, ◌+◌, min}
 use lib.ListN.{get_or}
 use Rattle.words.specs.Slots.{slots, no_slot}
 use Rattle.transfer.proofs.Pieces.{named_open}
-use Rattle.transfer.proofs.Handing.{too_far, under_way, begun_empty, begun}
+use Rattle.transfer.proofs.Handing.{begun_empty, begun}
 use Rattle.transfer.proofs.begin.Goals as goal
-
-pub returns-then-movable-offset : goal.returns-then-movable-offset
-returns-then-movable-offset c =
-    let a = c.args in
-    too_far c.requires.found_at c.requires.s_value a.d a.offset a.count c.load_part-p.ensures c.requires.no_slot_value c.requires.no_slot_value_2 (rw c.min-movable.ensures at c.if-movable-offset.true)
-
-pub returns-then-t : goal.returns-then-t
-returns-then-t c =
-    let a = c.args in
-    under_way c.requires.found_at c.requires.s_value a.d a.offset a.count c.load_part-p.ensures c.requires.no_slot_value c.requires.no_slot_value_2 (rw c.min-movable.ensures at c.if-movable-offset.false) c.if-t.true
 
 pub returns-then-end-offset : goal.returns-then-end-offset
 returns-then-end-offset c =

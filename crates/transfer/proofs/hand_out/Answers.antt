@@ -1,6 +1,5 @@
 -- `transfer::hand_out` meets its contract.
 use native.Mathlib.Omega.{arith}
-use Prim.Native.Nat.{◌+◌, ◌^◌, ◌≤◌, ◌<◌}
 use Rattle.words.specs.Slots.{place_at_lem}
 use Rattle.transfer.proofs.Pieces.{next_fits}
 use borrow.Author.Rules.{rules}

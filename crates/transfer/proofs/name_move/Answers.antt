@@ -8,10 +8,10 @@ pub returns-in_err-open_head : goal.returns-in_err-open_head
 returns-in_err-open_head c =
     let a = c.args in
     λ st. let p = view a.s.now st in
-      refuses_closed a.s.now st (move_outcome p a.tag a.d a.offset a.count) (move_checks p a.tag a.d a.offset) c.from_residual.result c.from_residual.ensures.1 c.in_err-open_head.ensures
+    refuses_closed a.s.now st (move_outcome p a.tag a.d a.offset a.count) (move_checks p a.tag a.d a.offset) c.from_residual.result c.from_residual.ensures.1 c.in_err-open_head.ensures
 
 pub returns-in_err-i : goal.returns-in_err-i
 returns-in_err-i c =
     let a = c.args in
     λ st. let p = view a.s.now st in
-      refuses_unready a.s.now st (move_outcome p a.tag a.d a.offset a.count) (move_checks p a.tag a.d a.offset) c.from_residual-in_err-i.result c.from_residual-in_err-i.ensures.1 c.in_ok-open_head.ensures.live a.tag c.in_err-i.ensures
+    refuses_unready a.s.now st (move_outcome p a.tag a.d a.offset a.count) (move_checks p a.tag a.d a.offset) c.from_residual-in_err-i.result c.from_residual-in_err-i.ensures.1 c.in_ok-open_head.ensures.live a.tag c.in_err-i.ensures

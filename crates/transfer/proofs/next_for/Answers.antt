@@ -11,10 +11,6 @@ use Rattle.cut.proofs.Pieces.{ended_next}
 use Rattle.transfer.proofs.Pieces.{next_part}
 use Rattle.transfer.proofs.next_for.Goals as goal
 
-pub end_at_boundary-requires : goal.end_at_boundary-requires
-end_at_boundary-requires c =
-    c.load_boundary.ensures.1
-
 pub returns : goal.returns
 returns c =
     let a = c.args in

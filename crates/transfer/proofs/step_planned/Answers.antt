@@ -1,6 +1,6 @@
 -- `transfer::step_planned` meets its contract.
-use Rattle.transfer.specs.Stepping.{HandsNone, HandsOne}
-use Rattle.transfer.proofs.Handing.{none_left, more_left, last_handed}
+use Rattle.transfer.specs.Stepping.{HandsOne}
+use Rattle.transfer.proofs.Handing.{more_left, last_handed}
 use Rattle.transfer.proofs.step_planned.Goals as goal
 
 pub returns-then-more : goal.returns-then-more
@@ -8,12 +8,6 @@ returns-then-more c =
     let a = c.args in
     let H : HandsOne a.s.now c.hand_out.new.s a.store.now a.i a.d c.in-One.piece c.in-One.n c.in-One.more = rw c.in-One.is at c.hand_out.ensures in
     more_left c.requires.found_at c.requires.s_value a.store.now a.d H c.if-more.true c.from.ensures
-
-pub returns-in-Nothing : goal.returns-in-Nothing
-returns-in-Nothing c =
-    let a = c.args in
-    let H : HandsNone a.s.now c.hand_out.new.s a.store.now a.i a.d c.in-Nothing.n = rw c.in-Nothing.is at c.hand_out.ensures in
-    none_left c.requires.found_at c.requires.s_value a.store.now a.d H
 
 pub returns-else-more : goal.returns-else-more
 returns-else-more c =
