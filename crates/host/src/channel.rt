@@ -6,7 +6,7 @@ use page::Way;
 use std::io;
 
 // The messages under way in each direction, and the initiator's request limit.
-#[derive(Clone, Copy)]
+#[derive(Drop)]
 pub struct Channel {
     pub to_port: Queue,
     pub to_initiator: Queue,

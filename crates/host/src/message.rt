@@ -37,6 +37,9 @@ fn put_names(bytes: &mut [u8; LONGEST], tag: u64, lun: u64) {
 }
 
 impl Message {
+    ghost use Rattle.std.specs.Prelude.{take};
+    ghost use Rattle.host.specs.Messages.{sent, costs, raises};
+
     // No bytes.
     pub fn new() -> Message
         ensures { result.len ≡ 0 }
@@ -49,7 +52,7 @@ impl Message {
 
     pub fn copy_of(bytes: &[u8]) -> Message
         requires { length bytes.now ≤ 256 }
-        ensures { result.len ≡ length bytes.now }
+        ensures { sent result ≡ bytes.now }
     {
         let len = bytes.len();
         let mut all = [0u8; LONGEST];
@@ -58,7 +61,7 @@ impl Message {
     }
 
     pub fn bytes(&self) -> &[u8]
-        ensures { length result.now ≡ self.now.len }
+        ensures { result.now ≡ sent self.now }
     {
         &self.bytes[..self.len]
     }
@@ -66,7 +69,7 @@ impl Message {
     // Its first bytes.
     pub fn first(self, len: usize) -> Message
         requires { len ≤ self.len }
-        ensures { result.len ≡ len }
+        ensures { sent result ≡ take len (sent self) }
     {
         let bytes = self.bytes;
         Message { bytes, len }
@@ -217,12 +220,16 @@ impl Message {
     }
 
     // A request takes one off the request limit.
-    pub fn is_request(&self) -> bool {
+    pub fn is_request(&self) -> bool
+        ensures { result ≡ costs (sent self.now) }
+    {
         matches!(self.bytes(), [COMMAND | TSK_MGMT, ..])
     }
 
     // What a message from the port adds to the request limit.
-    pub fn delta(&self) -> u32 {
+    pub fn delta(&self) -> u32
+        ensures { result ≡ raises (sent self.now) }
+    {
         let bytes = self.bytes();
         if bytes.len() < SHORTEST {
             return 0;

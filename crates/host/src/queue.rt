@@ -1,8 +1,10 @@
-// A queue of up to eight messages that keeps order.
-ghost use Rattle.std.specs.Prelude.{◌<◌, ◌≤◌};
+// A queue of up to eight messages that keeps order. In a clause it is the list of its messages, oldest first.
+ghost use Rattle.std.specs.Prelude.{◌≡◌, ◌≤◌, ◌<◌, List, [], ◌∷◌, ◌++◌, take, length, MatchOption, MatchResult};
+ghost use Rattle.host.specs.declared.message.Message.{Message};
 
 use crate::message::Message;
 use std::fmt;
+use std::marker::Model;
 
 const PLACES: usize = 8;
 
@@ -16,41 +18,55 @@ impl fmt::Display for Full {
     }
 }
 
-// The messages' places are used in a circle; `first` is the oldest message's.
-#[derive(Clone, Copy)]
+// The oldest message is first; what is behind the first `count` is not read.
+#[derive(Drop)]
 pub struct Queue {
-    places: [Message; PLACES],
-    first: usize,
+    messages: [Message; PLACES],
     count: usize,
-    ghost first_bound: { first < 8 },
-    ghost count_bound: { count ≤ 8 },
+}
+
+impl Model for Queue {
+    ghost Value = { List Message };
+
+    ghost view = { λ q. take q.count q.messages };
+
+    ghost invariant = { λ q. q.count ≤ 8 };
 }
 
 impl Queue {
-    pub fn new() -> Queue {
+    pub fn new() -> Queue
+        ensures { result ≡ [] }
+    {
         Queue {
-            places: [Message::new(); PLACES],
-            first: 0,
+            messages: [Message::new(); PLACES],
             count: 0,
         }
     }
 
-    pub fn push(&mut self, message: Message) -> Result<(), Full> {
+    pub fn push(&mut self, message: Message) -> Result<(), Full>
+        ensures { MatchResult result
+            (λ _. (length self.old < 8) × (self.new ≡ self.old ++ message ∷ []))
+            (λ _. (length self.old ≡ 8) × (self.new ≡ self.old)) }
+    {
         if self.count == PLACES {
             return Err(Full);
         }
-        self.places[(self.first + self.count) % PLACES] = message;
+        self.messages[self.count] = message;
         self.count += 1;
         Ok(())
     }
 
     // The oldest message leaves.
-    pub fn pop(&mut self) -> Option<Message> {
+    pub fn pop(&mut self) -> Option<Message>
+        ensures { MatchOption result
+            ((self.old ≡ []) × (self.new ≡ []))
+            (λ oldest. self.old ≡ oldest ∷ self.new) }
+    {
         if self.count == 0 {
             return None;
         }
-        let oldest = self.places[self.first];
-        self.first = (self.first + 1) % PLACES;
+        let oldest = self.messages[0];
+        self.messages.rotate_left(1);
         self.count -= 1;
         Some(oldest)
     }

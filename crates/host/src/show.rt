@@ -46,26 +46,17 @@ pub fn operation(rt: &impl Print, kind: Kind, p: Piece, n: u32) -> io::Result<()
         Kind::Read => "Read ",
         Kind::Write => "Write",
     };
-    let Piece {
-        address,
-        handle,
-        len,
-        offset,
-    } = p;
     println!(rt;
-        "   RDMA {name} handle {handle:08x} address {address:016x} length {len} offset {offset} number {n}"
+        "   RDMA {name} handle {:08x} address {:016x} length {} offset {} number {n}",
+        p.handle, p.address, p.len, p.offset
     )
 }
 
 // The fetch of a table.
 pub fn fetch(rt: &impl Print, f: Fetch) -> io::Result<()> {
-    let Fetch {
-        address,
-        handle,
-        len,
-    } = f;
     println!(rt;
-        "   RDMA Read  handle {handle:08x} address {address:016x} length {len} (the table of descriptors)"
+        "   RDMA Read  handle {:08x} address {:016x} length {} (the table of descriptors)",
+        f.handle, f.address, f.len
     )
 }
 

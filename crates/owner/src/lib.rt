@@ -26,7 +26,7 @@ const AGREED: u32 = limits::LONGEST_AGREED;
 const FORMATS: u32 = limits::BOTH_FORMATS;
 
 // The port, the store that it is lent, and the channel between it and an initiator.
-#[derive(Clone, Copy)]
+#[derive(Drop)]
 pub struct Session {
     port: [u64; PORT],
     store: [u8; STORE],
