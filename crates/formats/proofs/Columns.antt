@@ -1,43 +1,32 @@
 -- A number's columns, the counts of an agreement, and that the table is its page. Assumes nothing.
 use mathlib.Core.Path.{◌≡◌, sym, ap, ◌∙◌}
 use mathlib.Core.Bool.{false}
-use mathlib.Core.List.{List, ◌++◌}
+use mathlib.Core.List.{List, [], ◌∷◌, ◌++◌, append-nil}
 use Prim.Native.Nat.{ℕ, ◌+◌, ◌/◌, ◌≤◌, ◌<◌}
 use native.Mathlib.Omega.{arith}
 use borrow.Author.Tests.{lt-ltb, le-ltb}
-use lib.ListN.{length}
+use lib.ListN.{length, take, get_or}
 use Rattle.srp.specs.Limits.{both_formats}
 use Rattle.srp.specs.Outside.{decimal}
 use Rattle.srp.specs.Requests.{other_formats_lem}
-use Rattle.srp.specs.declared.Refusal.{Refusal}
 use Rattle.text.specs.Codes.{codes}
 use Rattle.text.proofs.Digits.{length_one, length_more}
-use Rattle.division.specs.Dividing.{values, division, divide_def, formula}
+use Rattle.division.specs.Dividing.{division, divide_def, formula}
 use Rattle.division.specs.declared.Division.{Division}
 use Rattle.division.specs.declared.Divided.{Divided}
-use Rattle.division.specs.declared.Divided.TheVariants.{Refused, Counts}
+use Rattle.division.specs.declared.Divided.TheVariants.{Counts}
 use Rattle.division.proofs.Rows.{each_agreement}
-use Rattle.formats.specs.Table.{aligned, line, head, IsPage}
+use Rattle.std.specs.Prelude.{flat_map}
+use Rattle.std.proofs.lemmas.List.{flat_map_more, take_more}
+use Rattle.formats.specs.Table.{aligned, line, agreement, head, table, IsPage}
 
 -- ── a number
 
 length_two : (n : ℕ) → 10 ≤ n → n < 100 → length (decimal n) ≡ 2
 length_two n h k = length_more n h (omega arith) ∙ ap (λ (x : ℕ). x + 1) (length_one (n / 10) (omega arith))
 
-length_three : (n : ℕ) → 100 ≤ n → n < 1000 → length (decimal n) ≡ 3
-length_three n h k = length_more n (omega arith) (omega arith) ∙ ap (λ (x : ℕ). x + 1) (length_two (n / 10) (omega arith) (omega arith))
-
--- by its digits
-module _ (n : ℕ) where
-  pub ones : n < 10 → (aligned n ≡ codes "  " ++ decimal n) × (length (decimal n) ≡ 1)
-  ones h = (rw (lt-ltb n 10 h), length_one n h)
-
-  module _ (ten : 10 ≤ n) where
-    pub tens : n < 100 → (aligned n ≡ codes " " ++ decimal n) × (length (decimal n) ≡ 2)
-    tens h = (rw (le-ltb n 10 ten, lt-ltb n 100 h), length_two n ten h)
-
-    pub hundreds : 100 ≤ n → n ≤ values → (aligned n ≡ decimal n) × (length (decimal n) ≡ 3)
-    hundreds h k = (rw (le-ltb n 10 ten, le-ltb n 100 h), length_three n h (omega arith))
+pub tens : (n : ℕ) → 10 ≤ n → n < 100 → (aligned n ≡ codes " " ++ decimal n) × (length (decimal n) ≡ 2)
+tens n h k = (rw (le-ltb n 10 h, lt-ltb n 100 k), length_two n h k)
 
 -- ── an agreement
 
@@ -46,16 +35,32 @@ module _ (formats : ℕ) (known : other_formats_lem both_formats formats ≡ fal
   pub counted : r ≡ Counts (division formats)
   counted = e ∙ rw known
 
-  pub never_refused : (f : Refusal) → r ≡ Refused f → ⊥
-  never_refused f q =
-      let c : Refused f ≡ Counts (division formats) = sym q ∙ counted in
-      let z : ◌≡◌ {A = ℕ} 0 1 = cc in
-      omega arith
-
   pub the_counts : (d : Division) → r ≡ Counts d → d ≡ division formats
   the_counts d q = let c : Counts d ≡ Counts (division formats) = sym q ∙ counted in cc
 
 -- ── the table
+
+-- the agreements, none to both
+abbrev pub agreements : List ℕ
+agreements = 0x0000 ∷ 0x0002 ∷ 0x0004 ∷ 0x0006 ∷ []
+
+-- the head, and the lines of the first k
+pub upto : ℕ → List ℕ
+upto k = head ++ flat_map agreement (take k agreements)
+
+pub upto_none : head ≡ upto 0
+unfolding upto
+upto_none = sym (append-nil head)
+
+pub upto_more : (k : ℕ) → k < 4 → upto k ++ agreement (get_or agreements k 0) ≡ upto (k + 1)
+unfolding upto
+upto_more k h =
+    flat_map_more agreement head (take k agreements) (get_or agreements k 0)
+    ∙ ap (λ (l : List ℕ). head ++ flat_map agreement l) (sym (take_more agreements k 0 h))
+
+pub upto_all : upto 4 ≡ table
+unfolding upto
+upto_all = ap (λ (l : List ℕ). head ++ (agreement 0x0000 ++ (agreement 0x0002 ++ (agreement 0x0004 ++ l)))) (append-nil (agreement 0x0006))
 
 -- with these counts
 abbrev table_of : (none direct indirect both : Division) → List ℕ

@@ -1,10 +1,8 @@
 -- One character more: what a line has without its spaces, and the values of its digits.
 -- Assumes nothing.
 use Rattle.std.specs.Prelude.{Option, Some, None}
-use Rattle.std.proofs.Common.{◌≡◌, ℕ, ◌+◌, ◌-◌, ◌<◌, ◌≤◌, Bool, true, false, cond, ◌&&◌, eqb, leb, List, [], ◌∷◌, ◌++◌, sym, refl, ap, ◌∙◌, arith, le-leb, leb-true}
-use mathlib.Core.Bool.{and-false}
+use Rattle.std.proofs.Common.{◌≡◌, ℕ, ◌+◌, ◌-◌, ◌<◌, ◌≤◌, Bool, true, false, cond, eqb, leb, List, [], ◌∷◌, ◌++◌, sym, refl, ap, ◌∙◌, arith, leb-true}
 use Prim.Native.Char.{code}
-use borrow.Author.Tests.{lt-leb}
 use Rattle.srp.proofs.ListLaws.{cond_out}
 use Rattle.srp.proofs.FieldLaws.{both}
 use Rattle.page.specs.declared.Way.TheVariants.{Towards, From}

@@ -1,15 +1,11 @@
 -- What is printed at the end of a line.
 -- Assumes nothing.
-use Rattle.std.proofs.Common.{◌≡◌, ℕ, ◌+◌, ◌/◌, ◌%◌, ◌≤◌, min, Bool, cond, List, [], ◌∷◌, ◌++◌, length, take, drop, sym, ap, ◌∙◌, arith, length-append, take_at, eq-eqb, ne_eqb}
+use Rattle.std.proofs.Common.{◌≡◌, ℕ, ◌/◌, ◌%◌, ◌≤◌, min, Bool, cond, List, [], ◌∷◌, length, take, drop, sym, ap, ◌∙◌, arith, take_at, ne_eqb}
 use Rattle.srp.specs.Writing.{placed}
-use Rattle.srp.specs.Outside.{decimal}
 use Rattle.page.specs.Types.{most_read}
 use Rattle.page.specs.Page.{line_from}
 use Rattle.page.specs.declared.Way.{Way}
 use Rattle.page.proofs.Lines.{line_from_long}
-use Rattle.text.specs.Appending.{Appends}
-use Rattle.text.specs.Codes.{line_feed, codes}
-use Rattle.text.proofs.Digits.{decimal_few}
 use Rattle.trace.specs.Input.{fault_words, fault_line}
 use Rattle.trace.specs.Reading.{longest_words, longest, message_end}
 use Rattle.trace.specs.declared.reader.Fault.{Fault}

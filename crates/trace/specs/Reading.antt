@@ -1,5 +1,5 @@
 -- The same, as the code reads it: character by character, with the first 40 bytes of a message, `st`, and its length.
-use Rattle.std.specs.Prelude.{Option, Some, None, ◌≡◌, ℕ, ◌+◌, ◌-◌, ◌*◌, ◌/◌, ◌%◌, ◌^◌, ◌<◌, ◌≤◌, min, false, cond, List, [], ◌∷◌, ◌++◌, length, take, drop, ◌==◌, slice_set}
+use Rattle.std.specs.Prelude.{Option, Some, None, ◌≡◌, ℕ, ◌+◌, ◌-◌, ◌*◌, ◌/◌, ◌%◌, ◌^◌, ◌<◌, ◌≤◌, min, cond, List, [], ◌∷◌, ◌++◌, length, take, drop, ◌==◌, slice_set}
 use Rattle.page.specs.Types.{most_read}
 use Rattle.page.specs.Page.{line_from}
 use Rattle.page.specs.declared.Way.{Way}
