@@ -110,6 +110,7 @@ pub fn put<T: Copy>(to: &mut [T], at: usize, from: &[T])
 }
 
 // Q, where a bad one is read as none.
+#[tactic(auto, using(srp::proofs::Boundaries::zero_good))]
 pub fn load_boundary(s: &[u64; PORT]) -> u64
     ensures { (result ≡ (terms_in s.now).boundary) × (bad_boundary result ≡ false) }
 {
