@@ -2,7 +2,7 @@
 // leaves without another being moved.
 #![tactic(auto)]
 
-ghost use Rattle.std.specs.Prelude.{◌≡◌, true, ◌∷◌, [], ◌++◌, ◌+◌, ◌*◌, ◌%◌, ◌≤◌, ◌<◌, length, get_or, drop};
+ghost use Rattle.std.specs.Prelude.{◌≡◌, true, ◌∷◌, [], ◌++◌, ◌+◌, ◌*◌, ◌%◌, ◌≤◌, ◌<◌, get_or, drop};
 ghost use Rattle.srp.specs.Limits.{most_moves};
 ghost use Rattle.srp.specs.Line.{joins, put_back};
 ghost use Rattle.words.specs.Sizes.{port_words, line_at, ring_at};

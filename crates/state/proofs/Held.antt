@@ -8,7 +8,7 @@ use Prim.Native.Nat.{ℕ, zero, suc, ◌+◌, ◌≤◌, ◌<◌}
 use native.Mathlib.Omega.{arith}
 use native.Mathlib.Nat.{add-zero}
 use native.Mathlib.Numerals.{add-one}
-use borrow.Author.Count.{below_none, below_more}
+use borrow.Author.Count.{below_more}
 use borrow.Author.Tests.{eq-eqb, ne_eqb}
 use lib.Dec.{eqb}
 use lib.ListN.{length, get_or, take, drop, set, drop_of_length-le}
@@ -66,10 +66,6 @@ pub record Searching (l : List ℕ) (tag held i : ℕ) : Type 0 where
   pub in_count : i ≤ held
   pub small : held ≤ most_slots
   pub others : (j : ℕ) → j < i → eqb tag (get_or (opens l) j no_slot).request.tag ≡ false
-
--- before the first
-pub search_start : (l : List ℕ) (tag held : ℕ) → held ≡ (head_of l).held → Searching l tag held 0
-search_start l tag held e = record { count = e; in_count = omega arith; small = omega arith; others = below_none _ }
 
 module _ (l : List ℕ) (tag held i : ℕ) (S : Searching l tag held i) where
   -- not this one

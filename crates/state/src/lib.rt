@@ -5,10 +5,9 @@
 pub mod moves;
 pub mod opening;
 
-ghost use Rattle.std.specs.Prelude.{◌≡◌, ◌+◌, ◌-◌, ◌≤◌, ◌<◌, length};
+ghost use Rattle.std.specs.Prelude.{◌≡◌, ◌+◌, ◌-◌, ◌≤◌};
 ghost use Rattle.srp.specs.Credit.{with_wanted, with_unanswered};
 ghost use Rattle.srp.specs.Limits.{most_buffers};
-ghost use Rattle.words.specs.Sizes.{port_words};
 ghost use Rattle.words.specs.Head.{head_of};
 ghost use Rattle.state.specs.Changes.{FoundIs, ends, NoneEnds, without_slots, without_ended, Alters, Settled};
 

@@ -1,7 +1,5 @@
 // Moves that leave the line: those of commands that end, and one whose last piece a single step handed out. The others keep their order.
-ghost use Rattle.std.specs.Prelude.{◌≡◌, length};
-ghost use Rattle.srp.specs.Line.{same_direction_lem, same_place_lem};
-ghost use Rattle.words.specs.Sizes.{port_words};
+ghost use Rattle.std.specs.Prelude.{◌≡◌};
 ghost use Rattle.state.specs.Leaving.{other_tag_lem, CommandEnds, MoveLeaves, Leaves};
 
 use crate::{Ending, Leaving};

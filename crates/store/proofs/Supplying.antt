@@ -29,10 +29,6 @@ use Rattle.store.proofs.Placing.{open_alike, with_both, both_long, outside, here
 
 -- ── a place carried to another
 
--- to itself
-pub carried_same : (st : List ℕ) (k : ℕ) → Carried st st k k
-carried_same st k = record { there = λ d n h. refl; elsewhere = λ at n h. refl; size = refl }
-
 -- its bytes written there
 module _ (st : List ℕ) (long : length st ≡ store_size) (p k : ℕ) (hp : p < most_slots) (hk : k < most_slots) where
   abbrev kept : List ℕ

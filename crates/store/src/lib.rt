@@ -4,9 +4,8 @@
 
 mod supply;
 
-ghost use Rattle.std.specs.Prelude.{◌≡◌, Bool, false, not, ℕ, ◌+◌, ◌≤◌, ◌<◌, length, get_or, position};
-ghost use Rattle.std.proofs.Math.Seq.{paste};
-ghost use Rattle.words.specs.Sizes.{port_words, most_slots, store_size};
+ghost use Rattle.std.specs.Prelude.{◌≡◌, false, not, ◌<◌, get_or, position};
+ghost use Rattle.words.specs.Sizes.{most_slots};
 ghost use Rattle.words.specs.Head.{head_of};
 ghost use Rattle.words.specs.View.{opens};
 ghost use Rattle.store.specs.Places.{trues, Marked, Free, Holds, new_part_lem, Entered};

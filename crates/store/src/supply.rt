@@ -1,8 +1,8 @@
 // The tables of a command that waited for them: written at its place of the store, over what stood in its message.
 // A port that calls made has no two commands at one place. Words that nobody made may have, so such a command is first given a place of its own.
-ghost use Rattle.std.specs.Prelude.{◌≡◌, ◌<◌, length};
-ghost use Rattle.words.specs.Sizes.{port_words, most_slots, store_size};
-ghost use Rattle.words.specs.Slots.{no_table, not_waiting_lem};
+ghost use Rattle.std.specs.Prelude.{◌≡◌, ◌<◌};
+ghost use Rattle.words.specs.Sizes.{most_slots};
+ghost use Rattle.words.specs.Slots.{not_waiting_lem};
 ghost use Rattle.words.specs.Head.{head_of};
 ghost use Rattle.words.specs.View.{opens};
 ghost use Rattle.store.specs.Places.{Free, Holding, Carried, Supplied};

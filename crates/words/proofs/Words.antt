@@ -186,13 +186,14 @@ module _ (l : List ℕ) (long : length l ≡ port_words) (k i : ℕ) (h : k < mo
       ∙ sym (take-take used_words slot_words from (omega arith))
 
   -- the slot has the command
-  pub shifted : SlotChanged l over i (λ _. get_or (slots l) k no_slot)
-  shifted =
-      put_slot
+  pub shifted : (n : ℕ) → n ≡ used_words → SlotChanged l (paste l (slot_at i) from n) i (λ _. get_or (slots l) k no_slot)
+  shifted n e =
+      rw e
+      (put_slot
       (record {
         this = refl;
         others = λ j ne. stays (slot_at j) slot_words (⊎_elim (λ q. inl (omega arith)) (λ q. inr (omega arith)) (either j i ne));
         head = head_same l over (stays 0 head_size (inl (omega arith)));
         rest = stays_behind l (slot_at i) from used_words (omega arith) enough line_at (omega arith);
       })
-      (omega arith) (λ _. get_or (slots l) k no_slot) (slot_same (region l k) (region over i) same ∙ sym (slot_at_lem l k h))
+      (omega arith) (λ _. get_or (slots l) k no_slot) (slot_same (region l k) (region over i) same ∙ sym (slot_at_lem l k h)))

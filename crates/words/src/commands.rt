@@ -1,6 +1,6 @@
 // The commands in their slots: the request, whether a plan was stated, its place in the store, each direction, and what it keeps while it waits.
 ghost use Rattle.std.specs.Prelude.{◌≡◌, ◌+◌, ◌≤◌, ◌<◌, length, get_or};
-ghost use Rattle.words.specs.Sizes.{port_words, most_slots, slot_words, request_words, part_words};
+ghost use Rattle.words.specs.Sizes.{most_slots, slot_words, request_words, part_words};
 ghost use Rattle.words.specs.Slots.{slot_request, part_at_lem, part_in, slot_of_lem, first_words_of, slots, no_slot, region, SlotIs, SlotFits, PartIs, planned_slot, moved_slot};
 ghost use Rattle.words.specs.Head.{SlotChanged};
 

@@ -1,6 +1,6 @@
 // A port in lent words: a head, a slot for each command that can be open, and the line of moves (crate line). The open commands are the first slots,
 // oldest first.
-// Any words are a port: each number is read into its range, so that no caller owes anything but enough words. What is behind the words in use of
+// Any words are a port: each number is read into its range, so that no caller owes anything. What is behind the words in use of
 // the head and of a slot is cleared by a login and not read.
 #![tactic(auto)]
 
@@ -10,7 +10,6 @@ pub mod waiting;
 ghost use Rattle.std.specs.Prelude.{◌≡◌, false, ◌+◌, ◌≤◌, length};
 ghost use Rattle.std.proofs.Math.Seq.{paste};
 ghost use Rattle.srp.specs.Cutting.{bad_boundary};
-ghost use Rattle.words.specs.Sizes.{port_words};
 ghost use Rattle.words.specs.Head.{terms_in, head_words_lem, HeadIs, HeadFits, HeadChanged, CountsFit, counted_of};
 ghost use Rattle.words.specs.View.{closed_words};
 
@@ -111,6 +110,7 @@ pub fn put<T: Copy>(to: &mut [T], at: usize, from: &[T])
 }
 
 // Q, where a bad one is read as none.
+#[tactic(auto, using(srp::proofs::Boundaries::zero_good))]
 pub fn load_boundary(s: &[u64; PORT]) -> u64
     ensures { (result ≡ (terms_in s.now).boundary) × (bad_boundary result ≡ false) }
 {

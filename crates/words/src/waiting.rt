@@ -1,6 +1,6 @@
 // What a command keeps while it waits for its tables, in the words of its slot behind both directions: whether it waits, and each direction's descriptor.
 ghost use Rattle.std.specs.Prelude.{◌≡◌, ◌+◌, ◌≤◌, ◌<◌, length, get_or};
-ghost use Rattle.words.specs.Sizes.{port_words, most_slots, slot_words, table_words};
+ghost use Rattle.words.specs.Sizes.{most_slots, slot_words, table_words};
 ghost use Rattle.words.specs.Slots.{descriptor_in, awaited_in, awaited_words_of, slots, no_slot};
 
 use crate::{Awaited, PORT, commands};

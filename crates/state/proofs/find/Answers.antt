@@ -1,9 +1,6 @@
 -- `state::find` meets its contract.
-use Rattle.state.proofs.Held.{search_start, search_more, search_here, search_end}
+use Rattle.state.proofs.Held.{search_more, search_here, search_end}
 use Rattle.state.proofs.find.Goals as goal
-
-pub loop-i-init : goal.loop-i-init
-loop-i-init c = search_start _ _ _ c.get_head-held.ensures.held
 
 pub returns-then-s-i : goal.returns-then-s-i
 returns-then-s-i c =

@@ -3,12 +3,8 @@ use Prim.Native.Nat.{◌+◌, ◌-◌, ◌*◌}
 use native.Mathlib.Omega.{arith}
 use borrow.Author.Rules.{rules}
 use Rattle.words.specs.Sizes.{place_size}
-use Rattle.store.proofs.Supplying.{carried_same, carried_over}
+use Rattle.store.proofs.Supplying.{carried_over}
 use Rattle.store.proofs.supply.carry.Goals as goal
-
-pub returns-then-from-to : goal.returns-then-from-to
-returns-then-from-to c =
-    rw c.if-from-to.true (carried_same c.args.store.now c.args.to)
 
 pub returns : goal.returns
 returns c =
