@@ -7,35 +7,22 @@ use mathlib.Core.Option.{Option}
 use Prim.Native.Nat.{ℕ, zero, suc, ◌+◌, ◌/◌, ◌%◌, ◌^◌, ◌≤◌, ◌<◌}
 use native.Mathlib.Numerals.{add-one}
 use native.Mathlib.Omega.{arith}
+use Rattle.std.specs.declared.result.Result.TheVariants.{Ok}
 use Rattle.srp.specs.Limits.{both_formats}
 use Rattle.srp.specs.Descriptors.{agrees}
 use Rattle.srp.specs.Bytes.{bit}
 use Rattle.srp.specs.Refusals.{first_of_checks}
 use Rattle.srp.specs.Requests.{other_formats_lem}
-use Rattle.srp.specs.declared.Refusal.TheVariants.{Setting, OutFormat, InFormat}
+use Rattle.srp.specs.declared.Refusal.TheVariants.{OutFormat, InFormat}
 use Rattle.srp.specs.declared.Refusal.{Refusal}
-use Rattle.division.specs.Dividing.{drawn, passes, draws, values, count, division_below, division, divide_def, lead_of_lem, counted_in}
+use Rattle.division.specs.Dividing.{drawn, passes, draws, values, count, division_below, division, divide_def, counted_in}
 use Rattle.division.specs.declared.Division.{Division}
-use Rattle.division.specs.declared.Divided.TheVariants.{Refused, Counts}
-use Rattle.division.specs.declared.Lead.{Lead}
-use Rattle.division.specs.declared.Lead.TheVariants.{Passes, DrawsOut, DrawsIn}
 
 -- ── one value
 
 -- what it draws, where its out format is agreed or not, and its in format
 abbrev pub answered : (out inn : Bool) → Option Refusal
 answered out inn = first_of_checks ((not out, OutFormat) ∷ (not inn, InFormat) ∷ [])
-
-module _ (formats b : ℕ) where
-  pub not_out : agrees formats (b / 2 ^ 4 % 2 ^ 4) ≡ false → DrawsOut ≡ lead_of_lem (drawn formats b)
-  not_out e = rw e
-
-  module _ (o : agrees formats (b / 2 ^ 4 % 2 ^ 4) ≡ true) where
-    pub not_in : agrees formats (b / 2 ^ 0 % 2 ^ 4) ≡ false → DrawsIn ≡ lead_of_lem (drawn formats b)
-    not_in e = rw (o, e)
-
-    pub both_agreed : agrees formats (b / 2 ^ 0 % 2 ^ 4) ≡ true → Passes ≡ lead_of_lem (drawn formats b)
-    both_agreed e = rw (o, e)
 
 -- ── all values
 
@@ -65,13 +52,13 @@ same p q r = rw (p, q, r)
 
 added : (out inn : Bool) (x y z : ℕ)
     → let a = answered out inn in
-    counted_in (dividing x y z) (lead_of_lem a) ≡ dividing (bit (passes a) + x) (bit (draws OutFormat a) + y) (bit (draws InFormat a) + z)
+    counted_in (dividing x y z) a ≡ dividing (bit (passes a) + x) (bit (draws OutFormat a) + y) (bit (draws InFormat a) + z)
 added true true x y z = same (omega arith) (omega arith) (omega arith)
 added true false x y z = same (omega arith) (omega arith) (omega arith)
 added false b x y z = same (omega arith) (omega arith) (omega arith)
 
 -- one value more
-more : (formats n : ℕ) → counted_in (division_below formats n) (lead_of_lem (drawn formats n)) ≡ division_below formats (n + 1)
+more : (formats n : ℕ) → counted_in (division_below formats n) (drawn formats n) ≡ division_below formats (n + 1)
 unfolding count
 more formats n =
     rw (add-one n)
@@ -89,18 +76,11 @@ pub record Counting (formats : ℕ) (d : Division) (byte : ℕ) : Type 0 where
 pub start : (formats : ℕ) → Counting formats (dividing 0 0 0) 0
 start formats = record { bound = omega arith; counts = none_yet formats }
 
-pub on : {formats byte : ℕ} {d d' : Division} {l : Lead} → Counting formats d byte → byte < values → l ≡ lead_of_lem (drawn formats byte) → d' ≡ counted_in d l
-    → Counting formats d' (byte + 1)
-on {formats} {byte} {d} {d'} {l} w h el ed =
-    record { bound = omega arith; counts = ed ∙ ap (counted_in d) el ∙ ap (λ (x : Division). counted_in x (lead_of_lem (drawn formats byte))) w.counts ∙ more formats byte }
+pub on : {formats byte : ℕ} {d d' : Division} → Counting formats d byte → byte < values → d' ≡ counted_in d (drawn formats byte) → Counting formats d' (byte + 1)
+on {formats} {byte} {d} {d'} w h ed =
+    record { bound = omega arith; counts = ed ∙ ap (λ (x : Division). counted_in x (drawn formats byte)) w.counts ∙ more formats byte }
 
 -- ── the call
 
-module _ (formats : ℕ) where
-  pub refused : other_formats_lem both_formats formats ≡ true → Refused Setting ≡ divide_def formats
-  refused e = rw e
-
-  pub all_counted : other_formats_lem both_formats formats ≡ false → {d : Division} {byte : ℕ} → Counting formats d byte → values ≤ byte → Counts d ≡ divide_def formats
-  all_counted e {d} {byte} w l =
-      let last : byte ≡ values = omega (arith, w.bound) in
-      rw e (ap Counts (w.counts ∙ ap (division_below formats) last))
+pub all_counted : (formats : ℕ) → other_formats_lem both_formats formats ≡ false → {d : Division} → Counting formats d values → Ok d ≡ divide_def formats
+all_counted formats e {d} w = rw e (ap (λ (x : Division). Ok x) w.counts)

@@ -1,18 +1,14 @@
 -- Document 02, job 14: "where the 256 values of byte 5 lead in a message whose length never decides".
-use Rattle.std.specs.Prelude.{Bool, true, false, cond, List, [], ◌∷◌, ℕ, zero, suc, ◌+◌, ◌-◌, ◌*◌, eqb, replicate}
+use Rattle.std.specs.Prelude.{Bool, true, false, cond, List, [], ◌∷◌, ℕ, zero, suc, ◌+◌, ◌-◌, ◌*◌, eqb, replicate, Result, Ok, Err}
 use Rattle.std.proofs.Math.Option.{Option, none, some}
 use Rattle.srp.specs.Limits.{both_formats}
 use Rattle.srp.specs.Bytes.{bit}
-use Rattle.srp.specs.Refusals.{Check, first_of_checks, number_of}
+use Rattle.srp.specs.Refusals.{Check, first_of_checks, unless_bad, number_of}
 use Rattle.srp.specs.Descriptors.{agrees}
 use Rattle.srp.specs.Requests.{format_checks, other_formats_lem}
 use Rattle.srp.specs.declared.Refusal.{Refusal}
 use Rattle.srp.specs.declared.Refusal.TheVariants.{Setting, OutFormat, InFormat}
 use Rattle.division.specs.declared.Division.{Division}
-use Rattle.division.specs.declared.Divided.{Divided}
-use Rattle.division.specs.declared.Divided.TheVariants.{Refused, Counts}
-use Rattle.division.specs.declared.Lead.{Lead}
-use Rattle.division.specs.declared.Lead.TheVariants.{Passes, DrawsOut, DrawsIn}
 
 -- ── a value
 
@@ -60,25 +56,25 @@ division formats = division_below formats values
 abbrev pub divide_checks : ℕ → List Check
 divide_checks formats = (other_formats_lem both_formats formats, Setting) ∷ []
 
-abbrev pub divided_by : Option Refusal → Division → Divided
-divided_by none d = Counts d
-divided_by (some r) d = Refused r
+-- the counts, or the refusal
+abbrev pub Divided : Type 0
+Divided = Result Division Refusal
 
 abbrev pub divide_def : ℕ → Divided
-divide_def formats = divided_by (first_of_checks (divide_checks formats)) (division formats)
+divide_def formats = unless_bad (first_of_checks (divide_checks formats)) (Ok (division formats))
 
 -- ── in C: the number, and the eight words of the answer
 
 abbrev pub divided_number : Divided → ℕ
-divided_number (Refused r) = number_of r
-divided_number (Counts d) = 0
+divided_number (Err r) = number_of r
+divided_number (Ok d) = 0
 
 abbrev pub division_words : Division → List ℕ
 division_words d = d.pass ∷ d.out ∷ d.inn ∷ replicate 5 0
 
 abbrev pub divided_words : Divided → List ℕ
-divided_words (Refused r) = replicate 8 0
-divided_words (Counts d) = division_words d
+divided_words (Err r) = replicate 8 0
+divided_words (Ok d) = division_words d
 
 -- ── the formula
 
@@ -92,13 +88,8 @@ formula f = record { pass = f * f; out = 16 * (16 - f); inn = f * (16 - f) }
 
 -- ── what the parts of the code answer
 
--- where a value leads
-abbrev pub lead_of_lem : Option Refusal → Lead
-lead_of_lem none = Passes
-lead_of_lem (some r) = cond (draws OutFormat (some r)) DrawsOut DrawsIn
-
--- one value more
-abbrev pub counted_in : Division → Lead → Division
-counted_in d Passes = record { pass = d.pass + 1; out = d.out; inn = d.inn }
-counted_in d DrawsOut = record { pass = d.pass; out = d.out + 1; inn = d.inn }
-counted_in d DrawsIn = record { pass = d.pass; out = d.out; inn = d.inn + 1 }
+-- one value more, by what it draws
+abbrev pub counted_in : Division → Option Refusal → Division
+counted_in d none = record { pass = d.pass + 1; out = d.out; inn = d.inn }
+counted_in d (some r) =
+    cond (draws OutFormat (some r)) (record { pass = d.pass; out = d.out + 1; inn = d.inn }) (record { pass = d.pass; out = d.out; inn = d.inn + 1 })

@@ -1,12 +1,10 @@
 -- Worked values and agreements. They guard `drawn`, `division`, `allowed` and `divide_def`.
-use Rattle.std.specs.Prelude.{◌≡◌, List, [], ◌∷◌, ℕ}
+use Rattle.std.specs.Prelude.{◌≡◌, List, [], ◌∷◌, ℕ, Ok, Err}
 use Rattle.std.proofs.Math.Option.{Option, none, some}
 use Rattle.srp.specs.Lists.{All}
 use Rattle.srp.specs.declared.Refusal.{Refusal}
 use Rattle.srp.specs.declared.Refusal.TheVariants.{Setting, OutFormat, InFormat}
-use Rattle.division.specs.Dividing.{drawn, allowed, divide_def}
-use Rattle.division.specs.declared.Divided.{Divided}
-use Rattle.division.specs.declared.Divided.TheVariants.{Refused, Counts}
+use Rattle.division.specs.Dividing.{drawn, allowed, Divided, divide_def}
 
 -- agreed formats, a value of byte 5, and what it draws
 pub record Value : Type 0 where
@@ -52,7 +50,7 @@ pub record Agreement : Type 0 where
   pub answer : Divided
 
 abbrev pub divides : ℕ → ℕ → ℕ → ℕ → ℕ → Agreement
-divides formats f pass out inn = record { formats = formats; f = f; answer = Counts (record { pass = pass; out = out; inn = inn }) }
+divides formats f pass out inn = record { formats = formats; f = f; answer = Ok (record { pass = pass; out = out; inn = inn }) }
 
 -- "9, 208, 39 with both agreed, 4, 224, 28 with one, 1, 240, 15 with none"
 abbrev pub agreements : List Agreement
@@ -66,4 +64,4 @@ abbrev pub others : List ℕ
 others = 0x0001 ∷ 0x0003 ∷ 0x0008 ∷ 0x0007 ∷ 0x80000000 ∷ []
 
 abbrev pub EachOther : Type 0
-EachOther = All (λ n. divide_def n ≡ Refused Setting) others
+EachOther = All (λ n. divide_def n ≡ Err Setting) others

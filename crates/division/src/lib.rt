@@ -3,9 +3,8 @@
 #![tactic(auto)]
 
 ghost use Rattle.std.specs.Prelude.{◌≡◌, ◌<◌};
-ghost use Rattle.division.specs.Dividing.{values, drawn, divide_def, lead_of_lem, counted_in};
+ghost use Rattle.division.specs.Dividing.{values, drawn, divide_def, counted_in};
 
-use command::Format;
 use srp::Refusal;
 use srp::limits::BOTH_FORMATS;
 
@@ -17,75 +16,43 @@ pub struct Division {
     pub inn: u32,
 }
 
-#[derive(Clone, Copy)]
-pub enum Divided {
-    Refused(Refusal),
-    Counts(Division),
-}
-
-// Where a value leads.
-#[derive(Clone, Copy)]
-enum Lead {
-    Passes,
-    DrawsOut,
-    DrawsIn,
-}
-
-const VALUES: u32 = 256;
-
-// The out format is bits 7-4 of the value, the in format bits 3-0.
-fn lead_of(formats: u32, byte: u8) -> Lead
-    ensures { result ≡ lead_of_lem (drawn formats byte) }
-{
-    let Format::Agreed(_) = command::format_of(formats, wire::bits_of(byte, 4, 4)) else {
-        return Lead::DrawsOut;
-    };
-    let Format::Agreed(_) = command::format_of(formats, wire::bits_of(byte, 0, 4)) else {
-        return Lead::DrawsIn;
-    };
-    Lead::Passes
-}
-
-// One value more.
-fn counted(d: Division, lead: Lead) -> Division
+// One value more: bits 7-4 are the out format, which is judged first, bits 3-0 the in format.
+fn counted(d: Division, formats: u32, byte: u8) -> Division
     requires { (d.pass < values) × (d.out < values) × (d.inn < values) }
-    ensures { result ≡ counted_in d lead }
+    ensures { result ≡ counted_in d (drawn formats byte) }
 {
-    match lead {
-        Lead::Passes => Division {
-            pass: d.pass + 1,
-            out: d.out,
-            inn: d.inn,
-        },
-        Lead::DrawsOut => Division {
-            pass: d.pass,
+    if !command::is_agreed(formats, wire::bits_of(byte, 4, 4)) {
+        return Division {
             out: d.out + 1,
-            inn: d.inn,
-        },
-        Lead::DrawsIn => Division {
-            pass: d.pass,
-            out: d.out,
+            ..d
+        };
+    }
+    if !command::is_agreed(formats, wire::bits_of(byte, 0, 4)) {
+        return Division {
             inn: d.inn + 1,
-        },
+            ..d
+        };
+    }
+    Division {
+        pass: d.pass + 1,
+        ..d
     }
 }
 
 // How many values pass, draw 5 and draw 6 with these formats agreed. Refused 2.
-pub fn divide(formats: u32) -> Divided
+pub fn divide(formats: u32) -> Result<Division, Refusal>
     ensures { result ≡ divide_def formats }
 {
     if wire::other_formats(BOTH_FORMATS, formats) {
-        return Divided::Refused(Refusal::Setting);
+        return Err(Refusal::Setting);
     }
     let mut d = Division {
         pass: 0,
         out: 0,
         inn: 0,
     };
-    let mut byte: u32 = 0;
-    while byte < VALUES {
-        d = counted(d, lead_of(formats, byte as u8));
-        byte += 1;
+    for byte in 0..=u8::MAX {
+        d = counted(d, formats, byte);
     }
-    Divided::Counts(d)
+    Ok(d)
 }

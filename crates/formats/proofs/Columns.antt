@@ -11,10 +11,9 @@ use Rattle.srp.specs.Outside.{decimal}
 use Rattle.srp.specs.Requests.{other_formats_lem}
 use Rattle.text.specs.Codes.{codes}
 use Rattle.text.proofs.Digits.{length_one, length_more}
-use Rattle.division.specs.Dividing.{division, divide_def, formula}
+use Rattle.division.specs.Dividing.{Divided, values, division, divide_def, formula}
 use Rattle.division.specs.declared.Division.{Division}
-use Rattle.division.specs.declared.Divided.{Divided}
-use Rattle.division.specs.declared.Divided.TheVariants.{Counts}
+use Rattle.std.specs.declared.result.Result.TheVariants.{Ok}
 use Rattle.division.proofs.Rows.{each_agreement}
 use Rattle.std.specs.Prelude.{flat_map}
 use Rattle.std.proofs.lemmas.List.{flat_map_more, take_more}
@@ -32,11 +31,11 @@ tens n h k = (rw (le-ltb n 10 h, lt-ltb n 100 k), length_two n h k)
 
 -- formats of which none is another are counted
 module _ (formats : ℕ) (known : other_formats_lem both_formats formats ≡ false) {r : Divided} (e : r ≡ divide_def formats) where
-  pub counted : r ≡ Counts (division formats)
+  pub counted : r ≡ Ok (division formats)
   counted = e ∙ rw known
 
-  pub the_counts : (d : Division) → r ≡ Counts d → d ≡ division formats
-  the_counts d q = let c : Counts d ≡ Counts (division formats) = sym q ∙ counted in cc
+  pub the_counts : {d : Division} → r ≡ Ok d → d ≡ division formats
+  the_counts {d} q = let c : ◌≡◌ {A = Divided} (Ok d) (Ok (division formats)) = sym q ∙ counted in cc
 
 -- ── the table
 
@@ -66,7 +65,7 @@ upto_all = ap (λ (l : List ℕ). head ++ (agreement 0x0000 ++ (agreement 0x0002
 abbrev table_of : (none direct indirect both : Division) → List ℕ
 table_of none direct indirect both = head ++ (line 0x0000 none ++ (line 0x0002 direct ++ (line 0x0004 indirect ++ line 0x0006 both)))
 
-counts_of : {d d' : Division} → Counts d ≡ Counts d' → d ≡ d'
+counts_of : {d d' : Division} → ◌≡◌ {A = Divided} (Ok d) (Ok d') → d ≡ d'
 counts_of q = cc
 
 pub is_page : IsPage

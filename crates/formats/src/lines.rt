@@ -6,7 +6,7 @@ ghost use Rattle.text.specs.Appending.{Appends};
 ghost use Rattle.division.specs.Dividing.{values, division};
 ghost use Rattle.formats.specs.Table.{aligned, line_length, line, table};
 
-use division::{Divided, Division};
+use division::Division;
 use text::{NEWLINE, SPACE};
 
 // Bytes of a line, its newline with them.
@@ -58,10 +58,7 @@ fn put_agreement(text: &mut [u8], at: usize, formats: u32) -> usize
     requires line_length_in_bounds { at + line_length ≤ length text.old }
     ensures { Appends text.old at (line formats (division formats)) text.new result × (result ≡ at + line_length) }
 {
-    match division::divide(formats) {
-        Divided::Refused(_) => at,
-        Divided::Counts(d) => put_line(text, at, formats, d),
-    }
+    put_line(text, at, formats, division::divide(formats).unwrap())
 }
 
 // The head, and a line for each of the four agreements.

@@ -1,14 +1,13 @@
 -- A message laid into a buffer field by field, and bytes put behind a message: the buffer then holds the message, and past it what it held.
 -- Assumes nothing.
 use mathlib.Core.Path.{◌≡◌, refl, sym, ap, ◌∙◌}
-use mathlib.Core.Bool.{Bool, true, false, ◌&&◌}
+use mathlib.Core.Bool.{true, ◌&&◌}
 use mathlib.Core.List.{List, [], ◌∷◌, ◌++◌, append_assoc}
 use Prim.Native.Nat.{ℕ, ◌+◌, ◌/◌, ◌%◌, ◌^◌, ◌≤◌, ◌<◌}
 use native.Mathlib.Omega.{arith}
 use lib.Dec.{ltb, leb}
 use lib.ListN.{length, take, drop, get_or, length-append, length-replicate, get_or-append}
 use lib.Seq.{take-append-le, drop-append-le, set-append_left, take-length, take_at, drop_at, drop-drop}
-use mir.Val.{bool_byte}
 use borrow.Author.Tests.{ltb-true, leb-true}
 use borrow.Rule.Slice.PartMut.{put_mid}
 use Rattle.wire.proofs.Stores.{part_copied}
@@ -17,11 +16,6 @@ use Rattle.srp.specs.Limits.{buffer_size, longest_sense}
 use Rattle.srp.specs.Messages.{rsp}
 use Rattle.srp.specs.Writing.{placed}
 use Rattle.srp.proofs.FieldLaws.{both, length_put}
-
--- a test's byte is a bit
-pub bit_small : (b : Bool) → bool_byte b < 2
-bit_small true = omega arith
-bit_small false = omega arith
 
 -- ── what is written inside a list leaves what follows it
 

@@ -37,21 +37,13 @@ pub struct Header {
 fn is_over(r: Residual) -> bool
     ensures { result ≡ is_over r }
 {
-    match r {
-        Residual::Even => false,
-        Residual::Over(_) => true,
-        Residual::Under(_) => false,
-    }
+    matches!(r, Residual::Over(_))
 }
 
 fn is_under(r: Residual) -> bool
     ensures { result ≡ is_under_lem r }
 {
-    match r {
-        Residual::Even => false,
-        Residual::Over(_) => false,
-        Residual::Under(_) => true,
-    }
+    matches!(r, Residual::Under(_))
 }
 
 fn amount_of(r: Residual) -> u32
@@ -59,8 +51,7 @@ fn amount_of(r: Residual) -> u32
 {
     match r {
         Residual::Even => 0,
-        Residual::Over(n) => n,
-        Residual::Under(n) => n,
+        Residual::Over(n) | Residual::Under(n) => n,
     }
 }
 
@@ -119,12 +110,10 @@ fn put_header(buf: &mut [u8], h: Header, resplen: u32, senselen: u32)
     requires { rsp.size ≤ length buf.old }
     ensures { buf.new ≡ placed (header_bytes h resplen senselen ∷ []) buf.old }
 {
-    let out = h.out;
-    let inn = h.inn;
     wire::clear(&mut *buf, RSP_SIZE);
-    put_counts(&mut *buf, out, inn, senselen, resplen);
+    put_counts(&mut *buf, h.out, h.inn, senselen, resplen);
     wire::write8(&mut *buf, STATUS, h.status);
-    put_flags(&mut *buf, resplen != 0, senselen != 0, out, inn);
+    put_flags(&mut *buf, resplen != 0, senselen != 0, h.out, h.inn);
     put_start(buf, RSP, h.solnt, h.delta, h.tag);
 }
 
@@ -134,9 +123,9 @@ pub fn put_answer(buf: &mut [u8], solnt: bool, tag: u64, code: u8, delta: u32)
     ensures { buf.new ≡ placed (answer solnt tag code delta ∷ []) buf.old }
 {
     let h = Header {
-        solnt: solnt,
-        delta: delta,
-        tag: tag,
+        solnt,
+        delta,
+        tag,
         status: 0,
         out: Residual::Even,
         inn: Residual::Even,

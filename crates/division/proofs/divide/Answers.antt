@@ -1,13 +1,8 @@
--- `division::divide` meets its contract: the loop's invariant is `Counting`; the measure is how many values are left.
---
-use mathlib.Core.Path.{sym, ◌∙◌}
-use native.Mathlib.Omega.{arith}
-use Rattle.division.proofs.Counting.{below, start, on, refused, all_counted}
+-- `division::divide` meets its contract: the loop's invariant is `Counting`.
+use Rattle.std.proofs.Common.{◌≡◌, ◌+◌, subst, sym, ◌∙◌, arith}
+use Rattle.division.proofs.Counting.{Counting, below, start, on, all_counted}
+use Rattle.division.specs.Dividing.{values}
 use Rattle.division.proofs.divide.Goals as goal
-
-pub returns-then-other_formats : goal.returns-then-other_formats
-returns-then-other_formats c =
-    refused c.args.formats (sym c.other_formats.ensures ∙ c.if-other_formats.true)
 
 pub loop-byte-init : goal.loop-byte-init
 loop-byte-init c =
@@ -19,8 +14,10 @@ counted-d-requires c =
 
 pub loop-byte-preserved : goal.loop-byte-preserved
 loop-byte-preserved c =
-    on c.loop-byte.invariant (omega arith) c.lead_of.ensures c.counted-d.ensures
+    on c.loop-byte.invariant (omega arith) c.counted-d.ensures
 
-pub returns : goal.returns
-returns c =
-    all_counted c.args.formats (sym c.other_formats.ensures ∙ c.if-other_formats.false) c.loop-byte.invariant (omega arith)
+pub returns-else-other_formats-2 : goal.returns-else-other_formats-2
+returns-else-other_formats-2 c =
+    let last : c.loop-byte.byte + 1 ≡ values = omega arith in
+    all_counted c.args.formats (sym c.other_formats.ensures ∙ c.if-other_formats.false)
+    (subst (Counting c.args.formats c.counted-d.result) last (on c.loop-byte.invariant (omega arith) c.counted-d.ensures))
