@@ -4,7 +4,7 @@ use crate::paper::{
     STATUS,
 };
 use page::{LINE, Way};
-use srp::{Counters, Direction, Fetch, Kind, Piece, Record, Refusal, Reply};
+use srp::{Counters, Fetch, Kind, Piece, Record, Refusal, Reply};
 use std::io;
 
 // Of an SRP_RSP its status, flags, SOLNT, residuals and sense length.
@@ -35,7 +35,7 @@ fn details(rt: &impl Print, msg: &[u8]) -> io::Result<()> {
 // A message on its way: its trace line, and the details below it.
 pub fn message(rt: &impl Print, way: Way, msg: &[u8]) -> io::Result<()> {
     let mut line = [0u8; LINE];
-    page::trace(msg, way, &mut line);
+    let _ = page::trace(msg, way, &mut line);
     rt.write_all(&line)?;
     details(rt, msg)
 }
@@ -79,59 +79,55 @@ fn refused(rt: &impl Print, lead: &str, f: Refusal) -> io::Result<()> {
     println!(rt; "{lead}refused {}", answer::number_of(f))
 }
 
-// A refusal, and nothing of another reply.
-pub fn refusal(rt: &impl Print, lead: &str, r: Reply) -> io::Result<()> {
+// A refusal, and nothing of a reply.
+pub fn refusal(rt: &impl Print, lead: &str, r: Result<Reply, Refusal>) -> io::Result<()> {
     match r {
-        Reply::Refused(f) => refused(rt, lead, f),
-        _ => Ok(()),
+        Ok(_) => Ok(()),
+        Err(f) => refused(rt, lead, f),
     }
 }
 
 // What taking a message comes to; of a command whether it waits for its tables.
-pub fn taken(rt: &impl Print, r: Reply) -> io::Result<()> {
+pub fn taken(rt: &impl Print, r: Result<Reply, Refusal>) -> io::Result<()> {
     match r {
-        Reply::NewCommand {
+        Ok(Reply::NewCommand {
             tag,
             cdb,
             waits,
             ..
-        } => {
+        }) => {
             let waiting = if waits { ", waits for its tables" } else { "" };
             println!(rt; "   taken: tag {tag:04x}, CDB {cdb} bytes{waiting}")
         }
-        Reply::Accepted => println!(rt; "   accepted"),
-        Reply::Rejected(_) => println!(rt; "   rejected"),
-        Reply::Refused(f) => refused(rt, "   ", f),
-        _ => println!(rt; "   taken"),
+        Ok(Reply::Accepted) => println!(rt; "   accepted"),
+        Ok(Reply::Rejected(_)) => println!(rt; "   rejected"),
+        Ok(_) => println!(rt; "   taken"),
+        Err(f) => refused(rt, "   ", f),
     }
 }
 
 // A step; whether there may be more. The end of a move without operations is passed over.
-pub fn stepped(rt: &impl Print, r: Reply) -> io::Result<bool> {
+pub fn stepped(rt: &impl Print, r: Result<Reply, Refusal>) -> io::Result<bool> {
     match r {
-        Reply::Operation(kind, p, n) => {
+        Ok(Reply::Operation(kind, p, n)) => {
             operation(rt, kind, p, n)?;
             return Ok(true);
         }
-        Reply::Done(0) => {}
-        Reply::Done(n) => println!(rt; "   done, number {n}")?,
+        Ok(Reply::Done(0)) => {}
+        Ok(Reply::Done(n)) => println!(rt; "   done, number {n}")?,
         _ => refusal(rt, "   ", r)?,
     }
     Ok(false)
 }
 
 // What a turn hands out, with its command's tag, or that no move has pieces.
-pub fn turned(rt: &impl Print, r: Reply) -> io::Result<()> {
+pub fn turned(rt: &impl Print, r: Result<Reply, Refusal>) -> io::Result<()> {
     match r {
-        Reply::Served(tag, d, p, n) => {
+        Ok(Reply::Served(tag, d, p, n)) => {
             println!(rt; "   turn: tag {tag:04x}")?;
-            let kind = match d {
-                Direction::Out => Kind::Read,
-                Direction::In => Kind::Write,
-            };
-            operation(rt, kind, p, n)
+            operation(rt, Kind::from(d), p, n)
         }
-        Reply::Idle => println!(rt; "   turn: idle"),
+        Ok(Reply::Idle) => println!(rt; "   turn: idle"),
         _ => refusal(rt, "   ", r),
     }
 }

@@ -47,7 +47,7 @@ impl Session {
     pub fn show_counts(&self, rt: &impl Print) -> io::Result<()> {
         print!(rt; "   counters: ")?;
         match report::counters(&self.port) {
-            Reply::Counts(c) => show::counts(rt, c, self.channel.limit),
+            Ok(Reply::Counts(c)) => show::counts(rt, c, self.channel.limit),
             r => show::refusal(rt, "", r),
         }
     }
@@ -67,7 +67,7 @@ impl Session {
     pub fn show_list(&self, rt: &impl Print) -> io::Result<()> {
         let list = report::lend(&self.port, [MARKED; SLOTS]);
         match list.reply {
-            Reply::Listed(n) => show_listed(rt, &list.records, n),
+            Ok(Reply::Listed(n)) => show_listed(rt, &list.records, n),
             r => show::refusal(rt, "   ", r),
         }
     }

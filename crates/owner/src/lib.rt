@@ -12,7 +12,6 @@ use host::channel::Channel;
 use host::message::Message;
 use host::show;
 pub use logins::show_division;
-pub use requests::Fetches;
 use srp::{Answer, limits};
 use std::io;
 use words::{PORT, STORE};

@@ -1,6 +1,5 @@
 // The channel's beginning and its end.
 use crate::{AGREED, FORMATS, Session, WRITTEN};
-use division::Divided;
 use host::message::Message;
 use host::paper::IDENTIFIER;
 use host::show;
@@ -20,7 +19,7 @@ fn request() -> Message {
 
 // How the values of byte 5 divide with the formats that a login here agrees on.
 pub fn show_division(rt: &impl Print) -> io::Result<()> {
-    let Divided::Counts(d) = division::divide(FORMATS) else {
+    let Ok(d) = division::divide(FORMATS) else {
         return Ok(());
     };
     println!(rt;

@@ -3,30 +3,15 @@ use crate::{AGREED, FORMATS, Session, WRITTEN, first};
 use host::message::Message;
 use host::paper::GOOD;
 use host::show;
-use srp::{Direction, Fetch, Look, Reply};
+use srp::{Direction, Look, Reply};
 use std::io;
 
 // more pieces than any command here has
 const PIECES: usize = 64;
 
-// The tables to fetch for a command, data-out's and data-in's; one of no bytes is none.
-#[derive(Clone, Copy)]
-pub struct Fetches {
-    out: Fetch,
-    inn: Fetch,
-}
-
-// What a message names to fetch; nothing where look refuses it.
-fn fetches_of(message: Message) -> Option<Fetches> {
-    match command::look(message.bytes(), AGREED, FORMATS) {
-        Look::Fetches(out, inn) => Some(Fetches { out, inn }),
-        Look::LookRefused(_) => None,
-    }
-}
-
-// The fetches of a command that waits begin.
-fn begin(rt: &impl Print, fetches: Fetches) -> io::Result<()> {
-    for f in [fetches.out, fetches.inn] {
+// The fetches of a command that waits begin; one of no bytes is none.
+fn begin(rt: &impl Print, look: Look) -> io::Result<()> {
+    for f in [look.out, look.inn] {
         if f.len != 0 {
             show::fetch(rt, f)?;
         }
@@ -41,20 +26,20 @@ impl Session {
         let a = take::take(&mut self.port, &mut self.store, message.bytes(), &mut buf);
         show::taken(rt, a.reply)?;
         self.send(rt, &buf, a.wrote)?;
-        Ok(matches!(a.reply, Reply::NewCommand { waits: true, .. }))
+        Ok(matches!(a.reply, Ok(Reply::NewCommand { waits: true, .. })))
     }
 
     // The oldest message leaves and is taken; where it waits its fetches begin. What it names to fetch is answered, for the owner to keep.
-    pub fn take_fetching(&mut self, rt: &impl Print) -> io::Result<Option<Fetches>> {
+    pub fn take_fetching(&mut self, rt: &impl Print) -> io::Result<Option<Look>> {
         let Some(message) = self.channel.to_port.pop() else {
             return Ok(None);
         };
-        let fetches = fetches_of(message);
+        let look = command::look(message.bytes(), AGREED, FORMATS).ok();
         let waits = self.take_one(rt, message)?;
-        if waits && let Some(f) = fetches {
-            begin(rt, f)?;
+        if waits && let Some(named) = look {
+            begin(rt, named)?;
         }
-        Ok(fetches)
+        Ok(look)
     }
 
     // The same of a message that names no fetch.
@@ -68,10 +53,10 @@ impl Session {
         &mut self,
         rt: &impl Print,
         tag: u64,
-        kept: Option<Fetches>,
+        kept: Option<Look>,
         memory: Message,
     ) -> io::Result<()> {
-        let Some(Fetches { out, inn }) = kept else {
+        let Some(Look { out, inn }) = kept else {
             return Ok(());
         };
         println!(rt; "   tables: tag {tag:04x}, out {}, in {}", out.len, inn.len)?;
