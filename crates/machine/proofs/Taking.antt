@@ -13,7 +13,7 @@ use borrow.Author.Tests.{eqb-true}
 use Rattle.srp.specs.Bytes.{type_of}
 use Rattle.srp.specs.Lists.{without}
 use Rattle.srp.specs.Refusals.{Conduct, hangs_up, answered, stays, alters_nothing, number_of, conduct_of, first_of_checks, short}
-use Rattle.srp.specs.Requests.{is_request, read_message_lem}
+use Rattle.srp.specs.Requests.{Reading as MessageRead, is_request, read_message_lem}
 use Rattle.srp.specs.Credit.{Open, Port, with_moves, Absent}
 use Rattle.srp.specs.Line.{left_by}
 use Rattle.srp.specs.declared.Terms.{Terms}
@@ -26,8 +26,8 @@ use Rattle.machine.specs.Actions.{at_front}
 use Rattle.machine.specs.Events.{reading, after_refusal, refusal_writes, front_effect, front_writes, front_closes, taking as taking_of}
 use Rattle.srp.specs.declared.Refusal.{Refusal}
 use Rattle.srp.specs.declared.Refusal.TheVariants.{NoCredit}
-use Rattle.srp.specs.declared.Message.{Message}
-use Rattle.srp.specs.declared.Message.TheVariants.{Bad, Cmd, TskMgmt, CredRsp, ILogout}
+use Rattle.srp.specs.declared.Message.TheVariants.{Cmd, TskMgmt, CredRsp, ILogout}
+use Rattle.std.specs.declared.result.Result.TheVariants.{Ok as Good, Err}
 use Rattle.srp.specs.declared.Place.{Place}
 use Rattle.srp.specs.declared.Reply.{Reply}
 use Rattle.srp.specs.declared.Reply.TheVariants.{Refused, Performed, NewCommand, TaskAnswered, CreditSettled}
@@ -65,10 +65,10 @@ module _ {L : Login} {m : Machine} {p : Port} (h : Ok L m p) (s : List ℕ) (ss 
           keep = tt;
         }
 
-    accept : (d : Message) → ByType (is_request s) d → first_of_checks (take_checks p room s d) ≡ none
+    accept : (d : MessageRead) → ByType (is_request s) d → first_of_checks (take_checks p room s d) ≡ none
         → Fine L (front_effect s ss d m (refusal_in (accepted p s d).reply)) (front_closes s ss d (refusal_in (accepted p s d).reply)) (accepted p s d)
-    accept (Bad r) k z = absurd (true≢false (passes (take_checks p room s (Bad r)) z).1.1.0)
-    accept (Cmd c) k z =
+    accept (Err r) k z = absurd (true≢false (passes (take_checks p room s (Err r)) z).1.1.0)
+    accept (Good (Cmd c)) k z =
         let q = passed p room s c z in
         let n = new_track_lem L.terms c s q.fields in
         let free : Absent (new_track c s).request.tag m.work.tracks = rw n.request (sym (open_same h c.request.tag) ∙ q.fresh) in
@@ -83,7 +83,7 @@ module _ {L : Login} {m : Machine} {p : Port} (h : Ok L m p) (s : List ℕ) (ss 
           lined = lined_snoc (pieces_left L.terms) (new_track c s) m.work.tracks m.work.line n.no_pieces h.work.lined;
         }) in
         quiet o (NewCommand c.request.tag c.request.lun c.cdb (waits c))
-    accept (TskMgmt c) k z =
+    accept (Good (TskMgmt c)) k z =
         let left : List Track = without (aborted c) m.work.tracks in
         let o = spent k (without (aborted c) p.held) (left_by (aborted c) p.held p.line)
         (took_request (with_ended m.work (aborted c) (length m.work.tracks - length left))) (omega (arith, length_without (aborted c) p.held))
@@ -97,11 +97,11 @@ module _ {L : Login} {m : Machine} {p : Port} (h : Ok L m p) (s : List ℕ) (ss 
           lined = lined_endings (pieces_left L.terms) (aborted c) m.work.tracks m.work.line h.work.distinct h.work.lined;
         }) in
         codes o (TaskAnswered c.request.tag c.request.lun) (solicited c.request (task_code c.function)) c.request.tag (task_code c.function)
-    accept (CredRsp g) k z = quiet (with_wire_lem h ((reading s (CredRsp g)).effect (with_queue m ss)).wire p.announced false (same_credit k) (omega (arith, h.room)) refl) CreditSettled
-    accept ILogout k z = record { lift = nothing_lifts ((reading s ILogout).effect (with_queue m ss)); keep = tt }
+    accept (Good (CredRsp g)) k z = quiet (with_wire_lem h ((reading s (Good (CredRsp g))).effect (with_queue m ss)).wire p.announced false (same_credit k) (omega (arith, h.room)) refl) CreditSettled
+    accept (Good ILogout) k z = record { lift = nothing_lifts ((reading s (Good ILogout)).effect (with_queue m ss)); keep = tt }
 
     -- a refusal: the message stays in its queue, is answered, or closes the channel
-    refuse : (d : Message) → ByType (is_request s) d → (r : Refusal) → first_of_checks (take_checks p room s d) ≡ some r
+    refuse : (d : MessageRead) → ByType (is_request s) d → (r : Refusal) → first_of_checks (take_checks p room s d) ≡ some r
         → Fine L (front_effect s ss d m (refusal_in (refused_by p d r).reply)) (front_closes s ss d (refusal_in (refused_by p d r).reply)) (refused_by p d r)
     refuse d k r f = rw (refused_as p d r) (go (conduct_of r) (drawn p room s (is_request s) d k r f).suits)
       where
@@ -122,7 +122,7 @@ module _ {L : Login} {m : Machine} {p : Port} (h : Ok L m p) (s : List ℕ) (ss 
         go stays y = quiet h (Refused r)
         go alters_nothing y = absurd (true≢false (sym h.live ∙ y))
 
-    taking : (d : Message) → ByType (is_request s) d
+    taking : (d : MessageRead) → ByType (is_request s) d
         → Fine L (front_effect s ss d m (refusal_in (take_read p room s d).reply)) (front_closes s ss d (refusal_in (take_read p room s d).reply)) (take_read p room s d)
     taking d k = go (first_of_checks (take_checks p room s d)) refl
       where
@@ -132,17 +132,17 @@ module _ {L : Login} {m : Machine} {p : Port} (h : Ok L m p) (s : List ℕ) (ss 
         go (some r) f = refuse d k r f
 
     -- the reply is no refusal for credit
-    credited : (d : Message) → ByType (is_request s) d → (take_read p room s d).reply ≡ Refused NoCredit → ⊥
+    credited : (d : MessageRead) → ByType (is_request s) d → (take_read p room s d).reply ≡ Refused NoCredit → ⊥
     credited d k = go (first_of_checks (take_checks p room s d)) refl d k
       where
-        first : (d : Message) → ByType (is_request s) d → (accepted p s d).reply ≡ Refused NoCredit → ⊥
-        first (Bad r) k g = k.not_credit (ap number_of (let q : r ≡ NoCredit = cc (refused_as p (Bad r) r) in q))
-        first (Cmd c) k g = let z : ◌≡◌ {A = ℕ} 0 1 = cc in omega arith
-        first (TskMgmt c) k g = let z : ◌≡◌ {A = ℕ} 0 1 = cc in omega arith
-        first (CredRsp c) k g = let z : ◌≡◌ {A = ℕ} 0 1 = cc in omega arith
-        first ILogout k g = let z : ◌≡◌ {A = ℕ} 0 1 = cc in omega arith
+        first : (d : MessageRead) → ByType (is_request s) d → (accepted p s d).reply ≡ Refused NoCredit → ⊥
+        first (Err r) k g = k.not_credit (ap number_of (let q : r ≡ NoCredit = cc (refused_as p (Err r) r) in q))
+        first (Good (Cmd c)) k g = let z : ◌≡◌ {A = ℕ} 0 1 = cc in omega arith
+        first (Good (TskMgmt c)) k g = let z : ◌≡◌ {A = ℕ} 0 1 = cc in omega arith
+        first (Good (CredRsp c)) k g = let z : ◌≡◌ {A = ℕ} 0 1 = cc in omega arith
+        first (Good ILogout) k g = let z : ◌≡◌ {A = ℕ} 0 1 = cc in omega arith
 
-        go : (v : Option Refusal) → first_of_checks (take_checks p room s d) ≡ v → (d' : Message) → ByType (is_request s) d' → (take_by v p s d').reply ≡ Refused NoCredit → ⊥
+        go : (v : Option Refusal) → first_of_checks (take_checks p room s d) ≡ v → (d' : MessageRead) → ByType (is_request s) d' → (take_by v p s d').reply ≡ Refused NoCredit → ⊥
         go none f d' k' g = first d' k' g
         go (some r) f d' k' g =
             let q : r ≡ NoCredit = cc (refused_as p d' r) in
@@ -152,7 +152,7 @@ module _ {L : Login} {m : Machine} {p : Port} (h : Ok L m p) (s : List ℕ) (ss 
 -- ── what is written, and what is refused
 
 module _ (p : Port) (room : ℕ) (s : List ℕ) (ss : List (List ℕ)) where
-  wrote_same : (d : Message) → map type_of (take_read p room s d).wrote ≡ front_writes s ss d (refusal_in (take_read p room s d).reply)
+  wrote_same : (d : MessageRead) → map type_of (take_read p room s d).wrote ≡ front_writes s ss d (refusal_in (take_read p room s d).reply)
   wrote_same d = go (first_of_checks (take_checks p room s d)) refl
     where
       by : (c : Conduct) (r : Refusal) → map type_of (conducted c p d r).wrote ≡ refusal_writes c
@@ -161,12 +161,12 @@ module _ (p : Port) (room : ℕ) (s : List ℕ) (ss : List (List ℕ)) where
       by stays r = refl
       by alters_nothing r = refl
 
-      accepts : (d : Message) → first_of_checks (take_checks p room s d) ≡ none → map type_of (accepted p s d).wrote ≡ front_writes s ss d (refusal_in (accepted p s d).reply)
-      accepts (Bad r) z = absurd (true≢false (passes (take_checks p room s (Bad r)) z).1.1.0)
-      accepts (Cmd c) z = refl
-      accepts (TskMgmt c) z = refl
-      accepts (CredRsp g) z = refl
-      accepts ILogout z = refl
+      accepts : (d : MessageRead) → first_of_checks (take_checks p room s d) ≡ none → map type_of (accepted p s d).wrote ≡ front_writes s ss d (refusal_in (accepted p s d).reply)
+      accepts (Err r) z = absurd (true≢false (passes (take_checks p room s (Err r)) z).1.1.0)
+      accepts (Good (Cmd c)) z = refl
+      accepts (Good (TskMgmt c)) z = refl
+      accepts (Good (CredRsp g)) z = refl
+      accepts (Good ILogout) z = refl
 
       go : (v : Option Refusal) → first_of_checks (take_checks p room s d) ≡ v → map type_of (take_by v p s d).wrote ≡ front_writes s ss d (refusal_in (take_by v p s d).reply)
       go none z = accepts d z
@@ -174,12 +174,12 @@ module _ (p : Port) (room : ℕ) (s : List ℕ) (ss : List (List ℕ)) where
 
 module _ {L : Login} {m : Machine} {p : Port} (h : Ok L m p) (room : ℕ) where
   -- the checks, by the port's state and by what the machine has counted
-  seen_same : (s : List ℕ) (d : Message) → first_of_checks (take_checks p room s d) ≡ first_of_checks (short room ∷ (reading s d).checks m)
-  seen_same s (Bad r) = rw h.live
-  seen_same s (Cmd c) = rw (h.live, open_same h c.request.tag, h.credit)
-  seen_same s (TskMgmt k) = rw (h.live, open_same h k.request.tag, h.credit)
-  seen_same s (CredRsp g) = rw (h.live, h.unanswered)
-  seen_same s ILogout = rw h.live
+  seen_same : (s : List ℕ) (d : MessageRead) → first_of_checks (take_checks p room s d) ≡ first_of_checks (short room ∷ (reading s d).checks m)
+  seen_same s (Err r) = rw h.live
+  seen_same s (Good (Cmd c)) = rw (h.live, open_same h c.request.tag, h.credit)
+  seen_same s (Good (TskMgmt k)) = rw (h.live, open_same h k.request.tag, h.credit)
+  seen_same s (Good (CredRsp g)) = rw (h.live, h.unanswered)
+  seen_same s (Good ILogout) = rw h.live
 
   -- the port reads a message as the machine does
   take_same : (s : List ℕ) → take_def p room s ≡ take_read p room s (read L s)

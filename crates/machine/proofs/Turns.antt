@@ -25,8 +25,9 @@ use Rattle.srp.specs.declared.Direction.{Direction}
 use Rattle.srp.specs.declared.Piece.{Piece}
 use Rattle.srp.specs.declared.Place.{Place}
 use Rattle.srp.specs.declared.Refusal.{Refusal}
-use Rattle.srp.specs.declared.Message.{Message}
-use Rattle.srp.specs.declared.Message.TheVariants.{Bad, Cmd, TskMgmt, CredRsp, ILogout}
+use Rattle.srp.specs.Requests.{Reading as MessageRead}
+use Rattle.srp.specs.declared.Message.TheVariants.{Cmd, TskMgmt, CredRsp, ILogout}
+use Rattle.std.specs.declared.result.Result.TheVariants.{Ok, Err}
 use Rattle.srp.specs.declared.Reply.{Reply}
 use Rattle.srp.specs.declared.Reply.TheVariants.{Refused, Performed, NewCommand, TaskAnswered, CreditSettled, LoggedOut, Operation, Done, Served, Idle, Accepted, Rejected, Counts, Listed}
 use Rattle.srp.proofs.Places.{same_place, in_without}
@@ -100,12 +101,12 @@ module _ (L : Login) (m : Machine) where
   either none m' k = k
   either (some f) m' k = keeps_same (line m)
 
-  taken : (s : List ℕ) (ss : List (List ℕ)) (d : Message) (v : Option Refusal) → Keeps (line m) (line (front_effect s ss d m v))
-  taken s ss (Bad r) none = keeps_same (line m)
-  taken s ss (Cmd c) none = keeps_same (line m)
-  taken s ss (TskMgmt k) none = keeps_without _ (line m)
-  taken s ss (CredRsp g) none = keeps_same (line m)
-  taken s ss ILogout none = λ x k e. inl refl
+  taken : (s : List ℕ) (ss : List (List ℕ)) (d : MessageRead) (v : Option Refusal) → Keeps (line m) (line (front_effect s ss d m v))
+  taken s ss (Err r) none = keeps_same (line m)
+  taken s ss (Ok (Cmd c)) none = keeps_same (line m)
+  taken s ss (Ok (TskMgmt k)) none = keeps_without _ (line m)
+  taken s ss (Ok (CredRsp g)) none = keeps_same (line m)
+  taken s ss (Ok ILogout) none = λ x k e. inl refl
   taken s ss d (some f) = by (conduct_of f)
     where
       by : (c : Conduct) → Keeps (line m) (line (after_refusal c m ss))

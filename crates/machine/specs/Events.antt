@@ -6,7 +6,7 @@ use Rattle.srp.specs.Limits.{most_buffers, credit_tag}
 use Rattle.srp.specs.Messages.{rsp, cred_req, t_logout}
 use Rattle.srp.specs.Refusals.{Conduct, hangs_up, answered, stays, alters_nothing, conduct_of, Check, short}
 use Rattle.srp.specs.Lists.{change, without, is_some}
-use Rattle.srp.specs.Requests.{is_request}
+use Rattle.srp.specs.Requests.{Reading as MessageRead, is_request}
 use Rattle.srp.specs.Credit.{has_tag}
 use Rattle.srp.specs.Writing.{response, answer}
 use Rattle.srp.specs.Take.{silent, Tables, no_tables, given_in, fields_fit, waits, aborted, take_def}
@@ -19,8 +19,8 @@ use Rattle.machine.specs.Machine.{delta_of_lem, Track, fresh, final_by, new_trac
 use Rattle.srp.specs.declared.Refusal.{Refusal}
 use Rattle.srp.specs.declared.Refusal.TheVariants.{TableLength, Fields, Argument, NoCredit, TagOpen, TagNotOpen, CreditResponse, Unanswered, NotOwed, Wanted, Waiting}
 use Rattle.srp.specs.declared.Direction.{Direction}
-use Rattle.srp.specs.declared.Message.{Message}
-use Rattle.srp.specs.declared.Message.TheVariants.{Bad, Cmd, TskMgmt, CredRsp, ILogout}
+use Rattle.srp.specs.declared.Message.TheVariants.{Cmd, TskMgmt, CredRsp, ILogout}
+use Rattle.std.specs.declared.result.Result.TheVariants.{Ok, Err}
 use Rattle.srp.specs.declared.Reply.{Reply}
 use Rattle.srp.specs.declared.Reply.TheVariants.{Refused, Performed}
 
@@ -58,10 +58,10 @@ pub record Reading : Type 0 where
   pub writes : List ℕ
   pub closes : Bool
 
-abbrev pub reading : List ℕ → Message → Reading
-reading s (Bad r) = record { checks = λ m. (true, r) ∷ []; effect = λ m. m; writes = []; closes = false }
+abbrev pub reading : List ℕ → MessageRead → Reading
+reading s (Err r) = record { checks = λ m. (true, r) ∷ []; effect = λ m. m; writes = []; closes = false }
 -- "A command taken is open until it ends". "22, 23, 9, 10", of which 9, and 10 where a fetch is named, are drawn by tables
-reading s (Cmd c) =
+reading s (Ok (Cmd c)) =
     record {
       checks = λ m.
           (eqb (unused m) 0, NoCredit)
@@ -73,7 +73,7 @@ reading s (Cmd c) =
       closes = false;
     }
 -- "A task request ends in the same call, as do the open commands that it aborts"; "A waiting command can be aborted"
-reading s (TskMgmt k) =
+reading s (Ok (TskMgmt k)) =
     record {
       checks = λ m. (eqb (unused m) 0, NoCredit) ∷ (is_some (tracked m k.request.tag), TagOpen) ∷ [];
       effect = λ m.
@@ -82,7 +82,7 @@ reading s (TskMgmt k) =
       writes = rsp.code ∷ [];
       closes = false;
     }
-reading s (CredRsp g) =
+reading s (Ok (CredRsp g)) =
     record {
       checks = λ m. (not (m.wire.waiting && eqb g credit_tag), CreditResponse) ∷ [];
       effect = λ m.
@@ -90,7 +90,7 @@ reading s (CredRsp g) =
       writes = [];
       closes = false;
     }
-reading s ILogout = record { checks = λ m. []; effect = λ m. with_moving m [] []; writes = []; closes = true }
+reading s (Ok ILogout) = record { checks = λ m. []; effect = λ m. with_moving m [] []; writes = []; closes = true }
 
 -- a refusal: "On refusals 1 and 9 the message stays there, else it leaves", of which take draws 1 alone; "any command that draws 10" was taken, and has ended
 abbrev pub after_refusal : Conduct → Machine → List (List ℕ) → Machine
@@ -106,7 +106,7 @@ refusal_writes stays = []
 refusal_writes alters_nothing = []
 
 -- take of the queue's front s, read as d, where ss is the rest of the queue
-module _ (s : List ℕ) (ss : List (List ℕ)) (d : Message) where
+module _ (s : List ℕ) (ss : List (List ℕ)) (d : MessageRead) where
   abbrev pub front_effect : Machine → Option Refusal → Machine
   front_effect m none = (reading s d).effect (with_queue m ss)
   front_effect m (some f) = after_refusal (conduct_of f) m ss

@@ -8,7 +8,7 @@ use Rattle.srp.specs.Messages.{delta, rsp, cred_req, t_logout}
 use Rattle.srp.specs.Lists.{find, without}
 use Rattle.srp.specs.Both.{along}
 use Rattle.srp.specs.Descriptors.{Segment, sum_of}
-use Rattle.srp.specs.Requests.{is_request, read_message_lem}
+use Rattle.srp.specs.Requests.{Reading, is_request, read_message_lem}
 use Rattle.srp.specs.Cutting.{trimmed, highest}
 use Rattle.srp.specs.Credit.{Held, with_sides, has_tag}
 use Rattle.srp.specs.Line.{left_by}
@@ -21,7 +21,6 @@ use Rattle.srp.specs.declared.Piece.{Piece}
 use Rattle.srp.specs.declared.Place.{Place}
 use Rattle.srp.specs.declared.Residual.{Residual}
 use Rattle.srp.specs.declared.Command.{Command}
-use Rattle.srp.specs.declared.Message.{Message}
 use Rattle.srp.specs.declared.Record.{Record}
 
 -- ── what the initiator reads of a message from the port
@@ -272,5 +271,5 @@ pub record Login : Type 0 where
 abbrev pub login_of : Settings → List ℕ → Login
 login_of c s = record { buffers = c.buffers; terms = terms_of_lem c s }
 
-abbrev pub read : Login → List ℕ → Message
+abbrev pub read : Login → List ℕ → Reading
 read L s = read_message_lem L.terms.agreed L.terms.formats s
