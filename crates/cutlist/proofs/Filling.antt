@@ -12,8 +12,8 @@ use Rattle.srp.specs.Cutting.{Rule, bytes_in, next, pieces}
 use Rattle.srp.specs.Outside.{operation_line, operation_lines, whole_cuts}
 use Rattle.srp.specs.declared.Kind.{Kind}
 use Rattle.srp.specs.declared.Piece.{Piece}
-use Rattle.srp.specs.declared.Cut.{Cut}
-use Rattle.srp.specs.declared.Cut.TheVariants.{CutPiece}
+use Rattle.std.specs.declared.option.Option.{Option as Answered}
+use Rattle.std.specs.declared.option.Option.TheVariants.{Some}
 use Rattle.srp.proofs.Boundaries.{longest_most}
 use Rattle.srp.proofs.CutLaws.{Lawful, up_to_lem, done_iff, pieces_all}
 use Rattle.srp.proofs.Pieces.{Fits, piece_fits, wrapped_same}
@@ -113,16 +113,16 @@ module _ {k : Kind} {from to : ℕ} {ss : List Segment} {before text : List ℕ}
   pub filled : from < at → Fills k from to ss text (record { len = end; from = at })
   filled h = record { room = w.room; more = h; upto = w.upto; lines = w.same }
 
-  module _ (more : at < to) {r : Cut} (is : r ≡ next_wrapped (next rule at to ss)) where
+  module _ (more : at < to) {r : Answered Piece} (is : r ≡ next_wrapped (next rule at to ss)) where
     -- there is a piece, and its address has 64 bits
-    pub there : (p : Piece) × (r ≡ CutPiece p) × (next rule at to ss ≡ some p)
+    pub there : (p : Piece) × (r ≡ Some p) × (next rule at to ss ≡ some p)
     there = go (next rule at to ss) refl
       where
-        go : (v : Option Piece) → next rule at to ss ≡ v → (p : Piece) × (r ≡ CutPiece p) × (next rule at to ss ≡ some p)
+        go : (v : Option Piece) → next rule at to ss ≡ v → (p : Piece) × (r ≡ Some p) × (next rule at to ss ≡ some p)
         go none e = absurd (let h : to ≤ at = (done_iff rule at to ss w.inside).0 e in omega arith)
-        go (some p) e = (p, is ∙ ap next_wrapped e ∙ ap CutPiece (wrapped_same rule at to ss p w.reach lawful e), e)
+        go (some p) e = (p, is ∙ ap next_wrapped e ∙ ap Some (wrapped_same rule at to ss p w.reach lawful e), e)
 
-    module _ {p : Piece} (e : r ≡ CutPiece p) where
+    module _ {p : Piece} (e : r ≡ Some p) where
       found : next rule at to ss ≡ some p
       found = let q : there.0 ≡ p = cc there.1 in there.2 ∙ ap some q
 

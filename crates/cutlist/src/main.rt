@@ -5,7 +5,7 @@
 mod lines;
 mod output;
 
-ghost use Rattle.std.specs.Prelude.{◌≡◌, true, ◌≤◌, length, IfOk};
+ghost use Rattle.std.specs.Prelude.{◌≡◌, true, ◌≤◌};
 ghost use Rattle.srp.specs.Descriptors.{segments_of, sum_of, reachable};
 ghost use Rattle.cutlist.specs.Outputs.{Ready};
 
@@ -15,37 +15,22 @@ use srp::{Kind, Refusal};
 use std::io::{self, Read};
 
 // one byte more than the longest message, so that a longer one is seen
-const INPUT: usize = (LONGEST_AGREED as usize) + 1;
+const INPUT: u64 = (LONGEST_AGREED as u64) + 1;
 
 // some 250 lines for each write
 const TEXT: usize = 8192;
 
 fn main(rt: HostRuntime) -> io::Result<()> {
-    let mut input = [0u8; INPUT];
-    let n = read_full(&mut rt.stdin(), &mut input)?;
-    print(&rt, &input[..n])
-}
-
-// Reads until the buffer is full or the input ends.
-fn read_full<R: Read>(input: &mut R, buf: &mut [u8]) -> io::Result<usize>
-    ensures { IfOk result (λ n. n ≤ length buf.new) }
-{
-    let mut n: usize = 0;
-    while n < buf.len() {
-        let got = input.read(&mut buf[n..])?;
-        if got == 0 {
-            break;
-        }
-        n += got;
-    }
-    Ok(n)
+    let mut input = Vec::new(rt.alloc());
+    rt.stdin().take(INPUT).read_to_end(&mut input)?;
+    print(&rt, &input)
 }
 
 fn print(rt: &impl Print, msg: &[u8]) -> io::Result<()> {
     match output::output_of(msg) {
-        Output::Refused(refusal) => print_refusal(rt, refusal),
-        Output::Fetch => rt.write_all(b"fetch\n"),
-        Output::Operations(out, inn) => {
+        Err(refusal) => print_refusal(rt, refusal),
+        Ok(Output::Fetch) => rt.write_all(b"fetch\n"),
+        Ok(Output::Operations(out, inn)) => {
             print_buffer(rt, msg, Kind::Read, out)?;
             print_buffer(rt, msg, Kind::Write, inn)
         }
@@ -61,13 +46,9 @@ fn print_refusal(rt: &impl Print, refusal: Refusal) -> io::Result<()> {
 fn print_buffer(rt: &impl Print, msg: &[u8], kind: Kind, buffer: Buffer) -> io::Result<()>
     requires { Ready msg.now buffer }
 {
-    let descriptor = buffer.descriptor;
-    print_operations(
-        rt,
-        command::segment_list(command::standing(msg, descriptor), &msg[0..0], descriptor),
-        kind,
-        buffer.total,
-    )
+    let Buffer { descriptor, total } = buffer;
+    let list = command::segment_list(command::standing(msg, descriptor), &[], descriptor);
+    print_operations(rt, list, kind, total)
 }
 
 // The operations of one direction, a full text at a time.

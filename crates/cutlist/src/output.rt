@@ -6,9 +6,8 @@ ghost use Rattle.cutlist.specs.Lines.{longest_line, Fills};
 ghost use Rattle.cutlist.specs.Outputs.{operations_of, output_of_lem, Printable};
 
 use crate::lines;
-use cut::Total;
 use srp::limits::{BOTH_FORMATS, LONGEST_AGREED};
-use srp::{Command, Cut, Descriptor, Kind, Message, Refusal};
+use srp::{Command, Descriptor, Kind, Refusal};
 
 const MAXIMUM: u32 = 512;
 
@@ -21,10 +20,9 @@ pub struct Buffer {
     pub total: u32,
 }
 
-// Operations: data-out's buffer and data-in's.
+// What a command that is not refused comes to: a table to fetch, or operations, data-out's buffer and data-in's.
 #[derive(Clone, Copy)]
 pub enum Output {
-    Refused(Refusal),
     Fetch,
     Operations(Buffer, Buffer),
 }
@@ -36,22 +34,21 @@ pub struct Filled {
     pub from: u32,
 }
 
-fn operations(msg: &[u8], c: Command) -> Output
+fn operations(msg: &[u8], c: Command) -> Result<Output, Refusal>
     requires { FitsIn msg.now c }
     ensures { (result ≡ operations_of c msg.now) × Printable msg.now result }
 {
-    let out = c.out;
-    let inn = c.inn;
+    let Command { out, inn, .. } = c;
     if command::waits(c) {
-        return Output::Fetch;
+        return Ok(Output::Fetch);
     }
-    let Total::Sum(out_total) = command::fields(command::standing(msg, out), &msg[0..0], out) else {
-        return Output::Refused(Refusal::Fields);
+    let Some(out_total) = command::fields(command::standing(msg, out), &[], out) else {
+        return Err(Refusal::Fields);
     };
-    let Total::Sum(in_total) = command::fields(command::standing(msg, inn), &msg[0..0], inn) else {
-        return Output::Refused(Refusal::Fields);
+    let Some(in_total) = command::fields(command::standing(msg, inn), &[], inn) else {
+        return Err(Refusal::Fields);
     };
-    Output::Operations(
+    Ok(Output::Operations(
         Buffer {
             descriptor: out,
             total: out_total as u32,
@@ -60,18 +57,16 @@ fn operations(msg: &[u8], c: Command) -> Output
             descriptor: inn,
             total: in_total as u32,
         },
-    )
+    ))
 }
 
-pub fn output_of(msg: &[u8]) -> Output
+pub fn output_of(msg: &[u8]) -> Result<Output, Refusal>
     ensures { (result ≡ output_of_lem msg.now) × Printable msg.now result }
 {
-    match command::look_command(msg, LONGEST_AGREED, BOTH_FORMATS) {
-        Message::Cmd(c) => operations(msg, c),
-        Message::Bad(refusal) => Output::Refused(refusal),
-        // look reads a command alone
-        _ => Output::Refused(Refusal::OtherType),
-    }
+    operations(
+        msg,
+        command::look_command(msg, LONGEST_AGREED, BOTH_FORMATS)?,
+    )
 }
 
 // Lines of the operations from byte `from` on, up to byte `to`.
@@ -91,11 +86,11 @@ pub fn fill(text: &mut [u8], list: &[u8], kind: Kind, from: u32, to: u32) -> Fil
                 from: next,
             };
         }
-        let Cut::CutPiece(p) = cut::next_piece(list, MAXIMUM, next, to) else {
+        let Some(p) = cut::next_piece(list, MAXIMUM, next, to) else {
             return Filled { len: end, from: to };
         };
         end = lines::put_operation(&mut *text, end, kind, p);
-        next = next + p.len;
+        next += p.len;
     }
     Filled {
         len: end,

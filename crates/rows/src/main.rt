@@ -5,11 +5,9 @@
 
 mod row;
 
-ghost use Rattle.std.specs.Prelude.{◌≤◌, length, IfOk};
-
 use std::io::{self, Read};
 
-const INPUT: usize = 262144;
+const INPUT: u64 = 262144;
 
 #[derive(Clone, Copy)]
 pub struct Counts {
@@ -20,24 +18,9 @@ pub struct Counts {
 }
 
 fn main(rt: HostRuntime) -> io::Result<()> {
-    let mut input = [0u8; INPUT];
-    let n = read_full(&mut rt.stdin(), &mut input)?;
-    run(&rt, &input[..n])
-}
-
-// Reads until the buffer is full or the input ends.
-fn read_full<R: Read>(input: &mut R, buf: &mut [u8]) -> io::Result<usize>
-    ensures { IfOk result (λ n. n ≤ length buf.new) }
-{
-    let mut n: usize = 0;
-    while n < buf.len() {
-        let got = input.read(&mut buf[n..])?;
-        if got == 0 {
-            break;
-        }
-        n += got;
-    }
-    Ok(n)
+    let mut input = Vec::new(rt.alloc());
+    rt.stdin().take(INPUT).read_to_end(&mut input)?;
+    run(&rt, &input)
 }
 
 fn run(rt: &impl Print, s: &[u8]) -> io::Result<()> {
@@ -63,7 +46,7 @@ fn run(rt: &impl Print, s: &[u8]) -> io::Result<()> {
         } else {
             print(rt, b"wrong at byte ", at)?;
         }
-        at = at + n;
+        at += n;
     }
     print(rt, b"look ", right.look)?;
     print(rt, b"cut ", right.cut)?;
@@ -75,28 +58,20 @@ fn run(rt: &impl Print, s: &[u8]) -> io::Result<()> {
 fn counted(c: Counts, kind: u8) -> Counts {
     match kind {
         row::LOOK => Counts {
-            look: std::num::wrapping_add_usize(c.look, 1),
-            cut: c.cut,
-            cdb: c.cdb,
-            segments: c.segments,
+            look: c.look.wrapping_add(1),
+            ..c
         },
         row::CUT => Counts {
-            look: c.look,
-            cut: std::num::wrapping_add_usize(c.cut, 1),
-            cdb: c.cdb,
-            segments: c.segments,
+            cut: c.cut.wrapping_add(1),
+            ..c
         },
         row::CDB => Counts {
-            look: c.look,
-            cut: c.cut,
-            cdb: std::num::wrapping_add_usize(c.cdb, 1),
-            segments: c.segments,
+            cdb: c.cdb.wrapping_add(1),
+            ..c
         },
         _ => Counts {
-            look: c.look,
-            cut: c.cut,
-            cdb: c.cdb,
-            segments: std::num::wrapping_add_usize(c.segments, 1),
+            segments: c.segments.wrapping_add(1),
+            ..c
         },
     }
 }

@@ -5,9 +5,8 @@ ghost use Rattle.std.specs.Prelude.{◌≡◌, ◌+◌, ◌≤◌, length};
 ghost use Rattle.command.specs.Reading.{LiesIn};
 ghost use Rattle.rows.specs.Packed.{Ascending};
 
-use cut::Total;
 use srp::limits::{BOTH_FORMATS, LONGEST_AGREED};
-use srp::{Descriptor, Direction, Message};
+use srp::{Descriptor, Direction};
 
 pub const LOOK: u8 = b'l';
 
@@ -54,11 +53,11 @@ pub fn ends_of(s: &[u8]) -> Ends
     let fourth = third + (wire::read16(s, LENGTHS + 6) as usize);
     let fifth = fourth + (wire::read16(s, LENGTHS + 8) as usize);
     Ends {
-        first: first,
-        second: second,
-        third: third,
-        fourth: fourth,
-        fifth: fifth,
+        first,
+        second,
+        third,
+        fourth,
+        fifth,
     }
 }
 
@@ -110,27 +109,17 @@ fn answered(s: &[u8], e: Ends, buf: &mut [u8]) -> bool
     requires ascending { Ascending e }
     requires s_len { length s.now ≡ e.fifth }
 {
-    let third = e.third;
-    let fourth = e.fourth;
     let lent = wire::read8(s, LENT) as usize;
     let fill = wire::read8(s, FILL);
     if buf.len() < lent {
         return false;
     }
-    set_all(&mut *buf, fill);
+    buf.fill(fill);
     let refusal = ask(s, e.first, &mut buf[0..lent]);
     if refusal != (wire::read8(s, REFUSAL) as u32) {
         return false;
     }
-    filled(buf, &s[third..fourth], fill)
-}
-
-fn set_all(buf: &mut [u8], fill: u8) {
-    let mut i: usize = 0;
-    while i < buf.len() {
-        buf[i] = fill;
-        i += 1;
-    }
+    filled(buf, &s[e.third..e.fourth], fill)
 }
 
 // cdb: the agreed length and formats; the message, the CDB.
@@ -138,13 +127,7 @@ fn cdb_right(s: &[u8], e: Ends) -> bool
     requires ascending { Ascending e }
     requires s_len { length s.now ≡ e.fifth }
 {
-    let first = e.first;
-    let third = e.third;
-    let fourth = e.fourth;
-    same(
-        command::cdb(&s[HEADER..first], number(s, 0), number(s, 1)),
-        &s[third..fourth],
-    )
+    command::cdb(&s[HEADER..e.first], number(s, 0), number(s, 1)) == &s[e.third..e.fourth]
 }
 
 // segments: the message, both tables, both lists; or refusal 10.
@@ -152,74 +135,29 @@ fn segments_right(s: &[u8], e: Ends) -> bool
     requires ascending { Ascending e }
     requires s_len { length s.now ≡ e.fifth }
 {
-    let first = e.first;
-    let second = e.second;
-    let third = e.third;
-    let fourth = e.fourth;
-    let fifth = e.fifth;
-    let msg = &s[HEADER..first];
-    let Message::Cmd(c) = command::look_command(msg, LONGEST_AGREED, BOTH_FORMATS) else {
+    let msg = &s[HEADER..e.first];
+    let Ok(c) = command::look_command(msg, LONGEST_AGREED, BOTH_FORMATS) else {
         return false;
     };
-    let out = c.out;
-    let inn = c.inn;
-    let out_table = &s[first..second];
-    let in_table = &s[second..third];
-    if !fits(msg, out_table, out) {
+    let out_table = &s[e.first..e.second];
+    let in_table = &s[e.second..e.third];
+    if !fits(msg, out_table, c.out) || !fits(msg, in_table, c.inn) {
         return s[REFUSAL] == FIELDS;
     }
-    if !fits(msg, in_table, inn) {
-        return s[REFUSAL] == FIELDS;
-    }
-    if s[REFUSAL] != 0 {
-        return false;
-    }
-    if !same(
-        command::segments(msg, out_table, Direction::Out, LONGEST_AGREED, BOTH_FORMATS),
-        &s[third..fourth],
-    ) {
-        return false;
-    }
-    same(
-        command::segments(msg, in_table, Direction::In, LONGEST_AGREED, BOTH_FORMATS),
-        &s[fourth..fifth],
-    )
+    let out = command::segments(msg, out_table, Direction::Out, LONGEST_AGREED, BOTH_FORMATS);
+    let inn = command::segments(msg, in_table, Direction::In, LONGEST_AGREED, BOTH_FORMATS);
+    s[REFUSAL] == 0 && out == &s[e.third..e.fourth] && inn == &s[e.fourth..e.fifth]
 }
 
 // Whether a direction's table has F bytes and no field of it is bad.
 fn fits(msg: &[u8], table: &[u8], d: Descriptor) -> bool
     requires { LiesIn msg.now d }
 {
-    if table.len() != (command::fetched_length(d) as usize) {
-        return false;
-    }
-    match command::fields(command::standing(msg, d), table, d) {
-        Total::Sum(_) => true,
-        Total::Wrong => false,
-    }
-}
-
-fn same(a: &[u8], b: &[u8]) -> bool {
-    if a.len() != b.len() {
-        return false;
-    }
-    wire::begins(a, b)
+    table.len() == (command::fetched_length(d) as usize)
+        && command::fields(command::standing(msg, d), table, d).is_some()
 }
 
 // Whether a buffer starts with the answer, and every other byte is what filled it.
 fn filled(buf: &[u8], answer: &[u8], fill: u8) -> bool {
-    if buf.len() < answer.len() {
-        return false;
-    }
-    if !wire::begins(answer, buf) {
-        return false;
-    }
-    let mut i = answer.len();
-    while i < buf.len() {
-        if buf[i] != fill {
-            return false;
-        }
-        i += 1;
-    }
-    true
+    buf.starts_with(answer) && buf.iter().skip(answer.len()).all(|b| *b == fill)
 }

@@ -16,26 +16,26 @@ returns-then-text-end-lt-LONGEST_LINE c =
 pub returns-in_default : goal.returns-in_default
 returns-in_default c =
     let t = there c.loop-next.invariant c.loop-next-test.true c.next_piece.ensures in
-    absurd (c.in_default.not-CutPiece t.0 t.1)
+    cc (t.1, c.in_default.is)
 
 pub put_operation-end-requires : goal.put_operation-end-requires
 put_operation-end-requires c =
-    let f = short c.loop-next.invariant c.loop-next-test.true c.next_piece.ensures c.in-CutPiece.is in
+    let f = short c.loop-next.invariant c.loop-next-test.true c.next_piece.ensures c.in-Some.is in
     omega (arith, f, c.if-text-end-lt-LONGEST_LINE.false)
 
 pub overflow_add-next : goal.overflow_add-next
 overflow_add-next c =
-    let f = fits c.loop-next.invariant c.loop-next-test.true c.next_piece.ensures c.in-CutPiece.is in
+    let f = fits c.loop-next.invariant c.loop-next-test.true c.next_piece.ensures c.in-Some.is in
     record { fits = omega (arith, f.upto) }
 
 pub loop-next-smaller : goal.loop-next-smaller
 loop-next-smaller c =
-    let f = fits c.loop-next.invariant c.loop-next-test.true c.next_piece.ensures c.in-CutPiece.is in
+    let f = fits c.loop-next.invariant c.loop-next-test.true c.next_piece.ensures c.in-Some.is in
     omega (arith, f.some, c.loop-next-test.true)
 
 pub loop-next-preserved : goal.loop-next-preserved
 loop-next-preserved c =
-    on c.loop-next.invariant c.loop-next-test.true c.next_piece.ensures c.in-CutPiece.is (search rules) c.put_operation-end.ensures
+    on c.loop-next.invariant c.loop-next-test.true c.next_piece.ensures c.in-Some.is (search rules) c.put_operation-end.ensures
 
 pub returns : goal.returns
 returns c =

@@ -24,20 +24,20 @@ fields-requires-2 c =
 pub returns-in_default-fields : goal.returns-in_default-fields
 returns-in_default-fields c =
     let no = sym c.waits.ensures ∙ c.if-waits.false in
-    let out = summed c.args.c.out c.args.msg.now c.standing.ensures.0 c.fields.ensures.0 c.in-Sum.is in
+    let out = summed c.args.c.out c.args.msg.now c.standing.ensures.0 c.fields.ensures.0 c.in-Some.is in
     (bad_in c.args.c c.args.msg.now no out (summed c.args.c.inn c.args.msg.now c.standing-2.ensures.0 c.fields-2.ensures.0 c.in_default-fields.is), tt)
 
 pub overflow_cast-result : goal.overflow_cast-result
 overflow_cast-result c =
-    record { fits = (rw c.in-Sum.is at c.fields.ensures.1).2 }
+    record { fits = (rw c.in-Some.is at c.fields.ensures.1).2 }
 
 pub overflow_cast-result-2 : goal.overflow_cast-result-2
 overflow_cast-result-2 c =
-    record { fits = (rw c.in-Sum-fields.is at c.fields-2.ensures.1).2 }
+    record { fits = (rw c.in-Some-fields.is at c.fields-2.ensures.1).2 }
 
 pub returns : goal.returns
 returns c =
     let no = sym c.waits.ensures ∙ c.if-waits.false in
-    let out = summed c.args.c.out c.args.msg.now c.standing.ensures.0 c.fields.ensures.0 c.in-Sum.is in
-    let inn = summed c.args.c.inn c.args.msg.now c.standing-2.ensures.0 c.fields-2.ensures.0 c.in-Sum-fields.is in
+    let out = summed c.args.c.out c.args.msg.now c.standing.ensures.0 c.fields.ensures.0 c.in-Some.is in
+    let inn = summed c.args.c.inn c.args.msg.now c.standing-2.ensures.0 c.fields-2.ensures.0 c.in-Some-fields.is in
     (all_good c.args.c c.args.msg.now no out inn, (ready c.requires.out out, ready c.requires.inn inn))
