@@ -14,8 +14,7 @@ use wire::layout::SHORT_SIZE;
 use words::PORT;
 
 // Closes the open channel with a reason, and answers with a reply.
-pub fn log_out(s: &mut [u64], buf: &mut [u8], reply: Result<Reply, Refusal>, reason: u32) -> Answer
-    requires s_len { length s.old ≡ port_words }
+pub fn log_out(s: &mut [u64; PORT], buf: &mut [u8], reply: Result<Reply, Refusal>, reason: u32) -> Answer
     requires s_value { (head_of s.old).live ≡ true }
     requires buffer_size_in_bounds { buffer_size ≤ length buf.old }
     ensures { LogsOut s.old buf.old s.new buf.new reply reason result }

@@ -25,7 +25,7 @@ returns-then-not-live c =
 
 pub log_out-requires : goal.log_out-requires
 log_out-requires c =
-    record { s_len = c.log_out-arg-1.given.0.1; s_value = head_open c.get_head-h.ensures (ap not c.if-not-live.false); buffer_size_in_bounds = c.if-buf.false }
+    record { s_value = head_open c.get_head-h.ensures (ap not c.if-not-live.false); buffer_size_in_bounds = c.if-buf.false }
 
 pub returns : goal.returns
 returns c =
