@@ -1,19 +1,15 @@
 -- The checks of add, withdraw and grant, of an open channel by the head that was read.
 -- Assumes nothing.
 use mathlib.Core.Path.{◌≡◌, refl, sym, ◌∙◌, ap}
-use mathlib.Core.Bool.{true, false}
 use mathlib.Core.List.{List, [], ◌∷◌}
-use Prim.Native.Nat.{ℕ, ◌+◌, ◌-◌, ◌≤◌, ◌<◌}
-use native.Mathlib.Omega.{arith}
+use Prim.Native.Nat.{ℕ, ◌+◌, ◌-◌, ◌≤◌}
 use lib.Dec.{ltb, leb, eqb}
-use lib.ListN.{length}
-use borrow.Author.Tests.{eq-eqb, ne_eqb, le-ltb}
+use borrow.Author.Tests.{ne_eqb, le-ltb}
 use Rattle.srp.specs.Limits.{buffer_size, most_buffers}
 use Rattle.srp.specs.Credit.{Port}
 use Rattle.srp.specs.Refusals.{first_of_checks}
 use Rattle.srp.specs.Calls.{add_checks, withdraw_checks, grant_checks}
 use Rattle.srp.specs.declared.Refusal.TheVariants.{Unanswered, NotOwed, Wanted}
-use Rattle.words.specs.Head.{head_of}
 use Rattle.words.specs.View.{view}
 use Rattle.words.specs.declared.Head.{Head}
 use Rattle.words.proofs.Ports.{while_open, view_live}
