@@ -57,6 +57,10 @@ refuses l st {k} {f} o e = rw e (refused l st f)
 pub performs : (l st l' st' : List ℕ) {k : Option Refusal} {r : Result Reply Refusal} (o : Outcome) → k ≡ none → RepliesAs l st l' st' r o → RepliesAs l st l' st' r (unless k (view l st) o)
 performs l st l' st' o e R = rw e R
 
+-- what a refusal that a call hands on has
+pub handed : {A : Type 0} (P : Result A Refusal → Type 0) (r : Result A Refusal) {f : Refusal} → IsErrAnd r (λ g. g ≡ f) → P (Err f) → P r
+handed P r on x = let p = err_from_is_err_and r on in rw (p.1, p.2) x
+
 -- ── a refusal of the first checks that a call hands on, of its outcome o and its checks
 
 module _ (l st : List ℕ) (o : Outcome) (checks : List Check) (r : Result Reply Refusal) {f : Refusal} (on : IsErrAnd r (λ g. g ≡ f)) where
