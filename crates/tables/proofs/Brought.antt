@@ -10,7 +10,7 @@ use borrow.Author.Tests.{eq-eqb, ne_eqb, leb-true}
 use lib.Dec.{eqb, leb}
 use lib.ListN.{length, get_or, take, drop, set}
 use lib.Seq.{take_at, get_or-take, take-set-lt}
-use Rattle.std.specs.Prelude.{Result, Ok, Err}
+use Rattle.std.specs.Prelude.{Result, Ok}
 use Rattle.srp.specs.Lists.{change, over}
 use Rattle.srp.specs.Descriptors.{whole, good_table_lem, fetched, standing_size_lem, Given, chosen, segments, sum_of, copies_agree_lem, good_format}
 use Rattle.srp.specs.Credit.{Open, Port, with_held, has_tag}
@@ -128,6 +128,3 @@ kept ne = record { kept = λ _. refl; brought = λ e. absurd (ne e) }
 pub placed : {l st l' st' : List ℕ} {tag i : ℕ} → FoundAt l tag i → OwnPlace i l st l' st' → Stores l st l' st' tag (Ok Performed)
 placed {l} {st} {l'} {st'} {tag} {i} F P =
     record { kept = λ ne. absurd (ne refl); brought = λ _. record { slot = i; inside = F.inside; tagged = F.tagged; place = P } }
-
-pub not_performed : (f : Refusal) → ◌≡◌ {A = Result Reply Refusal} (Err f) (Ok Performed) → ⊥
-not_performed f e = let z : ◌≡◌ {A = ℕ} 0 1 = cc in omega arith
