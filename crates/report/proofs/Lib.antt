@@ -1,5 +1,2 @@
-pub mod Cases
-pub mod Signs
-pub mod Filling
-pub mod Fitting
-pub mod Into
+pub mod Counted
+pub mod Listed
