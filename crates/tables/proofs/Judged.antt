@@ -6,7 +6,6 @@ use mathlib.Core.List.{List, [], ◌∷◌}
 use Prim.Native.Nat.{ℕ, ◌≤◌}
 use lib.ListN.{length, get_or, drop}
 use Rattle.std.specs.Prelude.{Result, Ok, Err, IsErrAnd}
-use Rattle.std.proofs.lemmas.Result.{err_from_is_err_and}
 use Rattle.srp.specs.Limits.{buffer_size}
 use Rattle.srp.specs.Both.{Both}
 use Rattle.srp.specs.Descriptors.{fetched, Given, segments, reachable, good_format, good_fields}
@@ -28,7 +27,7 @@ use Rattle.words.proofs.Ports.{view_live}
 use Rattle.state.specs.Changes.{FoundAt}
 use Rattle.state.specs.Opening.{Draws}
 use Rattle.state.proofs.Promises.{unaltered, answers_by, accepted, found_slot}
-use Rattle.state.proofs.Drawn.{answers_closed}
+use Rattle.state.proofs.Drawn.{answers_closed, handed}
 use Rattle.store.specs.Places.{Supplied}
 use Rattle.tables.specs.Bringing.{tables, judged_def, bad_def, answered_by, Kept, EndsBad, Brings}
 use Rattle.tables.proofs.Judging.{tables_judged, out_9, in_9, out_10, in_10, tables_on}
@@ -45,8 +44,7 @@ module _ {l st b : List ℕ} {tag : ℕ} {t : Tables} where
   pub refuses_closed : {f : Refusal} → buffer_size ≤ length b → Draws l (λ p. closed p ∷ []) f → (r : Result Answer Refusal) → IsErrAnd r (λ g. g ≡ f)
       → Brings l st b l st b tag t (answered_by r)
   refuses_closed {f} h e r on =
-      let p = err_from_is_err_and r on in
-      rw (p.1, p.2)
+      handed (λ x. Brings l st b l st b tag t (answered_by x)) r on
       (record {
         answers = answers_closed l st b {r = refusing f} refl (λ k. tables_by k (view l st) tag t) refl h e (drop 2 (tables_checks (view l st) (length b) tag t));
         store = kept (λ q. cc);
