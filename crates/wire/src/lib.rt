@@ -132,14 +132,7 @@ pub fn other_formats(supported: u32, formats: u32) -> bool
     formats % 2 == 1 || supported + 1 < formats
 }
 
-// ── numbers and lists
-
-// The smaller of two numbers.
-pub fn least(a: u64, b: u64) -> u64
-    ensures { result ≡ min a b }
-{
-    a.min(b)
-}
+// ── lists
 
 // The first n bytes are set to 0.
 pub fn clear(s: &mut [u8], n: usize)
