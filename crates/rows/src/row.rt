@@ -1,7 +1,7 @@
 // A packed row: its kind, how many bytes are lent and what fills them, the refusal (0 for none), three numbers of 4 bytes, the lengths
 // of five strings of bytes, 2 bytes each, Q in 8 bytes, and the strings.
 
-ghost use Rattle.std.specs.Prelude.{◌≡◌, ◌+◌, ◌≤◌, length};
+ghost use Rattle.std.specs.Prelude.{◌≡◌, ◌≤◌, length};
 ghost use Rattle.command.specs.Reading.{LiesIn};
 ghost use Rattle.rows.specs.Packed.{Ascending};
 

@@ -4,7 +4,7 @@
 
 mod fresh;
 
-ghost use Rattle.std.specs.Prelude.{◌≡◌, true, List, ℕ, ◌≤◌, length};
+ghost use Rattle.std.specs.Prelude.{◌≡◌, true, ◌≤◌, length};
 ghost use Rattle.srp.specs.Limits.{buffer_size};
 ghost use Rattle.words.specs.Head.{head_of};
 ghost use Rattle.take.specs.Taking.{HangsUp, Admits, Answers, EndsTask, SettlesCredit, LogsOut, Decides, Takes};

@@ -2,11 +2,11 @@
 // that the owner chooses or of all moves by turns.
 #![tactic(auto)]
 
-ghost use Rattle.std.specs.Prelude.{◌≡◌, true, false, ◌≤◌, ◌<◌, ◌+◌, max, length, get_or};
+ghost use Rattle.std.specs.Prelude.{◌≡◌, true, false, ◌≤◌, ◌<◌, ◌+◌, max, get_or};
 ghost use Rattle.srp.specs.Limits.{most_copies};
-ghost use Rattle.srp.specs.Calls.{next_in, kind_of};
+ghost use Rattle.srp.specs.Calls.{next_in};
 ghost use Rattle.cut.specs.Walk.{next_wrapped};
-ghost use Rattle.words.specs.Sizes.{port_words, store_size, most_slots, list_size};
+ghost use Rattle.words.specs.Sizes.{store_size, most_slots, list_size};
 ghost use Rattle.words.specs.Slots.{slots, no_slot, place_at_lem};
 ghost use Rattle.words.specs.Head.{head_of};
 ghost use Rattle.words.specs.View.{side_of};

@@ -4,7 +4,7 @@
 
 pub mod layout;
 
-ghost use Rattle.std.specs.Prelude.{◌≡◌, ◌++◌, ◌+◌, ◌≤◌, ◌<◌, ◌/◌, ◌%◌, ◌^◌, min, length, take, drop};
+ghost use Rattle.std.specs.Prelude.{◌≡◌, ◌++◌, ◌+◌, ◌≤◌, ◌<◌, ◌/◌, ◌%◌, ◌^◌, length, take, drop};
 ghost use Rattle.srp.specs.Limits.{both_formats};
 ghost use Rattle.srp.specs.Bytes.{Field, get, put, part, replaced, zeros};
 ghost use Rattle.srp.specs.Descriptors.{same_bytes};
