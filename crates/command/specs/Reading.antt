@@ -1,8 +1,8 @@
 -- What is known of a command that was read, and of its fields.
-use Rattle.std.specs.Prelude.{◌≡◌, cond, ◌&&◌, List, ℕ, ◌+◌, ◌*◌, ◌≤◌, ◌<◌, ◌%◌, ◌^◌, eqb, length, Some, None}
+use Rattle.std.specs.Prelude.{◌≡◌, cond, ◌&&◌, List, ℕ, ◌+◌, ◌*◌, ◌≤◌, ◌<◌, ◌%◌, ◌^◌, eqb, length, Option, Some, None}
 use Rattle.srp.specs.Limits.{longest_table, most_copies}
 use Rattle.srp.specs.Messages.{cmd}
-use Rattle.srp.specs.Descriptors.{Segment, Given, descriptor_size, chosen, segments, sum_of, reachable, good_fields}
+use Rattle.srp.specs.Descriptors.{Segment, Given, descriptor_size, bad_count, chosen, segments, sum_of, reachable, good_fields}
 use Rattle.srp.specs.declared.Command.{Command}
 use Rattle.srp.specs.declared.Descriptor.{Descriptor}
 use Rattle.cut.specs.Walk.{Total}
@@ -13,6 +13,10 @@ use Rattle.command.specs.declared.shape.Shape.{Shape}
 -- a descriptor with another total length
 abbrev pub with_total_lem : ℕ → Descriptor → Descriptor
 with_total_lem n d = record { format = d.format; count = d.count; at = d.at; len = d.len; total = n }
+
+-- a descriptor, unless its count is bad
+abbrev pub counted : Descriptor → Option Descriptor
+counted d = cond (bad_count d) None (Some d)
 
 -- a descriptor of format 0, 1 or 2 inside the message s, with at most 32 copies and no more than its table has
 pub record LiesIn (s : List ℕ) (d : Descriptor) : Type 0 where

@@ -1,7 +1,7 @@
-// A data buffer descriptor in a message: whether its format is agreed, its size, the table to fetch for it.
-ghost use Rattle.std.specs.Prelude.{◌≡◌, ◌+◌, ◌≤◌, length};
-ghost use Rattle.srp.specs.Descriptors.{descriptor_size, agrees, bad_count, descriptor_of_lem, good_table_lem, fetched, fetch_of};
-ghost use Rattle.command.specs.Reading.{with_total_lem, LiesIn};
+// A data buffer descriptor in a message: its format where agreed, its size, the table to fetch for it.
+ghost use Rattle.std.specs.Prelude.{◌≡◌, ◌+◌, ◌≤◌, cond, length, Some, None, IfSome};
+ghost use Rattle.srp.specs.Descriptors.{descriptor_size, agrees, descriptor_of_lem, good_table_lem, fetched, fetch_of};
+ghost use Rattle.command.specs.Reading.{with_total_lem, counted, LiesIn};
 
 use srp::limits::{LONGEST_TABLE, MOST_COPIES};
 use srp::{Descriptor, Fetch};
@@ -9,14 +9,13 @@ use wire::layout::{
     ADDRESS, DIRECT, HANDLE, INDIRECT, SEGMENT, SEGMENT_LENGTH, TABLE_DESCRIPTOR, TOTAL_LENGTH,
 };
 
-// Whether a format is among the agreed ones: no data always is.
-pub fn is_agreed(formats: u32, format: u8) -> bool
-    ensures { result ≡ agrees formats format }
+// A format that is among the agreed ones: no data always is.
+pub fn agreed_format(formats: u32, format: u8) -> Option<u8>
+    ensures value { result ≡ cond (agrees formats format) (Some format) None }
+    ensures known { IfSome result (λ f. f ≤ 2) }
 {
-    if format == 0 {
-        return true;
-    }
-    format <= INDIRECT && (formats >> (format as u32)) & 1 == 1
+    let agreed = format == 0 || (format <= INDIRECT && (formats >> (format as u32)) & 1 == 1);
+    agreed.then_some(format)
 }
 
 // How many bytes a descriptor takes: with 255 copies it is longest.
@@ -30,10 +29,12 @@ pub fn size(format: u8, count: u8) -> usize
     }
 }
 
-// A descriptor but for its total length.
-pub fn descriptor(msg: &[u8], format: u8, count: u8, at: usize) -> Descriptor
-    requires { at + descriptor_size format count ≤ length msg.now }
-    ensures { result ≡ with_total_lem 0 (descriptor_of_lem format count at msg.now) }
+// A descriptor but for its total length, unless its count is bad: more than 32 copies, or more than the table has.
+pub fn descriptor(msg: &[u8], format: u8, count: u8, at: usize) -> Option<Descriptor>
+    requires known { format ≤ 2 }
+    requires inside { at + descriptor_size format count ≤ length msg.now }
+    ensures value { result ≡ counted (with_total_lem 0 (descriptor_of_lem format count at msg.now)) }
+    ensures fits { IfSome result (LiesIn msg.now) }
 {
     let bare = Descriptor {
         format,
@@ -42,14 +43,14 @@ pub fn descriptor(msg: &[u8], format: u8, count: u8, at: usize) -> Descriptor
         len: 0,
         total: 0,
     };
-    if format != INDIRECT {
-        return bare;
-    }
-    Descriptor {
-        count,
-        len: wire::read32(msg, at + SEGMENT_LENGTH),
-        ..bare
-    }
+    let INDIRECT = format else {
+        return Some(bare);
+    };
+    let ..=MOST_COPIES = count else {
+        return None;
+    };
+    let len = wire::read32(msg, at + SEGMENT_LENGTH);
+    (SEGMENT * (count as usize) <= (len as usize)).then_some(Descriptor { count, len, ..bare })
 }
 
 // The total length that stands in the message at a descriptor's place.
@@ -61,14 +62,6 @@ pub fn total_length(msg: &[u8], d: Descriptor) -> u32
         return wire::read32(msg, d.at + TOTAL_LENGTH);
     }
     0
-}
-
-// Refusals 7 and 8: more than 32 copies, or more than the table has.
-pub fn bad_count(d: Descriptor) -> bool
-    ensures { result ≡ bad_count d }
-{
-    d.format == INDIRECT
-        && (MOST_COPIES < d.count || (d.len as usize) < SEGMENT * (d.count as usize))
 }
 
 // A multiple of 16 from 16 to 512.

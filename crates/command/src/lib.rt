@@ -13,7 +13,7 @@ ghost use Rattle.srp.specs.Requests.{request_of_lem, command_of_lem, command_che
 ghost use Rattle.srp.specs.Take.{waits};
 ghost use Rattle.command.specs.Reading.{shape_of, FitsIn, FitsShape};
 
-pub use descriptors::{fetched_length, is_agreed, size};
+pub use descriptors::{agreed_format, fetched_length, size};
 pub use given::{placeless, segment_list, standing, standing_size};
 use shape::Shape;
 use srp::{Command, Descriptor, Direction, Look, Refusal, Request};

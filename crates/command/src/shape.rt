@@ -24,33 +24,31 @@ pub fn read_shape(msg: &[u8], formats: u32) -> Result<Shape, Refusal>
     ensures shape { result ≡ unless_bad (first_of_checks (command_checks formats msg.now)) (Ok (shape_of (command_of_lem msg.now))) }
     ensures fits { IfOk result (FitsShape msg.now) }
 {
-    if msg.len() < SHORTEST_COMMAND {
+    let SHORTEST_COMMAND.. = msg.len() else {
         return Err(Refusal::Length);
-    }
+    };
     let out_format = wire::read_bits(msg, FORMATS, 4, 4);
-    if !descriptors::is_agreed(formats, out_format) {
+    let Some(out_format) = descriptors::agreed_format(formats, out_format) else {
         return Err(Refusal::OutFormat);
-    }
+    };
     let in_format = wire::read_bits(msg, FORMATS, 0, 4);
-    if !descriptors::is_agreed(formats, in_format) {
+    let Some(in_format) = descriptors::agreed_format(formats, in_format) else {
         return Err(Refusal::InFormat);
-    }
+    };
     let out_count = wire::read8(msg, OUT_COUNT);
     let in_count = wire::read8(msg, IN_COUNT);
     let cdb = SHORTEST_CDB + 4 * (wire::read_bits(msg, ADDITIONAL, 2, 6) as usize);
     let out_at = CDB + cdb;
     let in_at = out_at + descriptors::size(out_format, out_count);
-    if msg.len() != in_at + descriptors::size(in_format, in_count) {
+    let Some([]) = msg.get(in_at + descriptors::size(in_format, in_count)..) else {
         return Err(Refusal::Length);
-    }
-    let out = descriptors::descriptor(msg, out_format, out_count, out_at);
-    if descriptors::bad_count(out) {
+    };
+    let Some(out) = descriptors::descriptor(msg, out_format, out_count, out_at) else {
         return Err(Refusal::OutCount);
-    }
-    let inn = descriptors::descriptor(msg, in_format, in_count, in_at);
-    if descriptors::bad_count(inn) {
+    };
+    let Some(inn) = descriptors::descriptor(msg, in_format, in_count, in_at) else {
         return Err(Refusal::InCount);
-    }
+    };
     Ok(Shape { cdb, out, inn })
 }
 
@@ -59,17 +57,16 @@ pub fn look_shape(msg: &[u8], agreed: u32, formats: u32) -> Result<Shape, Refusa
     ensures shape { result ≡ unless_bad (first_of_checks (look_checks agreed formats msg.now)) (Ok (shape_of (command_of_lem msg.now))) }
     ensures fits { IfOk result (FitsShape msg.now) }
 {
-    if agreed < SHORTEST_AGREED || LONGEST_AGREED < agreed {
+    let other_formats = wire::other_formats(BOTH_FORMATS, formats);
+    let (SHORTEST_AGREED..=LONGEST_AGREED, false) = (agreed, other_formats) else {
         return Err(Refusal::Setting);
-    }
-    if wire::other_formats(BOTH_FORMATS, formats) {
-        return Err(Refusal::Setting);
-    }
-    if msg.len() < SHORTEST_MESSAGE || (agreed as usize) < msg.len() {
+    };
+    let left = (agreed as usize).checked_sub(msg.len());
+    let (SHORTEST_MESSAGE.., Some(_)) = (msg.len(), left) else {
         return Err(Refusal::Length);
-    }
-    if wire::read8(msg, 0) != COMMAND {
+    };
+    let COMMAND = wire::read8(msg, 0) else {
         return Err(Refusal::OtherType);
-    }
+    };
     read_shape(msg, formats)
 }

@@ -21,18 +21,18 @@ fn counted(d: Division, formats: u32, byte: u8) -> Division
     requires { (d.pass < values) × (d.out < values) × (d.inn < values) }
     ensures { result ≡ counted_in d (drawn formats byte) }
 {
-    if !command::is_agreed(formats, wire::bits_of(byte, 4, 4)) {
+    let Some(_) = command::agreed_format(formats, wire::bits_of(byte, 4, 4)) else {
         return Division {
             out: d.out + 1,
             ..d
         };
-    }
-    if !command::is_agreed(formats, wire::bits_of(byte, 0, 4)) {
+    };
+    let Some(_) = command::agreed_format(formats, wire::bits_of(byte, 0, 4)) else {
         return Division {
             inn: d.inn + 1,
             ..d
         };
-    }
+    };
     Division {
         pass: d.pass + 1,
         ..d

@@ -43,12 +43,13 @@ pub fn read_message(msg: &[u8], agreed: u32, formats: u32) -> Result<Message, Re
     ensures reading { result ≡ read_message_lem agreed formats msg.now }
     ensures fits { FitsMessage msg.now result }
 {
-    if msg.len() < SHORTEST_MESSAGE || (agreed as usize) < msg.len() {
+    let left = (agreed as usize).checked_sub(msg.len());
+    let (SHORTEST_MESSAGE.., Some(_)) = (msg.len(), left) else {
         return Err(Refusal::Length);
-    }
+    };
     let kind = wire::read8(msg, 0);
-    if kind != COMMAND {
+    let COMMAND = kind else {
         return read_other(msg, kind);
-    }
+    };
     Ok(Message::Cmd(command::read_command(msg, formats)?))
 }
