@@ -4,28 +4,31 @@
 
 ghost use Rattle.std.specs.Prelude.{◌≡◌, true, ◌≤◌, length};
 ghost use Rattle.srp.specs.Limits.{buffer_size};
-ghost use Rattle.words.specs.Sizes.{port_words};
 ghost use Rattle.words.specs.Head.{head_of};
 ghost use Rattle.close.specs.Closing.{LogsOut, Closes};
 
 use srp::limits::LONGEST_WRITTEN_MESSAGE;
 use srp::{Answer, Refusal, Reply};
+use state::opening;
 use wire::layout::SHORT_SIZE;
 use words::PORT;
 
 // Closes the open channel with a reason, and answers with a reply.
-pub fn log_out(s: &mut [u64], buf: &mut [u8], reply: Result<Reply, Refusal>, reason: u32) -> Answer
-    requires s_len { length s.old ≡ port_words }
+pub fn log_out(
+    s: &mut [u64; PORT],
+    buf: &mut [u8],
+    reply: Result<Reply, Refusal>,
+    reason: u32,
+) -> Answer
     requires s_value { (head_of s.old).live ≡ true }
     requires buffer_size_in_bounds { buffer_size ≤ length buf.old }
     ensures { LogsOut s.old buf.old s.new buf.new reply reason result }
 {
-    let h = words::get_head(s);
-    let terms = h.terms;
+    let terms = words::get_head(s).terms;
     words::clear(s);
     message::put_logout(buf, terms.losolnt, reason);
     Answer {
-        reply: reply,
+        reply,
         wrote: SHORT_SIZE,
     }
 }
@@ -37,10 +40,8 @@ pub fn close(s: &mut [u64; PORT], reason: u32, buf: &mut [u8]) -> Answer
     if buf.len() < (LONGEST_WRITTEN_MESSAGE as usize) {
         return answer::refused(Refusal::ShortBuffer);
     }
-    let h = words::get_head(s);
-    let live = h.live;
-    if !live {
-        return answer::refused(Refusal::Closed);
+    if let Err(f) = opening::open_head(s) {
+        return answer::refused(f);
     }
     log_out(s, buf, Ok(Reply::Performed), reason)
 }

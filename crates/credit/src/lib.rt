@@ -1,30 +1,33 @@
 // Credit: buffers added to those wanted and withdrawn from them, and a grant of what is owed.
 #![tactic(auto)]
 
-ghost use Rattle.std.specs.Prelude.{◌≡◌, true, ◌≤◌, ◌<◌, ◌+◌, ltb, length};
-ghost use Rattle.srp.specs.Limits.{buffer_size, most_buffers};
-ghost use Rattle.words.specs.Sizes.{port_words};
+ghost use Rattle.std.specs.Prelude.{◌≡◌, true, ◌≤◌, length};
+ghost use Rattle.srp.specs.Limits.{buffer_size};
 ghost use Rattle.words.specs.Head.{head_of};
-ghost use Rattle.credit.specs.Buffers.{Adds, Withdraws, WritesRequest, Grants};
+ghost use Rattle.credit.specs.Buffers.{MayChange, Adds, Withdraws, MayGrant, WritesRequest, Grants};
 
 use srp::limits::{LONGEST_WRITTEN_MESSAGE, MOST_BUFFERS};
 use srp::{Answer, Refusal, Reply};
+use state::opening;
 use wire::layout::SHORT_SIZE;
 use words::{Head, PORT};
+
+// W of an open channel, which k buffers are to change. Refused 21, 11.
+fn changeable(s: &[u64; PORT], k: u32) -> Result<u8, Refusal>
+    ensures { MayChange s.now k result }
+{
+    let h = opening::open_head(s)?;
+    if k == 0 {
+        return Err(Refusal::Argument);
+    }
+    Ok(h.wanted)
+}
 
 // Adds buffers to those wanted. Refused 21, 11, 28.
 pub fn add(s: &mut [u64; PORT], k: u32) -> Result<Reply, Refusal>
     ensures { Adds s.old s.new k result }
 {
-    let h = words::get_head(s);
-    let live = h.live;
-    let wanted = h.wanted;
-    if !live {
-        return Err(Refusal::Closed);
-    }
-    if k == 0 {
-        return Err(Refusal::Argument);
-    }
+    let wanted = changeable(s, k)?;
     let room = MOST_BUFFERS - wanted;
     if (room as u32) < k {
         return Err(Refusal::Wanted);
@@ -37,15 +40,7 @@ pub fn add(s: &mut [u64; PORT], k: u32) -> Result<Reply, Refusal>
 pub fn withdraw(s: &mut [u64; PORT], k: u32) -> Result<Reply, Refusal>
     ensures { Withdraws s.old s.new k result }
 {
-    let h = words::get_head(s);
-    let live = h.live;
-    let wanted = h.wanted;
-    if !live {
-        return Err(Refusal::Closed);
-    }
-    if k == 0 {
-        return Err(Refusal::Argument);
-    }
+    let wanted = changeable(s, k)?;
     if (wanted as u32) <= k {
         return Err(Refusal::Wanted);
     }
@@ -53,24 +48,31 @@ pub fn withdraw(s: &mut [u64; PORT], k: u32) -> Result<Reply, Refusal>
     Ok(Reply::Performed)
 }
 
-// Whether D is above 0.
-fn owing(h: Head) -> bool
-    requires { h.announced + h.held ≤ most_buffers }
-    ensures { result ≡ ltb (h.announced + h.held) h.wanted }
+// The head of a channel that is owed a credit request, for a buffer of `room` bytes. Refused 1, 21, 26, 27.
+fn grantable(s: &[u64; PORT], room: usize) -> Result<Head, Refusal>
+    ensures { MayGrant s.now room result }
 {
-    let used = (h.announced as usize) + h.held;
-    used < (h.wanted as usize)
+    if room < (LONGEST_WRITTEN_MESSAGE as usize) {
+        return Err(Refusal::ShortBuffer);
+    }
+    let h = opening::open_head(s)?;
+    if h.unanswered {
+        return Err(Refusal::Unanswered);
+    }
+    if (h.wanted as usize) <= (h.announced as usize) + h.held {
+        return Err(Refusal::NotOwed);
+    }
+    Ok(h)
 }
 
 // A credit request is written.
-fn write_request(s: &mut [u64], buf: &mut [u8], crsolnt: bool) -> Answer
-    requires s_len { length s.old ≡ port_words }
+fn write_request(s: &mut [u64; PORT], buf: &mut [u8], crsolnt: bool) -> Answer
     requires s_value { (head_of s.old).live ≡ true }
     requires crsolnt_value { crsolnt ≡ (head_of s.old).terms.crsolnt }
     requires buffer_size_in_bounds { buffer_size ≤ length buf.old }
     ensures { WritesRequest s.old buf.old s.new buf.new result }
 {
-    state::set_unanswered(&mut *s, true);
+    state::set_unanswered(s, true);
     let delta = state::settle(s, 0);
     message::put_credit_request(buf, crsolnt, delta);
     Answer {
@@ -83,21 +85,8 @@ fn write_request(s: &mut [u64], buf: &mut [u8], crsolnt: bool) -> Answer
 pub fn grant(s: &mut [u64; PORT], buf: &mut [u8]) -> Answer
     ensures { Grants s.old buf.old s.new buf.new result }
 {
-    if buf.len() < (LONGEST_WRITTEN_MESSAGE as usize) {
-        return answer::refused(Refusal::ShortBuffer);
+    match grantable(s, buf.len()) {
+        Ok(h) => write_request(s, buf, h.terms.crsolnt),
+        Err(f) => answer::refused(f),
     }
-    let h = words::get_head(s);
-    let live = h.live;
-    if !live {
-        return answer::refused(Refusal::Closed);
-    }
-    let terms = h.terms;
-    let unanswered = h.unanswered;
-    if unanswered {
-        return answer::refused(Refusal::Unanswered);
-    }
-    if !owing(h) {
-        return answer::refused(Refusal::NotOwed);
-    }
-    write_request(s, buf, terms.crsolnt)
 }

@@ -1,6 +1,6 @@
 -- What most calls check first, of the words l, whatever the store: the channel is open, and the open command with a tag does not wait for its tables.
 use Rattle.std.specs.Prelude.{◌≡◌, true, false, List, ℕ, get_or, Result, Ok, Err, [], ◌∷◌}
-use Rattle.std.proofs.Math.Option.{some}
+use Rattle.std.proofs.Math.Option.{none, some}
 use Rattle.srp.specs.Credit.{Port}
 use Rattle.srp.specs.Take.{closed}
 use Rattle.srp.specs.Calls.{open_checks}
@@ -15,6 +15,10 @@ use Rattle.state.specs.Changes.{FoundAt}
 -- of these checks on the port that the words are, f is the first that hits
 abbrev pub Draws : List ℕ → (Port → List Check) → Refusal → Type 0
 Draws l checks f = (st : List ℕ) → first_of_checks (checks (view l st)) ≡ some f
+
+-- none of these checks hits
+abbrev pub Passes : List ℕ → (Port → List Check) → Type 0
+Passes l checks = (st : List ℕ) → first_of_checks (checks (view l st)) ≡ none
 
 -- the channel is open, and h its head
 pub record OpenHead (l : List ℕ) (h : Head) : Type 0 where

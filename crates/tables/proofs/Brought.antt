@@ -128,6 +128,3 @@ kept ne = record { kept = λ _. refl; brought = λ e. absurd (ne e) }
 pub placed : {l st l' st' : List ℕ} {tag i : ℕ} → FoundAt l tag i → OwnPlace i l st l' st' → Stores l st l' st' tag (Ok Performed)
 placed {l} {st} {l'} {st'} {tag} {i} F P =
     record { kept = λ ne. absurd (ne refl); brought = λ _. record { slot = i; inside = F.inside; tagged = F.tagged; place = P } }
-
-pub not_performed : (f : Refusal) → ◌≡◌ {A = Result Reply Refusal} (Err f) (Ok Performed) → ⊥
-not_performed f e = let z : ◌≡◌ {A = ℕ} 0 1 = cc in omega arith

@@ -1,23 +1,25 @@
 -- Tables, cut where the code is cut, and what each part promises. l, st and b are the port's words, its store and the lent buffer before the call, l', st'
 -- and b' after it; t are the tables.
-use Rattle.std.specs.Prelude.{◌≡◌, cond, not, List, [], ◌∷◌, ℕ, ◌/◌, ◌<◌, eqb, length, get_or, Result, Ok, Err}
+use Rattle.std.specs.Prelude.{◌≡◌, true, false, cond, not, List, [], ◌∷◌, ℕ, ◌/◌, ◌%◌, ◌<◌, eqb, length, get_or, Option, Some, None, Result, Ok, Err}
 use Rattle.srp.specs.Lists.{find}
 use Rattle.srp.specs.Both.{Both}
 use Rattle.srp.specs.Refusals.{first_of_checks}
-use Rattle.srp.specs.Descriptors.{standing_size_lem, Given}
+use Rattle.srp.specs.Descriptors.{standing_size_lem, Given, chosen, segments, sum_of, good_fields}
 use Rattle.srp.specs.Credit.{Port, has_tag}
 use Rattle.srp.specs.Take.{Outcome, answering, leaving, Tables, tables_fit, fields_fit}
+use Rattle.srp.specs.Answers.{refusing}
 use Rattle.srp.specs.Tables.{bad_response, tables_by, tables_def}
 use Rattle.srp.specs.declared.Refusal.TheVariants.{TableLength, Fields}
 use Rattle.srp.specs.declared.Descriptor.{Descriptor}
 use Rattle.srp.specs.declared.Reply.{Reply}
 use Rattle.srp.specs.declared.Reply.TheVariants.{Performed}
 use Rattle.srp.specs.declared.Answer.{Answer}
+use Rattle.words.specs.declared.Part.{Part}
 use Rattle.words.specs.Slots.{slots, no_slot}
 use Rattle.words.specs.Head.{head_of}
 use Rattle.words.specs.View.{view}
 use Rattle.state.specs.Promises.{AnswersAs, AnswersWith}
-use Rattle.store.specs.Places.{OwnPlace}
+use Rattle.store.specs.Places.{OwnPlace, new_part_lem}
 use Rattle.srp.specs.declared.Refusal.{Refusal}
 
 abbrev pub tables : List ℕ → List ℕ → Tables
@@ -52,6 +54,21 @@ pub record Stores (l st l' st' : List ℕ) (tag : ℕ) (r : Result Reply Refusal
   pub brought : r ≡ Ok Performed → Accepted l st l' st' tag
 
 -- ── what the parts promise
+
+-- what the port keeps of a direction by its table: its segments and their sum, unless a field is bad
+pub record Kept (g : Given) (table : List ℕ) (p : Part) : Type 0 where
+  pub good : good_fields g table ≡ true
+  pub part : p ≡ new_part_lem (segments_in table g.descriptor) (sum_of (segments g table))
+  pub whole : length (chosen g table) % 16 ≡ 0
+
+abbrev pub PartRead : Given → List ℕ → Option Part → Type 0
+PartRead g table (Some p) = Kept g table p
+PartRead g table None = good_fields g table ≡ false
+
+-- the answer that is handed back, or that of a refusal without a message
+abbrev pub answered_by : Result Answer Refusal → Answer
+answered_by (Ok a) = a
+answered_by (Err f) = refusing f
 
 abbrev pub EndsBad : (l b l' b' : List ℕ) (tag : ℕ) → Answer → Type 0
 EndsBad l b l' b' tag r = AnswersWith l b l' b' r (bad_def tag)

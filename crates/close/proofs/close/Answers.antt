@@ -1,34 +1,30 @@
 -- `close::close` meets its contract.
-use Rattle.srp.specs.declared.Refusal.TheVariants.{ShortBuffer, Closed}
+use mathlib.Core.Path.{refl, ◌∙◌}
+use mathlib.Core.List.{[], ◌∷◌}
+use lib.ListN.{length}
+use borrow.Author.Tests.{le-ltb}
+use Rattle.srp.specs.Limits.{buffer_size}
+use Rattle.srp.specs.Take.{closed}
+use Rattle.srp.specs.Calls.{unless, close_outcome}
 use Rattle.words.specs.View.{view}
-use Rattle.state.proofs.Promises.{unaltered, answers_by}
-use Rattle.state.proofs.Opened.{head_open, port_closed, port_open}
-use Rattle.close.proofs.Cases.{close_short, close_closed, closed_with}
-use mathlib.Core.Path.{ap}
-use mathlib.Core.Bool.{not}
+use Rattle.words.proofs.Ports.{view_live}
+use Rattle.state.proofs.Promises.{answers_by}
+use Rattle.state.proofs.Drawn.{draws_short, answers_refusal, answers_closed}
 use Rattle.close.proofs.close.Goals as goal
 
 pub returns-then-buf : goal.returns-then-buf
 returns-then-buf c =
-    λ st.
     let a = c.args in
-    let l = a.s.now in
-    answers_by (close_short (view l st) _ a.reason c.if-buf.true) (unaltered l st a.buf.now ShortBuffer _ c.refused.ensures)
+    λ st. let p = view a.s.now st in
+    answers_refusal a.s.now st a.buf.now c.refused.ensures (close_outcome p a.reason) (draws_short a.buf.now c.if-buf.true (closed p ∷ []))
 
-pub returns-then-not-live : goal.returns-then-not-live
-returns-then-not-live c =
-    λ st.
+pub returns-in-Err : goal.returns-in-Err
+returns-in-Err c =
     let a = c.args in
-    let l = a.s.now in
-    answers_by (close_closed (view l st) _ a.reason c.if-buf.false (port_closed c.get_head-h.ensures st (ap not c.if-not-live.true)))
-    (unaltered l st a.buf.now Closed _ c.refused-then-not-live.ensures)
-
-pub log_out-requires : goal.log_out-requires
-log_out-requires c =
-    record { s_len = c.log_out-arg-1.given.0.1; s_value = head_open c.get_head-h.ensures (ap not c.if-not-live.false); buffer_size_in_bounds = c.if-buf.false }
+    λ st. let p = view a.s.now st in
+    answers_closed a.s.now st a.buf.now c.refused-in-Err.ensures (λ k. unless k p (close_outcome p a.reason)) refl c.if-buf.false c.in-Err.ensures []
 
 pub returns : goal.returns
 returns c =
-    λ st.
     let a = c.args in
-    answers_by (closed_with (view a.s.now st) _ a.reason c.if-buf.false (port_open c.get_head-h.ensures st (ap not c.if-not-live.false))) (c.log_out.ensures st)
+    λ st. answers_by (rw (le-ltb (length a.buf.now) buffer_size c.if-buf.false, view_live a.s.now st ∙ c.in_default.ensures.live) refl) (c.log_out.ensures st)

@@ -1,48 +1,39 @@
 -- `credit::withdraw` meets its contract.
 use mathlib.Core.Path.{refl, sym, ◌∙◌, ap}
+use mathlib.Core.List.{[], ◌∷◌}
 use Prim.Native.Nat.{◌-◌}
+use lib.Dec.{eqb}
+use lib.ListN.{drop}
+use borrow.Author.Tests.{le-leb, lt-leb}
 use Rattle.srp.specs.Credit.{with_wanted}
-use Rattle.srp.specs.declared.Refusal.TheVariants.{Argument, Closed, Wanted}
+use Rattle.srp.specs.Take.{closed}
+use Rattle.srp.specs.Calls.{withdraw_checks, withdraw_outcome}
+use Rattle.srp.specs.declared.Refusal.TheVariants.{Argument}
 use Rattle.words.specs.View.{view}
-use Rattle.state.proofs.Promises.{refused, replies_by, performed, altered_view}
-use Rattle.state.proofs.Opened.{head_open, port_closed, port_open, wanted_is}
-use Rattle.credit.proofs.Cases.{withdraw_closed, withdraw_nothing, withdraw_past, withdrawn}
-use mathlib.Core.Bool.{not}
+use Rattle.state.proofs.Promises.{performed, altered_view}
+use Rattle.state.proofs.Drawn.{drawn_first, hands_on, refuses, performs}
+use Rattle.credit.proofs.Cases.{wants, withdrawing}
 use Rattle.credit.proofs.withdraw.Goals as goal
 
-pub returns-then-not-live : goal.returns-then-not-live
-returns-then-not-live c =
-    λ st.
+pub returns-in_err-wanted : goal.returns-in_err-wanted
+returns-in_err-wanted c =
     let a = c.args in
-    let l = a.s.now in
-    let G = c.get_head-h.ensures in
-    replies_by (withdraw_closed (view l st) a.k (port_closed G st (ap not c.if-not-live.true))) (refused l st Closed)
-
-pub returns-then-k-eq0 : goal.returns-then-k-eq0
-returns-then-k-eq0 c =
-    λ st.
-    let a = c.args in
-    let l = a.s.now in
-    let G = c.get_head-h.ensures in
-    replies_by (withdraw_nothing (view l st) a.k (port_open G st (ap not c.if-not-live.false)) c.if-k-eq0.true) (refused l st Argument)
+    λ st. let p = view a.s.now st in let checks = withdraw_checks p a.k in
+    hands_on a.s.now st (withdraw_outcome p a.k) checks c.from_residual.result c.from_residual.ensures.1
+    (drawn_first (closed p ∷ (eqb a.k 0, Argument) ∷ []) (drop 2 checks) (c.in_err-wanted.ensures st))
 
 pub returns-then-wanted-k : goal.returns-then-wanted-k
 returns-then-wanted-k c =
-    λ st.
     let a = c.args in
-    let l = a.s.now in
-    let G = c.get_head-h.ensures in
-    let w = wanted_is G st (head_open G (ap not c.if-not-live.false)) in
-    replies_by (withdraw_past (view l st) a.k (port_open G st (ap not c.if-not-live.false)) c.if-k-eq0.false (rw w c.if-wanted-k.true)) (refused l st Wanted)
+    let w = c.in_ok-wanted.wanted in
+    let C = c.in_ok-wanted.ensures in
+    λ st. refuses a.s.now st (withdraw_outcome (view a.s.now st) a.k) (withdrawing C st ∙ rw (le-leb w a.k c.if-wanted-k.true) refl)
 
 pub returns : goal.returns
 returns c =
-    λ st.
     let a = c.args in
     let l = a.s.now in
-    let G = c.get_head-h.ensures in
-    let w = wanted_is G st (head_open G (ap not c.if-not-live.false)) in
-    replies_by (withdrawn (view l st) a.k (port_open G st (ap not c.if-not-live.false)) c.if-k-eq0.false (rw w c.if-wanted-k.false))
-    (performed refl
-    (altered_view l c.set_wanted.new.s st (head_open G (ap not c.if-not-live.false)) c.set_wanted.ensures
-    ∙ ap (λ n. with_wanted (view l st) (n - a.k)) (sym w)) refl refl)
+    let w = c.in_ok-wanted.wanted in
+    let C = c.in_ok-wanted.ensures in
+    λ st. performs l st c.set_wanted.new.s st (withdraw_outcome (view l st) a.k) (withdrawing C st ∙ rw (lt-leb w a.k c.if-wanted-k.false) refl)
+    (performed refl (altered_view l c.set_wanted.new.s st C.live c.set_wanted.ensures ∙ ap (λ n. with_wanted (view l st) (n - a.k)) (sym (wants C st))) refl refl)
