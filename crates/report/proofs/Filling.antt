@@ -26,49 +26,6 @@ use Rattle.words.proofs.Ports.{opens_long, while_open, view_live}
 use Rattle.srp.proofs.Listing.{open_all, closed_none, as_many}
 use Rattle.report.specs.Reports.{slot_record, no_record_lem, no_records, CountFor}
 
-pub record Filling (l : List ℕ) (n : ℕ) (records : List Record) (i : ℕ) : Type 0 where
-  pub count : n ≡ (head_of l).held
-  pub in_count : i ≤ n
-  pub small : n ≤ most_buffers
-  pub long : length records ≡ most_buffers
-  pub done : take i records ≡ map slot_record (take i (opens l))
-  pub blank : drop i records ≡ drop i no_records
-
--- none is listed yet
-pub fill_none : (l : List ℕ) (n : ℕ) (x : Record) → n ≡ (head_of l).held → x ≡ no_record_lem → Filling l n (replicate most_buffers x) 0
-fill_none l n x e b =
-    record { count = e; in_count = omega arith; small = omega arith; long = refl; done = refl; blank = ap (replicate most_buffers) b }
-
-module _ (l : List ℕ) (n : ℕ) (records : List Record) (i : ℕ) (K : Filling l n records i) where
-  -- the next command is listed
-  pub fill_more : (c : Slot) → c ≡ get_or (slots l) i no_slot → i < n → Filling l n (set records i (slot_record c)) (i + 1)
-  fill_more c e h =
-      let a : i < length records = omega (arith, K.long, K.small) in
-      let b : i < length (opens l) = rw (opens_long l) (omega (arith, K.count)) in
-      let q : c ≡ get_or (opens l) i no_slot = e ∙ sym (get_or-take (head_of l).held (slots l) i no_slot (omega (arith, K.count))) in
-      record {
-        count = K.count;
-        in_count = omega arith;
-        small = K.small;
-        long = length-set records i (slot_record c) ∙ K.long;
-        done = rw (add-one, take-suc-set records i (slot_record c) a, take-suc (opens l) i no_slot b, map-append, K.done, q) refl;
-        blank =
-            drop-set-lt (i + 1) records i (slot_record c) (omega arith)
-            ∙ sym (drop-drop 1 i records)
-            ∙ ap (drop 1) K.blank
-            ∙ drop-drop 1 i no_records;
-      }
-
-  -- all are listed
-  pub filled : n ≤ i → records ≡ map slot_record (opens l) ++ drop n no_records
-  filled h =
-      let e : i ≡ n = omega (arith, K.in_count) in
-      let z : length (opens l) ≡ n = opens_long l ∙ sym K.count in
-      let t : take n records ≡ map slot_record (opens l) =
-      rw (← e) (K.done ∙ ap (λ (x : List Slot). map slot_record x) (ap (λ (k : ℕ). take k (opens l)) (e ∙ sym z) ∙ take-length (opens l))) in
-      let d : drop n records ≡ drop n no_records = rw (← e) K.blank in
-      sym (take-append-drop n records) ∙ rw (t, d) refl
-
 -- the record of a command is its slot's, whatever the store
 slot_records_lem : (st : List ℕ) (cs : List Slot) → map calls.record_of_lem (map (open_of st) cs) ≡ map slot_record cs
 slot_records_lem st [] = refl

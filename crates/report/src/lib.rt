@@ -1,53 +1,33 @@
-// What the owner reads of a port: its counters and its open commands. A listing is made by value, and what is to be written to a lent list of records
-// decided by value; list_into only copies it.
+// What the owner reads of a port: its counters and its open commands. A listing is written to a lent list of records, or comes with a list of 16 by value.
 #![tactic(auto)]
 
-ghost use Rattle.std.specs.Prelude.{◌≡◌, ◌<◌, length, get_or};
-ghost use Rattle.std.proofs.Math.IntN.{sub_ℕ};
-ghost use Rattle.words.specs.Sizes.{port_words, most_slots};
+ghost use Rattle.std.specs.Prelude.{◌≡◌, ◌≤◌, ◌<◌, length, take, get_or};
+ghost use Rattle.words.specs.Sizes.{most_slots};
 ghost use Rattle.words.specs.Slots.{slots, no_slot};
-ghost use Rattle.report.specs.Reports.{slot_record, no_record_lem, CountFor, TellsCounters, TellsListing, TellsListingFor, WritesListing};
+ghost use Rattle.report.specs.Reports.{slot_record, slot_records, HasRoom, CountFor, TellsCounters, TellsListing, WritesListing};
 
 use srp::{Counters, Record, Refusal, Reply};
-use words::{PORT, SLOTS, Slot};
+use state::opening;
+use words::{PORT, SLOTS, Slot, commands};
 
-// A listing: its reply, how many records a lent list is to have of it, and its records, blank behind those of the open commands.
+// A listing's reply, and the list of 16 records that it was written to.
 #[derive(Clone, Copy)]
 pub struct Listing {
     pub reply: Result<Reply, Refusal>,
-    pub count: usize,
     pub records: [Record; SLOTS],
-}
-
-// A lent list as it comes back, and the listing's reply.
-#[derive(Clone, Copy)]
-pub struct Lent {
-    pub reply: Result<Reply, Refusal>,
-    pub records: [Record; SLOTS],
-}
-
-// D, of W and of A + H.
-fn difference(wanted: u8, used: u8) -> i64
-    ensures { result ≡ sub_ℕ wanted used }
-{
-    (wanted as i64) - (used as i64)
 }
 
 // W, A, H and D. Refused 21.
 pub fn counters(s: &[u64; PORT]) -> Result<Reply, Refusal>
     ensures { TellsCounters s.now result }
 {
-    let h = words::get_head(s);
-    let live = h.live;
-    if !live {
-        return Err(Refusal::Closed);
-    }
+    let h = opening::open_head(s)?;
     let held = h.held as u8;
     Ok(Reply::Counts(Counters {
         wanted: h.wanted,
         announced: h.announced,
-        held: held,
-        owed: difference(h.wanted, h.announced + held),
+        held,
+        owed: (h.wanted as i64) - ((h.announced + held) as i64),
     }))
 }
 
@@ -55,101 +35,47 @@ pub fn counters(s: &[u64; PORT]) -> Result<Reply, Refusal>
 fn record_of(c: Slot) -> Record
     ensures { result ≡ slot_record c }
 {
-    let request = c.request;
-    let o = c.out;
-    let i = c.inn;
-    let out = o.transfer;
-    let inn = i.transfer;
     Record {
-        tag: request.tag,
-        lun: request.lun,
-        out: out.highest,
-        inn: inn.highest,
+        tag: c.request.tag,
+        lun: c.request.lun,
+        out: c.out.transfer.highest,
+        inn: c.inn.transfer.highest,
     }
 }
 
 // The record of the command in slot i.
-pub fn record_at(s: &[u64], i: usize) -> Record
-    requires s_len { length s.now ≡ port_words }
+pub fn record_at(s: &[u64; PORT], i: usize) -> Record
     requires i_lt_most_slots { i < most_slots }
     ensures { result ≡ slot_record (get_or (slots s.now) i no_slot) }
 {
-    record_of(words::commands::load(s, i))
-}
-
-// A record that stands for no command.
-fn no_record() -> Record
-    ensures { result ≡ no_record_lem }
-{
-    Record {
-        tag: 0,
-        lun: 0,
-        out: 0,
-        inn: 0,
-    }
-}
-
-// The open commands, oldest first, and blank records behind them. Refused 21.
-pub fn list(s: &[u64; PORT]) -> Listing
-    ensures { TellsListing s.now result }
-{
-    let blank = no_record();
-    let mut records = [blank; SLOTS];
-    let h = words::get_head(s);
-    let live = h.live;
-    if !live {
-        return Listing {
-            reply: Err(Refusal::Closed),
-            count: 0,
-            records: records,
-        };
-    }
-    let held = h.held;
-    let mut i: usize = 0;
-    while i < held {
-        records[i] = record_at(s, i);
-        i += 1;
-    }
-    Listing {
-        reply: Ok(Reply::Listed(held)),
-        count: held,
-        records: records,
-    }
+    record_of(commands::load(s, i))
 }
 
 // How many records a listing has in a lent list of `room`. Refused 21, 11.
-pub fn count_for(s: &[u64; PORT], room: usize) -> Result<Reply, Refusal>
-    ensures { CountFor s.now room result }
+fn held_for(s: &[u64; PORT], room: usize) -> Result<usize, Refusal>
+    ensures { HasRoom s.now room result }
 {
-    let h = words::get_head(s);
-    let live = h.live;
-    if !live {
-        return Err(Refusal::Closed);
-    }
+    let h = opening::open_head(s)?;
     if room < SLOTS {
         return Err(Refusal::Argument);
     }
-    Ok(Reply::Listed(h.held))
+    Ok(h.held)
 }
 
-// What is written to a lent list of `room` records: nothing where the listing is refused, 21, 11.
-pub fn listing_for(s: &[u64; PORT], room: usize) -> Listing
-    ensures { TellsListingFor s.now room result }
+// The same as a reply.
+pub fn count_for(s: &[u64; PORT], room: usize) -> Result<Reply, Refusal>
+    ensures { CountFor s.now room result }
 {
-    let reply = count_for(s, room);
-    let l = list(s);
-    let records = l.records;
-    let Ok(Reply::Listed(count)) = reply else {
-        return Listing {
-            reply: reply,
-            count: 0,
-            records: records,
-        };
-    };
-    Listing {
-        reply: Ok(Reply::Listed(count)),
-        count: count,
-        records: records,
+    Ok(Reply::Listed(held_for(s, room)?))
+}
+
+// The records of as many slots as the list is long.
+fn write_records(s: &[u64; PORT], records: &mut [Record])
+    requires { length records.old ≤ most_slots }
+    ensures { records.new ≡ take (length records.old) (slot_records s.now) }
+{
+    for (i, record) in records.iter_mut().enumerate() {
+        *record = record_at(s, i);
     }
 }
 
@@ -157,24 +83,22 @@ pub fn listing_for(s: &[u64; PORT], room: usize) -> Listing
 pub fn list_into(s: &[u64; PORT], records: &mut [Record]) -> Result<Reply, Refusal>
     ensures { WritesListing s.now records.old records.new result }
 {
-    let listing = listing_for(s, records.len());
-    let listed = listing.records;
-    let count = listing.count;
-    let mut i: usize = 0;
-    while i < count {
-        records[i] = listed[i];
-        i += 1;
-    }
-    listing.reply
+    let n = held_for(s, records.len())?;
+    write_records(s, &mut records[..n]);
+    Ok(Reply::Listed(n))
 }
 
 // The open commands, listed into a list that the caller has by value, which is lent to list_into and handed back. Refused 21.
-pub fn lend(s: &[u64; PORT], mut records: [Record; SLOTS]) -> Lent
+pub fn lend(s: &[u64; PORT], mut records: [Record; SLOTS]) -> Listing
     ensures { WritesListing s.now records result.records result.reply }
 {
-    let said = list_into(s, &mut records);
-    Lent {
-        reply: said,
-        records: records,
-    }
+    let reply = list_into(s, &mut records);
+    Listing { reply, records }
+}
+
+// The open commands, oldest first, and blank records behind them. Refused 21.
+pub fn list(s: &[u64; PORT]) -> Listing
+    ensures { TellsListing s.now result }
+{
+    lend(s, [Record::default(); SLOTS])
 }

@@ -188,7 +188,7 @@ pub struct Counters {
 }
 
 // An open command in a listing, with h each way.
-#[derive(Clone, Copy, PartialEq, Eq)]
+#[derive(Clone, Copy, Default, PartialEq, Eq)]
 pub struct Record {
     pub tag: u64,
     pub lun: u64,
