@@ -3,7 +3,7 @@ use mathlib.Core.Path.{◌≡◌, sym, ◌∙◌, ap, subst}
 use mathlib.Core.List.{List, []}
 use Prim.Native.Nat.{ℕ}
 use lib.ListN.{length}
-use Rattle.std.specs.Prelude.{Result}
+use Rattle.std.specs.Prelude.{Result, Ok}
 use Rattle.srp.specs.Take.{Outcome, Tables}
 use Rattle.srp.specs.Answers.{returned, size_of, answer_of}
 use Rattle.srp.specs.declared.Direction.{Direction}
@@ -22,15 +22,20 @@ use Rattle.transfer.specs.Turning.{Turns}
 use Rattle.srp.specs.Writing.{placed}
 use Rattle.page.specs.Page.{trace_writes, Traced, trace_in_c}
 use Rattle.page.specs.declared.Way.{Way}
-use Rattle.division.specs.Dividing.{divide_def, divided_number, divided_words}
-use Rattle.division.specs.declared.Divided.{Divided}
 use Rattle.exports.specs.Answered.{Answered}
 use Rattle.exports.specs.Arguments.{direction_in}
-use Rattle.exports.specs.Calls.{Gives, InC, AnswersInC, StepsInC, RepliesInC, LogsInC, TakeInC, TablesInC, MoveInC, StepInC, TurnInC, FormatCountsInC}
+use Rattle.exports.specs.Calls.{Gives, InC, AnswersInC, StepsInC, RepliesInC, LogsInC, TakeInC, TablesInC, MoveInC, StepInC, TurnInC}
 use Rattle.srp.specs.declared.Refusal.{Refusal}
 
 pub in_numbers : {n : ℕ} {w : List ℕ} {r : Answer} {o : Outcome} → r ≡ answer_of o → Gives n w r → InC n w o
 in_numbers e g = record { number = g.0 ∙ ap (λ (a : Answer). returned a.reply) e; words = g.1 ∙ ap (λ (a : Answer). answer_words a) e }
+
+-- the words of the reply x, where the call replied it
+pub says : {r : Result Reply Refusal} {y x : Reply} {w : List ℕ} (wrote : ℕ) → r ≡ Ok y → y ≡ x → w ≡ answer_words (record { reply = Ok x; wrote = wrote })
+    → Gives 0 w (record { reply = r; wrote = wrote })
+says {r} {y} {x} wrote e q f =
+    let k : r ≡ Ok x = e ∙ ap (λ (z : Reply). Ok z) q in
+    (sym (ap (λ (z : Result Reply Refusal). returned z) k), f ∙ sym (ap (λ (z : Result Reply Refusal). answer_words (record { reply = z; wrote = wrote })) k))
 
 -- a reply without a message
 pub silently : {r : Result Reply Refusal} (o : Outcome) → r ≡ o.reply → o.wrote ≡ [] → record { reply = r; wrote = 0 } ≡ answer_of o
@@ -95,7 +100,3 @@ trace_in_c_lem s {before} way t e =
       number = e ∙ ap (λ (x : Result Reply Refusal). returned x) t.reply;
       buffer = t.buffer ∙ ap (λ (x : Way). placed (trace_writes x s (length before)) before) way;
     }
-
--- how format bytes divide: r is what was counted, or the refusal
-pub format_counts_in_c : {r : Divided} {n : ℕ} {w : List ℕ} (formats : ℕ) → r ≡ divide_def formats → n ≡ divided_number r → w ≡ divided_words r → FormatCountsInC formats n w
-format_counts_in_c formats e number words = record { number = number ∙ ap divided_number e; words = words ∙ ap divided_words e }
