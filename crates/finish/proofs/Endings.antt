@@ -1,23 +1,16 @@
 -- What the definition of finish comes to, test by test, and the response of the command that ends.
 -- Assumes nothing.
 use mathlib.Core.Path.{◌≡◌, refl, ◌∙◌, ap}
-use mathlib.Core.Bool.{Bool, true, false}
+use mathlib.Core.Bool.{Bool}
 use mathlib.Core.List.{List, ◌++◌}
 use mathlib.Core.Option.{Option, none, some}
-use Prim.Native.Nat.{ℕ, ◌+◌, ◌≤◌, ◌<◌}
+use Prim.Native.Nat.{ℕ, ◌+◌}
 use lib.ListN.{length, length-append}
-use borrow.Author.Tests.{lt-ltb, le-ltb}
-use Rattle.std.specs.Prelude.{Err}
-use Rattle.srp.specs.Limits.{buffer_size}
-use Rattle.srp.specs.Refusals.{first_of_checks}
 use Rattle.srp.specs.Bytes.{write}
 use Rattle.srp.specs.Messages.{rsp}
-use Rattle.srp.specs.Credit.{Open, Port}
+use Rattle.srp.specs.Credit.{Open}
 use Rattle.srp.specs.Writing.{residual_of, Response, response_bytes_lem, response_values, response, solicited}
-use Rattle.srp.specs.Take.{silent, is_open_lem}
-use Rattle.srp.specs.Calls.{unless, open_checks, bad_sense_lem, final_of, final_response, finish_checks, finish_outcome, finish_def}
-use Rattle.srp.specs.declared.Refusal.{Refusal}
-use Rattle.srp.specs.declared.Refusal.TheVariants.{ShortBuffer, Argument, Closed, TagNotOpen}
+use Rattle.srp.specs.Calls.{final_of, final_response}
 use Rattle.srp.specs.declared.Residual.{Residual}
 use Rattle.words.specs.View.{open_of}
 use Rattle.words.specs.declared.Slot.{Slot}
@@ -25,30 +18,6 @@ use Rattle.message.specs.Header.{response_of}
 use Rattle.message.specs.declared.Header.{Header}
 use Rattle.message.proofs.Laying.{long}
 use Rattle.finish.specs.Finishing.{HeaderIs}
-
--- ── the checks
-
-module _ (p : Port) (room tag status : ℕ) (sense : List ℕ) where
-  pub finish_short : room < buffer_size → finish_def p room tag status sense ≡ silent p (Err ShortBuffer)
-  finish_short h = rw (lt-ltb room buffer_size h) refl
-
-  module _ (enough : buffer_size ≤ room) where
-    pub finish_closed : p.live ≡ false → finish_def p room tag status sense ≡ silent p (Err Closed)
-    finish_closed e = rw (le-ltb room buffer_size enough, e) refl
-
-    module _ (o : p.live ≡ true) where
-      pub finish_bad : bad_sense_lem status sense ≡ true → finish_def p room tag status sense ≡ silent p (Err Argument)
-      finish_bad e = rw (le-ltb room buffer_size enough, o, e) refl
-
-      module _ (g : bad_sense_lem status sense ≡ false) where
-        pub finish_none : is_open_lem p tag ≡ false → finish_def p room tag status sense ≡ silent p (Err TagNotOpen)
-        finish_none e = rw (le-ltb room buffer_size enough, o, g, e) refl
-
-        -- of an open command, 33 or none of them
-        pub finish_open : {r : Option Refusal} → first_of_checks (open_checks p tag) ≡ r → finish_def p room tag status sense ≡ unless r p (finish_outcome p tag status sense)
-        finish_open {r} e =
-            let drawn : first_of_checks (finish_checks p room tag status sense) ≡ r = rw (le-ltb room buffer_size enough, o, g) e in
-            ap (λ (x : Option Refusal). unless x p (finish_outcome p tag status sense)) drawn
 
 -- ── the response
 

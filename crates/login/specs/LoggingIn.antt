@@ -1,6 +1,6 @@
 -- Login, cut where the code is cut, and what it promises. b is the buffer before the call, l' and b' the port's words and the buffer after it; the words
 -- before it, and the store, are of no account.
-use Rattle.std.specs.Prelude.{◌≡◌, false, List, ℕ, ◌≤◌, length, Ok}
+use Rattle.std.specs.Prelude.{◌≡◌, false, List, ℕ, ◌≤◌, length, Result, Ok, Err}
 use Rattle.std.proofs.Math.Option.{Option, none, some}
 use Rattle.srp.specs.Limits.{largest_piece, longest_agreed}
 use Rattle.srp.specs.Refusals.{first_of_checks}
@@ -14,12 +14,20 @@ use Rattle.srp.specs.declared.Reply.TheVariants.{Accepted}
 use Rattle.srp.specs.declared.Answer.{Answer}
 use Rattle.words.specs.Head.{CountsFit}
 use Rattle.words.specs.View.{view, closed_words}
-use Rattle.login.specs.declared.Verdict.{Verdict}
-use Rattle.login.specs.declared.Verdict.TheVariants.{Accept, Reject}
+use Rattle.login.specs.declared.Reason.{Reason}
+use Rattle.login.specs.declared.Reason.TheVariants.{NoReason, TooLong, OtherTarget, FormatsNotSupported, MultipleChannels}
 
-abbrev pub verdict_of : Option ℕ → Verdict
-verdict_of none = Accept
-verdict_of (some reason) = Reject reason
+-- "Then the first that fits is rejected": the reasons' numbers, and the reason that a verdict gives
+abbrev pub reason_number : Reason → ℕ
+reason_number NoReason = 0x00010000
+reason_number TooLong = 0x00010002
+reason_number OtherTarget = 0x00010003
+reason_number FormatsNotSupported = 0x00010004
+reason_number MultipleChannels = 0x00010005
+
+abbrev pub verdict_of : Result (Unit {0}) Reason → Option ℕ
+verdict_of (Ok u) = none
+verdict_of (Err r) = some (reason_number r)
 
 -- settings that draw no 2
 pub record GoodSettings (c : Settings) : Type 0 where

@@ -8,7 +8,6 @@ ghost use Rattle.srp.specs.Messages.{login_req, target_identifier};
 ghost use Rattle.srp.specs.Descriptors.{same_bytes};
 ghost use Rattle.srp.specs.Refusals.{first_of_checks};
 ghost use Rattle.srp.specs.Login.{bad_settings_lem, rejections, terms_of_lem};
-ghost use Rattle.words.specs.Sizes.{port_words};
 ghost use Rattle.words.specs.Head.{TermsFit};
 ghost use Rattle.words.specs.View.{closed_words};
 ghost use Rattle.login.specs.LoggingIn.{verdict_of, GoodSettings, Opens, AnswersLogin, MakesPort};
@@ -26,46 +25,26 @@ use words::{Head, PORT};
 
 const MOST_BUFFERS: u32 = limits::MOST_BUFFERS as u32;
 
-// Reasons of a rejection, in the order of document 01's checks.
-const NO_REASON: u32 = 0x00010000;
-
-const TOO_LONG: u32 = 0x00010002;
-
-const FORMATS_NOT_SUPPORTED: u32 = 0x00010004;
-
-const MULTIPLE_CHANNELS: u32 = 0x00010005;
-
-const OTHER_TARGET: u32 = 0x00010003;
-
-// What a login of the right length and type comes to.
+// Why a login of the right length and type is rejected, with document 01's numbers.
 #[derive(Clone, Copy)]
-pub enum Verdict {
-    Accept,
-    Reject(u32),
+pub enum Reason {
+    NoReason = 0x00010000,
+    TooLong = 0x00010002,
+    OtherTarget = 0x00010003,
+    FormatsNotSupported = 0x00010004,
+    MultipleChannels = 0x00010005,
 }
 
 fn bad_settings(c: Settings) -> bool
     ensures { result ≡ bad_settings_lem c }
 {
-    if c.buffers == 0 {
-        return true;
-    }
-    if MOST_BUFFERS < c.buffers {
-        return true;
-    }
-    if c.maximum == 0 {
-        return true;
-    }
-    if LARGEST_PIECE < c.maximum {
-        return true;
-    }
-    if boundary::is_bad(c.boundary) {
-        return true;
-    }
-    if c.longest < SHORTEST_AGREED {
-        return true;
-    }
-    LONGEST_AGREED < c.longest
+    c.buffers == 0
+        || MOST_BUFFERS < c.buffers
+        || c.maximum == 0
+        || LARGEST_PIECE < c.maximum
+        || boundary::is_bad(c.boundary)
+        || c.longest < SHORTEST_AGREED
+        || LONGEST_AGREED < c.longest
 }
 
 // The formats supported, as bits.
@@ -89,32 +68,32 @@ fn names_own(msg: &[u8], own: &[u8; 16]) -> bool
 }
 
 // The first rejection that fits.
-fn judge(c: Settings, own: &[u8; 16], msg: &[u8]) -> Verdict
+fn judge(c: Settings, own: &[u8; 16], msg: &[u8]) -> Result<(), Reason>
     requires { length msg.now ≡ login_req.size }
-    ensures { result ≡ verdict_of (first_of_checks (rejections c own.now msg.now)) }
+    ensures { verdict_of result ≡ first_of_checks (rejections c own.now msg.now) }
 {
     let requested = wire::read32(msg, REQUESTED_LENGTH);
     if requested < SHORTEST_AGREED {
-        return Verdict::Reject(NO_REASON);
+        return Err(Reason::NoReason);
     }
     if c.longest < requested {
-        return Verdict::Reject(TOO_LONG);
+        return Err(Reason::TooLong);
     }
     let formats = wire::read16(msg, FORMAT_BITS) as u32;
     if wire::other_formats(supported(c), formats) {
-        return Verdict::Reject(FORMATS_NOT_SUPPORTED);
+        return Err(Reason::FormatsNotSupported);
     }
     let action = wire::read_bits(msg, LOGIN_BITS, CHANNEL_ACTION, 2);
     if action == 1 {
-        return Verdict::Reject(MULTIPLE_CHANNELS);
+        return Err(Reason::MultipleChannels);
     }
     if 1 < action {
-        return Verdict::Reject(NO_REASON);
+        return Err(Reason::NoReason);
     }
     if !names_own(msg, own) {
-        return Verdict::Reject(OTHER_TARGET);
+        return Err(Reason::OtherTarget);
     }
-    Verdict::Accept
+    Ok(())
 }
 
 // What an accepted login settles.
@@ -122,42 +101,43 @@ fn terms_of(c: Settings, msg: &[u8]) -> Terms
     requires { length msg.now ≡ login_req.size }
     ensures { result ≡ terms_of_lem c msg.now }
 {
-    let cr = wire::read_bits(msg, LOGIN_BITS, LOGIN_CRSOLNT, 1);
-    let lo = wire::read_bits(msg, LOGIN_BITS, LOGIN_LOSOLNT, 1);
     Terms {
         maximum: c.maximum,
         boundary: c.boundary,
         agreed: wire::read32(msg, REQUESTED_LENGTH),
         formats: wire::read16(msg, FORMAT_BITS) as u32,
-        crsolnt: cr == 1,
-        losolnt: lo == 1,
+        crsolnt: wire::read_bits(msg, LOGIN_BITS, LOGIN_CRSOLNT, 1) == 1,
+        losolnt: wire::read_bits(msg, LOGIN_BITS, LOGIN_LOSOLNT, 1) == 1,
     }
 }
 
 // The port of an accepted login, in a closed port's words.
-fn open_port(s: &mut [u64], c: Settings, msg: &[u8])
-    requires s_len { length s.old ≡ port_words }
+fn open_port(s: &mut [u64; PORT], c: Settings, msg: &[u8])
     requires s_value { s.old ≡ closed_words }
     requires msg_len { length msg.now ≡ login_req.size }
     requires good_settings { GoodSettings c }
     requires terms_fit { TermsFit (terms_of_lem c msg.now) }
     ensures { Opens s.new c msg.now }
 {
-    let terms = terms_of(c, msg);
     let h = Head {
         live: true,
         held: 0,
         wanted: c.buffers as u8,
         announced: c.buffers as u8,
         unanswered: false,
-        terms: terms,
+        terms: terms_of(c, msg),
     };
     words::set_head(s, h);
 }
 
 // A login of the right length and type, on a closed port.
-fn answer_login(s: &mut [u64], c: Settings, own: &[u8; 16], msg: &[u8], buf: &mut [u8]) -> Answer
-    requires s_len { length s.old ≡ port_words }
+fn answer_login(
+    s: &mut [u64; PORT],
+    c: Settings,
+    own: &[u8; 16],
+    msg: &[u8],
+    buf: &mut [u8],
+) -> Answer
     requires s_value { s.old ≡ closed_words }
     requires msg_len { length msg.now ≡ login_req.size }
     requires good_settings { GoodSettings c }
@@ -166,7 +146,8 @@ fn answer_login(s: &mut [u64], c: Settings, own: &[u8; 16], msg: &[u8], buf: &mu
 {
     let tag = wire::read64(msg, TAG);
     let formats = supported(c) as u16;
-    if let Verdict::Reject(reason) = judge(c, own, msg) {
+    if let Err(r) = judge(c, own, msg) {
+        let reason = r as u32;
         message::put_login_rejection(buf, reason, tag, formats);
         return Answer {
             reply: Ok(Reply::Rejected(reason)),

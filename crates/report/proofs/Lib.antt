@@ -1,3 +1,2 @@
-pub mod Cases
-pub mod Signs
-pub mod Filling
+pub mod Counted
+pub mod Listed

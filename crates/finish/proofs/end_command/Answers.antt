@@ -21,19 +21,6 @@ use Rattle.state.proofs.Answering.{unused, answered}
 use Rattle.finish.proofs.Endings.{response_is, response_long}
 use Rattle.finish.proofs.end_command.Goals as goal
 
-pub drop_commands-requires : goal.drop_commands-requires
-drop_commands-requires c =
-    let F = c.requires.found_at in
-    record { s_len = c.requires.s_len; first_bound = omega (arith, F.inside); none_ends = F.others }
-
-pub put_response-requires : goal.put_response-requires
-put_response-requires c =
-    record { sense_in_bounds = omega (arith, c.requires.sense_len_bound, c.requires.buffer_size_in_bounds); sense_len_bound = c.requires.sense_len_bound }
-
-pub overflow_add-result : goal.overflow_add-result
-overflow_add-result c =
-    record { fits = omega (arith, c.requires.sense_len_bound) }
-
 pub returns : goal.returns
 returns c =
     λ st.
