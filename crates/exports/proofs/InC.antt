@@ -2,7 +2,6 @@
 use mathlib.Core.Path.{◌≡◌, sym, ◌∙◌, ap, subst}
 use mathlib.Core.List.{List, []}
 use Prim.Native.Nat.{ℕ}
-use lib.ListN.{length}
 use Rattle.std.specs.Prelude.{Result, Ok}
 use Rattle.srp.specs.Take.{Outcome, Tables}
 use Rattle.srp.specs.Answers.{returned, size_of, answer_of}
@@ -17,14 +16,10 @@ use Rattle.srp.specs.declared.Settings.{Settings}
 use Rattle.take.specs.Taking.{Takes, Stores}
 use Rattle.tables.specs.Bringing.{Brings}
 use Rattle.tables.specs.Bringing as bringing
-use Rattle.transfer.specs.Stepping.{Names, Steps}
+use Rattle.transfer.specs.Stepping.{Steps}
 use Rattle.transfer.specs.Turning.{Turns}
-use Rattle.srp.specs.Writing.{placed}
-use Rattle.page.specs.Page.{trace_writes, Traced, trace_in_c}
-use Rattle.page.specs.declared.Way.{Way}
-use Rattle.exports.specs.Answered.{Answered}
 use Rattle.exports.specs.Arguments.{direction_in}
-use Rattle.exports.specs.Calls.{Gives, InC, AnswersInC, StepsInC, RepliesInC, LogsInC, TakeInC, TablesInC, MoveInC, StepInC, TurnInC}
+use Rattle.exports.specs.Calls.{Gives, InC, AnswersInC, StepsInC, LogsInC, TakeInC, TablesInC, StepInC, TurnInC}
 use Rattle.srp.specs.declared.Refusal.{Refusal}
 
 pub in_numbers : {n : ℕ} {w : List ℕ} {r : Answer} {o : Outcome} → r ≡ answer_of o → Gives n w r → InC n w o
@@ -66,19 +61,8 @@ module _ {l st l' : List ℕ} {o : Outcome} {r : Result Reply Refusal} where
   of_outcome : RepliesAs l st l' st r o → RepliesAs l st l' st o.reply o
   of_outcome R = subst (λ (x : Result Reply Refusal). RepliesAs l st l' st x o) R.reply R
 
-  pub replies_in_c : {n : ℕ} → RepliesAs l st l' st r o → n ≡ returned r → RepliesInC l st l' n o
-  replies_in_c R e = record { number = e ∙ ap (λ (x : Result Reply Refusal). returned x) R.reply; call = of_outcome R }
-
   pub steps_in_c : {n : ℕ} {w : List ℕ} → RepliesAs l st l' st r o → Gives n w (record { reply = r; wrote = 0 }) → StepsInC l st l' n w o
   steps_in_c R g = record { numbers = in_numbers (silently o R.reply R.wrote) g; call = of_outcome R }
-
--- a move of the direction d, which is that of the number
-pub move_in_c : {l l' : List ℕ} {n : ℕ} {d : Direction} {r : Result Reply Refusal} (tag direction offset count : ℕ) → d ≡ direction_in direction
-    → Names l l' tag d offset count r
-    → n ≡ returned r
-    → MoveInC l l' tag direction offset count n
-move_in_c {l} {l'} {r = r} tag direction offset count e N g st =
-    replies_in_c (subst (λ (x : Direction). Names l l' tag x offset count r) e N st) g
 
 -- a step in the direction d, which is that of the number
 pub step_in_c : {l l' st : List ℕ} {tag n : ℕ} {w : List ℕ} {d : Direction} {r : Result Reply Refusal} (direction : ℕ) → d ≡ direction_in direction → Steps l l' st tag d r
@@ -92,11 +76,3 @@ step_in_c {l} {l'} {st} {tag} {r = r} direction e S g =
 pub turn_in_c : {l l' st : List ℕ} {n : ℕ} {w : List ℕ} {r : Result Reply Refusal} → Turns l l' st r → Gives n w (record { reply = r; wrote = 0 }) → TurnInC l l' st n w
 turn_in_c T g = record { turns = steps_in_c T.replies g; idle = λ q. T.idle (T.replies.reply ∙ q) }
 
--- a trace of the way w, which is that of the number
-pub trace_in_c_lem : {w w' : Way} (s : List ℕ) {before after : List ℕ} {r : Result Reply Refusal} {n : ℕ} → w ≡ w' → Traced w s before after r → n ≡ returned r
-    → Answered n before after (trace_in_c w' s (length before))
-trace_in_c_lem s {before} way t e =
-    record {
-      number = e ∙ ap (λ (x : Result Reply Refusal). returned x) t.reply;
-      buffer = t.buffer ∙ ap (λ (x : Way). placed (trace_writes x s (length before)) before) way;
-    }

@@ -1,4 +1,3 @@
-pub mod Buffers
 pub mod InC
 pub mod Listing
 pub mod Plain
