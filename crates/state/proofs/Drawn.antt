@@ -117,8 +117,3 @@ module _ (l st b : List ℕ) {r : Answer} {f : Refusal} (on : r ≡ refusing f) 
       passes_short b h (closed (view l st) ∷ rest) ∙ drawn_first (closed (view l st) ∷ []) rest (e st) in
       let c = only_closed l e in
       answers_by (ap by (q ∙ ap some c) ∙ s ∙ ap (λ (g : Refusal). silent (view l st) (Err g)) (sym c)) (unaltered l st b f r on)
-
-  -- 24 and 33, behind checks of which none hits
-  pub answers_unready : (o : Outcome) (before : List Check) → first_of_checks before ≡ none → (head_of l).live ≡ true → (tag : ℕ) → ReadyIs l tag (Err f)
-      → AnswersAs l st b l st b r (unless (first_of_checks (before ++ open_checks (view l st) tag)) (view l st) o)
-  answers_unready o before n live tag e = answers_refusal o (passes before (open_checks (view l st) tag) n ∙ e live st)

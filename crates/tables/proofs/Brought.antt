@@ -10,7 +10,7 @@ use borrow.Author.Tests.{eq-eqb, ne_eqb, leb-true}
 use lib.Dec.{eqb, leb}
 use lib.ListN.{length, get_or, take, drop, set}
 use lib.Seq.{take_at, get_or-take, take-set-lt}
-use Rattle.std.specs.Prelude.{Result, Ok, Err}
+use Rattle.std.specs.Prelude.{Result, Ok}
 use Rattle.srp.specs.Lists.{change, over}
 use Rattle.srp.specs.Descriptors.{whole, good_table_lem, fetched, standing_size_lem, Given, chosen, segments, sum_of, copies_agree_lem, good_format}
 use Rattle.srp.specs.Credit.{Open, Port, with_held, has_tag}

@@ -1,21 +1,18 @@
 -- What the tables of the command in slot i, which waits, come to, by their lengths and by both directions' fields.
 -- Assumes nothing.
-use mathlib.Core.Path.{◌≡◌, refl, sym, ◌∙◌, ap, subst}
+use mathlib.Core.Path.{◌≡◌, refl, ◌∙◌, ap}
 use mathlib.Core.Bool.{true, false}
 use mathlib.Core.List.{List, [], ◌∷◌}
-use Prim.Native.Nat.{ℕ, ◌+◌, ◌*◌, ◌≤◌}
-use native.Mathlib.Omega.{arith}
+use Prim.Native.Nat.{ℕ, ◌≤◌}
 use lib.ListN.{length, get_or, drop}
 use Rattle.std.specs.Prelude.{Result, Ok, Err, IsErrAnd}
-use Rattle.std.proofs.lemmas.Result.{err_from_is_err_and}
 use Rattle.srp.specs.Limits.{buffer_size}
 use Rattle.srp.specs.Both.{Both}
-use Rattle.srp.specs.Descriptors.{fetched, Given, chosen, segments, sum_of, reachable, good_format, good_fields}
+use Rattle.srp.specs.Descriptors.{fetched, Given, segments, reachable, good_format, good_fields}
 use Rattle.srp.specs.Take.{Tables, silent, closed, new_side}
 use Rattle.srp.specs.Answers.{refusing}
 use Rattle.srp.specs.Tables.{brought, tables_checks, tables_outcome, tables_by, tables_def}
 use Rattle.srp.specs.declared.Answer.{Answer}
-use Rattle.srp.specs.declared.Descriptor.{Descriptor}
 use Rattle.srp.specs.declared.Direction.TheVariants.{Out, In}
 use Rattle.srp.specs.declared.Refusal.{Refusal}
 use Rattle.srp.specs.declared.Refusal.TheVariants.{TableLength}
@@ -23,17 +20,16 @@ use Rattle.srp.specs.declared.Reply.TheVariants.{Performed}
 use Rattle.srp.proofs.FieldLaws.{both}
 use Rattle.words.specs.declared.Part.{Part}
 use Rattle.words.specs.declared.Slot.{Slot}
-use Rattle.words.specs.Sizes.{list_size, place_size}
 use Rattle.words.specs.Slots.{slots, no_slot, SlotIs, place_for_lem}
 use Rattle.words.specs.Head.{head_of}
-use Rattle.words.specs.View.{given_of, open_of, view}
+use Rattle.words.specs.View.{given_of, view}
 use Rattle.words.proofs.Ports.{view_live}
 use Rattle.state.specs.Changes.{FoundAt}
 use Rattle.state.specs.Opening.{Draws}
 use Rattle.state.proofs.Promises.{unaltered, answers_by, accepted, found_slot}
-use Rattle.state.proofs.Drawn.{answers_closed}
-use Rattle.store.specs.Places.{new_part_lem, Supplied}
-use Rattle.tables.specs.Bringing.{segments_in, tables, judged_def, bad_def, answered_by, Kept, EndsBad, Brings}
+use Rattle.state.proofs.Drawn.{answers_closed, handed}
+use Rattle.store.specs.Places.{Supplied}
+use Rattle.tables.specs.Bringing.{tables, judged_def, bad_def, answered_by, Kept, EndsBad, Brings}
 use Rattle.tables.proofs.Judging.{tables_judged, out_9, in_9, out_10, in_10, tables_on}
 use Rattle.tables.proofs.Brought.{kept, placed, new_side_lem, brought_as, supplied_view}
 
@@ -48,8 +44,7 @@ module _ {l st b : List ℕ} {tag : ℕ} {t : Tables} where
   pub refuses_closed : {f : Refusal} → buffer_size ≤ length b → Draws l (λ p. closed p ∷ []) f → (r : Result Answer Refusal) → IsErrAnd r (λ g. g ≡ f)
       → Brings l st b l st b tag t (answered_by r)
   refuses_closed {f} h e r on =
-      let p = err_from_is_err_and r on in
-      rw (p.1, p.2)
+      handed (λ x. Brings l st b l st b tag t (answered_by x)) r on
       (record {
         answers = answers_closed l st b {r = refusing f} refl (λ k. tables_by k (view l st) tag t) refl h e (drop 2 (tables_checks (view l st) (length b) tag t));
         store = kept (λ q. cc);

@@ -1,7 +1,7 @@
 -- What the definition of tables comes to, test by test, in the order of the checks.
 -- Assumes nothing.
 use mathlib.Core.Path.{◌≡◌, refl, ap}
-use mathlib.Core.Bool.{Bool, true, false, not}
+use mathlib.Core.Bool.{true, false, not}
 use mathlib.Core.List.{[], ◌∷◌}
 use mathlib.Core.Option.{Option, some}
 use Prim.Native.Nat.{ℕ, ◌≤◌, ◌<◌}
@@ -15,9 +15,9 @@ use Rattle.srp.specs.Refusals.{first_of_checks}
 use Rattle.srp.specs.Descriptors.{Given, fetched, good_fields}
 use Rattle.srp.specs.Credit.{Open, Port, has_tag}
 use Rattle.srp.specs.Take.{silent, is_open_lem, Tables, tables_fit, fields_fit}
-use Rattle.srp.specs.Tables.{is_waiting, tables_checks, tables_outcome, tables_by, tables_def}
+use Rattle.srp.specs.Tables.{tables_checks, tables_outcome, tables_by, tables_def}
 use Rattle.srp.specs.declared.Refusal.{Refusal}
-use Rattle.srp.specs.declared.Refusal.TheVariants.{ShortBuffer, TableLength, Fields, TagNotOpen, Waiting}
+use Rattle.srp.specs.declared.Refusal.TheVariants.{ShortBuffer, TableLength, Fields, TagNotOpen}
 use Rattle.tables.specs.Bringing.{judged_def, bad_def}
 
 -- ── 1 and 24

@@ -19,7 +19,7 @@ use Rattle.words.specs.Slots.{slots, no_slot}
 use Rattle.words.specs.Head.{head_of}
 use Rattle.words.specs.View.{view}
 use Rattle.state.specs.Promises.{AnswersAs, AnswersWith}
-use Rattle.store.specs.Places.{OwnPlace, new_part_lem}
+use Rattle.store.specs.Places.{Holding, OwnPlace, new_part_lem}
 use Rattle.srp.specs.declared.Refusal.{Refusal}
 
 abbrev pub tables : List ℕ → List ℕ → Tables
@@ -60,6 +60,7 @@ pub record Kept (g : Given) (table : List ℕ) (p : Part) : Type 0 where
   pub good : good_fields g table ≡ true
   pub part : p ≡ new_part_lem (segments_in table g.descriptor) (sum_of (segments g table))
   pub whole : length (chosen g table) % 16 ≡ 0
+  pub holding : Holding table p
 
 abbrev pub PartRead : Given → List ℕ → Option Part → Type 0
 PartRead g table (Some p) = Kept g table p

@@ -1,4 +1,3 @@
-pub mod Branches
+pub mod Deciding
 pub mod Endings
-pub mod Heads
-pub mod Stored
+pub mod Newly

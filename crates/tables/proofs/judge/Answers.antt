@@ -11,9 +11,9 @@ returns-then-out-fetched_length c =
     let r = c.requires in
     let S = c.load-place.ensures in
     elim c.then-out-fetched_length.branch [
-      then-out-fetched_length-via-then-out-fetched_length w ↦
+      | then-out-fetched_length-via-then-out-fetched_length w ↦
           unfit_out a.store.now a.buf.now a.out.now a.inn.now r.s_value r.found_at S r.no_slot_value r.buffer_size_in_bounds (λ e. w.if-out-fetched_length.true (e ∙ sym c.fetched_length.ensures))
-    | then-out-fetched_length-via-else-out-fetched_length+then-inn-fetched_length w ↦
+      | then-out-fetched_length-via-else-out-fetched_length+then-inn-fetched_length w ↦
           unfit_in a.store.now a.buf.now a.out.now a.inn.now r.s_value r.found_at S r.no_slot_value r.buffer_size_in_bounds (w.if-out-fetched_length.false ∙ c.fetched_length.ensures)
           (λ e. w.if-inn-fetched_length.true (e ∙ sym w.fetched_length-else-out-fetched_length.ensures))
     ]
