@@ -4,7 +4,7 @@ use mathlib.Core.List.{[], ◌∷◌}
 use Prim.Native.Nat.{◌+◌, ◌-◌}
 use native.Mathlib.Omega.{arith}
 use lib.ListN.{drop}
-use borrow.Author.Tests.{eq-eqb, ne_eqb, le-ltb}
+use borrow.Author.Tests.{eq-eqb, ne_eqb, lt-ltb, le-ltb}
 use Rattle.srp.specs.Limits.{buffer_size}
 use Rattle.srp.specs.Calls.{grant_checks}
 use Rattle.srp.specs.Take.{closed}
@@ -13,6 +13,9 @@ use Rattle.state.proofs.Drawn.{drawn_first, handed}
 use Rattle.credit.specs.Buffers.{MayGrant}
 use Rattle.credit.proofs.Cases.{granting}
 use Rattle.credit.proofs.grantable.Goals as goal
+
+pub returns-then-room : goal.returns-then-room
+returns-then-room c = λ st. rw (lt-ltb c.args.room buffer_size c.if-room.true) refl
 
 pub returns-in_err-h : goal.returns-in_err-h
 returns-in_err-h c =
