@@ -66,7 +66,7 @@ module _ {records : List Record} {before after : List ℕ} {i : ℕ} (F : Filled
   one_more =
       sym (all_append (take i records) (get_or records i z ∷ []))
       ∙ ap (λ (l : List Record). all_words l) (sym (take-suc records i z less))
-      ∙ ap (λ (k : ℕ). all_words (take k records)) (sym add-one)
+      ∙ ap (λ (k : ℕ). all_words (take k records)) (sym (add-one i))
 
   pub fill_more : Filled records before (paste after (record_size * i) (record_words (get_or records i z)) record_size) (i + 1)
   fill_more =

@@ -108,7 +108,8 @@ pub fn srp_target_step(
     ensures { StepInC port.old port.new store.now tag direction result answer.new }
 {
     let d = direction_of(direction);
-    match transfer::step(port, store, tag, d) {
+    let r = transfer::step(port, store, tag, d);
+    match r {
         Ok(Reply::Operation(k, p, n)) => {
             *answer = answer::operation_words(k, p, n);
             0
@@ -117,14 +118,15 @@ pub fn srp_target_step(
             *answer = answer::done_words(n);
             0
         }
-        reply => give(answer, Answer { reply, wrote: 0 }),
+        _ => give(answer, Answer { reply: r, wrote: 0 }),
     }
 }
 
 pub fn srp_target_turn(port: &mut [u64; PORT], store: &[u8; STORE], answer: &mut [u64; 8]) -> u32
     ensures { TurnInC port.old port.new store.now result answer.new }
 {
-    match transfer::turn(port, store) {
+    let r = transfer::turn(port, store);
+    match r {
         Ok(Reply::Served(tag, d, p, n)) => {
             *answer = answer::served_words(tag, d, p, n);
             0
@@ -133,7 +135,7 @@ pub fn srp_target_turn(port: &mut [u64; PORT], store: &[u8; STORE], answer: &mut
             *answer = [0; 8];
             0
         }
-        reply => give(answer, Answer { reply, wrote: 0 }),
+        _ => give(answer, Answer { reply: r, wrote: 0 }),
     }
 }
 
@@ -183,12 +185,13 @@ pub fn srp_target_close(
 pub fn srp_target_counters(port: &[u64; PORT], answer: &mut [u64; 8]) -> u32
     ensures { CountersInC port.now result answer.new }
 {
-    match report::counters(port) {
+    let r = report::counters(port);
+    match r {
         Ok(Reply::Counts(c)) => {
             *answer = answer::counter_words(c);
             0
         }
-        reply => give(answer, Answer { reply, wrote: 0 }),
+        _ => give(answer, Answer { reply: r, wrote: 0 }),
     }
 }
 

@@ -8,10 +8,10 @@ use Rattle.exports.proofs.port.srp_target_counters.Goals as goal
 pub returns-in-Ok-Counts : goal.returns-in-Ok-Counts
 returns-in-Ok-Counts c = λ st.
     let p = view c.args.port.now st in
-    in_numbers (silently (counters_def p) (c.counters.ensures st) (counters_unwritten p))
-    (says 0 c.in-Ok-Counts.is c.in-Ok-Counts.field-0-is (c.counter_words.ensures 0))
+    in_numbers (silently (counters_def p) (c.counters-r.ensures st) (counters_unwritten p))
+    (says 0 c.in-Ok-Counts.is (rw c.in-Ok-Counts.is at c.in-Ok-Counts.field-0-is) (c.counter_words.ensures 0))
 
 pub returns-in_default : goal.returns-in_default
 returns-in_default c = λ st.
     let p = view c.args.port.now st in
-    in_numbers (silently (counters_def p) (c.counters.ensures st) (counters_unwritten p)) ?
+    in_numbers (silently (counters_def p) (c.counters-r.ensures st) (counters_unwritten p)) c.give.ensures
