@@ -75,4 +75,3 @@ step_in_c {l} {l'} {st} {tag} {r = r} direction e S g =
 -- a turn
 pub turn_in_c : {l l' st : List ℕ} {n : ℕ} {w : List ℕ} {r : Result Reply Refusal} → Turns l l' st r → Gives n w (record { reply = r; wrote = 0 }) → TurnInC l l' st n w
 turn_in_c T g = record { turns = steps_in_c T.replies g; idle = λ q. T.idle (T.replies.reply ∙ q) }
-

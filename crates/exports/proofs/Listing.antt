@@ -2,7 +2,7 @@
 use mathlib.Core.Path.{◌≡◌, refl, sym, ◌∙◌, ap}
 use mathlib.Core.List.{List, [], ◌∷◌, ◌++◌}
 use mathlib.Core.Option.{Option, none, some}
-use Prim.Native.Nat.{ℕ, suc, ◌+◌, ◌*◌, ◌/◌, ◌<◌, ◌≤◌}
+use Prim.Native.Nat.{ℕ, ◌+◌, ◌*◌, ◌/◌, ◌<◌, ◌≤◌}
 use native.Mathlib.Omega.{arith}
 use native.Mathlib.Numerals.{add-one}
 use lib.ListN.{length, take, drop, get_or, length-append, replicate}
@@ -58,7 +58,7 @@ pub record Filled (records : List Record) (before after : List ℕ) (i : ℕ) : 
 
 -- and one more
 module _ {records : List Record} {before after : List ℕ} {i : ℕ} (F : Filled records before after i) (less : i < length records)
-  (room : record_size * i + record_size ≤ length before) (z : Record) where
+    (room : record_size * i + record_size ≤ length before) (z : Record) where
   done : length (all_words (take i records)) ≡ record_size * i
   done = all_length (take i records) ∙ ap (λ (k : ℕ). record_size * k) (length-take-le i records (omega arith))
 

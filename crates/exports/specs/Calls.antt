@@ -1,6 +1,6 @@
 -- What the calls from C on a port promise: the number returned, the eight words of the answer, and all that the call of the same name promises.
 -- l and st are the port's words and its store before the call, l' and st' after it; b and b' the lent buffer; n is returned, w are the words.
-use Rattle.std.specs.Prelude.{◌≡◌, List, [], ◌∷◌, ℕ, ◌/◌, pos, length, Result, Ok}
+use Rattle.std.specs.Prelude.{◌≡◌, List, [], ◌∷◌, ℕ, ◌/◌, pos, length, Ok}
 use Rattle.srp.specs.Lists.{over}
 use Rattle.srp.specs.Credit.{Port}
 use Rattle.srp.specs.Take.{Outcome, Tables, take_def}
@@ -8,8 +8,6 @@ use Rattle.srp.specs.Tables.{tables_def}
 use Rattle.srp.specs.Calls.{plan_def, move_def, step_def, turn_def, finish_def, add_def, withdraw_def, grant_def, close_def, counters_def, list_def, records_for}
 use Rattle.srp.specs.Login.{login_def}
 use Rattle.srp.specs.Answers.{returned, answer_of}
-use Rattle.srp.specs.declared.Refusal.{Refusal}
-use Rattle.srp.specs.declared.Reply.{Reply}
 use Rattle.srp.specs.declared.Reply.TheVariants.{Done, Idle}
 use Rattle.srp.specs.declared.Answer.{Answer}
 use Rattle.answer.specs.Words.{eight, answer_words}

@@ -19,12 +19,14 @@ pub fn srp_target_take(
 {
     let a = take::take(port, store, msg, buf);
     match a.reply {
-        Ok(Reply::NewCommand {
-            tag,
-            lun,
-            cdb,
-            waits,
-        }) => {
+        Ok(
+            Reply::NewCommand {
+                tag,
+                lun,
+                cdb,
+                waits,
+            },
+        ) => {
             *answer = answer::command_words(a.wrote, tag, lun, cdb, waits);
             0
         }
