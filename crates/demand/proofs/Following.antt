@@ -4,21 +4,20 @@ use mathlib.Core.Path.{◌≡◌, refl, sym, ◌∙◌, ap, subst}
 use mathlib.Core.Logic.{⊎_elim}
 use mathlib.Core.Bool.{Bool, true, false, true≢false}
 use mathlib.Core.List.{List, [], ◌∷◌, ◌++◌}
-use mathlib.Core.Option.{none}
 use mathlib.Core.Option.{Option, none, some}
 use Prim.Native.Nat.{ℕ, ◌≤◌}
 use native.Mathlib.Omega.{arith}
 use borrow.Author.Tests.{le-ltb, ltb-false}
 use lib.Dec.{ltb}
 use lib.ListN.{length}
-use Rattle.std.specs.Prelude.{Result}
+use Rattle.std.specs.Prelude.{Result, Ok}
 use Rattle.srp.specs.Limits.{buffer_size, answer_size, shortest_agreed}
 use Rattle.srp.specs.Bytes.{Bytes, get, part, type_of}
 use Rattle.srp.specs.Messages.{tag, format_bits, requested_length, login_crsolnt, login_losolnt, channel_action, target_identifier, login_req}
 use Rattle.srp.specs.Lists.{All}
-use Rattle.srp.specs.Refusals.{first_of_checks}
+use Rattle.srp.specs.Refusals.{first_of_checks, unless_bad}
 use Rattle.srp.specs.Credit.{Port, closed_port}
-use Rattle.srp.specs.Requests.{read_message_lem, command_of_lem, unless_bad, look_checks}
+use Rattle.srp.specs.Requests.{Reading, read_message_lem, command_of_lem, look_checks}
 use Rattle.srp.specs.Descriptors.{fetch_of}
 use Rattle.srp.specs.Outside.{fetch_bytes}
 use Rattle.srp.specs.Writing.{placed}
@@ -30,7 +29,6 @@ use Rattle.srp.specs.Ranges as def
 use Rattle.srp.specs.Sent.{Sent}
 use Rattle.srp.specs.Initiator.{CommandFields, command_bytes, command_in, Reads}
 use Rattle.srp.specs.declared.Command.{Command}
-use Rattle.srp.specs.declared.Message.{Message}
 use Rattle.srp.specs.declared.Message.TheVariants.{Cmd}
 use Rattle.srp.specs.declared.Refusal.{Refusal}
 use Rattle.srp.specs.declared.Reply.{Reply}
@@ -76,10 +74,10 @@ agreed_least s h =
 
 -- a command written by the layouts is read as its values
 command_read_as : (agreed formats : ℕ) (msg : List ℕ) (c : CommandFields) → Sendable agreed formats c → msg ≡ command_bytes c
-    → Reads c msg × (read_message_lem agreed formats msg ≡ Cmd (command_in c msg))
+    → Reads c msg × (read_message_lem agreed formats msg ≡ Ok (Cmd (command_in c msg)))
 command_read_as agreed formats msg c k e = (
   subst (λ (x : List ℕ). Reads c x) (sym e) (command_read c k.ranged k.cdb k.out_fits.0 k.in_fits.0),
-  subst (λ (x : List ℕ). read_message_lem agreed formats x ≡ Cmd (command_in c x)) (sym e)
+  subst (λ (x : List ℕ). read_message_lem agreed formats x ≡ Ok (Cmd (command_in c x))) (sym e)
       (command_received agreed formats c k.ranged k.cdb k.out_fits.0 k.in_fits.0 k.out_fits.1 k.in_fits.1 k.out_fits.2 k.in_fits.2 k.fits),
 )
 
@@ -108,8 +106,8 @@ receives s room msg =
     again e = ap (λ (l : List ℕ). read_on p l) e
 
     -- the outcome, by what the message is read as
-    by_read : (x : Message) → read_on p msg ≡ x → take_def p room msg ≡ take_read p room msg x
-    by_read x e = ap (λ (y : Message). take_read p room msg y) e
+    by_read : (x : Reading) → read_on p msg ≡ x → take_def p room msg ≡ take_read p room msg x
+    by_read x e = ap (λ (y : Reading). take_read p room msg y) e
 
 -- ── the theorem
 
@@ -169,7 +167,7 @@ login_fields c own room s l k =
     ap (λ (x : Option Refusal). unless x closed_port (judged (first_of_checks (rejections c own s)) c s)) e
 
 -- a message that is read as a command draws none of look's checks
-none_hits : (x : Option Refusal) (c d : Command) → unless_bad x (Cmd c) ≡ Cmd d → (x ≡ none) × (c ≡ d)
+none_hits : (x : Option Refusal) (c d : Command) → unless_bad x (Ok (Cmd c)) ≡ Ok (Cmd d) → (x ≡ none) × (c ≡ d)
 none_hits none c d e = (refl, cc)
 none_hits (some r) c d e = let z : ◌≡◌ {A = ℕ} 0 1 = cc in absurd (omega arith)
 

@@ -18,9 +18,8 @@ use Rattle.srp.specs.declared.Refusal.{Refusal}
 use Rattle.srp.specs.declared.Refusal.TheVariants.{OutFormat, InFormat}
 use Rattle.srp.proofs.Checks.{passes as all-false}
 use Rattle.srp.proofs.ListLaws.{all_append}
-use Rattle.division.specs.Dividing.{drawn, passes, draws, values, count, division, divide_checks, divide_def, divided_number, division_words, divided_words}
+use Rattle.division.specs.Dividing.{drawn, passes, draws, values, count, division, divide_checks, Divided, divide_def, divided_number, division_words, divided_words}
 use Rattle.division.specs.Formula.{otherwise}
-use Rattle.division.specs.declared.Divided.{Divided}
 use Rattle.division.proofs.Counting.{same}
 use Rattle.division.proofs.Counts.{count_same}
 use Rattle.division.proofs.Formula.{by_formula, in_message}

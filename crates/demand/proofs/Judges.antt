@@ -9,7 +9,7 @@ use borrow.Author.Tests.{not-false}
 use lib.ListN.{length}
 use Rattle.std.specs.Prelude.{Result, Ok, Err}
 use Rattle.srp.specs.Lists.{find, over}
-use Rattle.srp.specs.Refusals.{first_of_checks}
+use Rattle.srp.specs.Refusals.{first_of_checks, unless_bad}
 use Rattle.srp.specs.Descriptors.{segments_of, sum_of}
 use Rattle.srp.specs.Requests.{look_checks, look_outcome}
 use Rattle.srp.specs.Cutting.{up_to, next, cut_next, cut_checks, cut_outcome}
@@ -25,12 +25,10 @@ use Rattle.srp.specs.declared.Reply.TheVariants.{Performed, Done, Idle}
 use Rattle.srp.specs.declared.Direction.{Direction}
 use Rattle.srp.specs.declared.Piece.{Piece}
 use Rattle.srp.specs.declared.Place.{Place}
-use Rattle.srp.specs.declared.Look.TheVariants.{LookRefused}
-use Rattle.srp.specs.declared.Cut.TheVariants.{CutRefused}
 use Rattle.srp.proofs.Checks.{passes}
 use Rattle.words.specs.View.{view}
 use Rattle.page.specs.Page.{trace_line, trace_checks, trace_in_c}
-use Rattle.division.specs.Dividing.{division, divide_checks, divided_by, division_words, divided_number, divided_words}
+use Rattle.division.specs.Dividing.{division, divide_checks, division_words, divided_number, divided_words}
 use Rattle.page.specs.declared.Way.{Way}
 use Rattle.exports.specs.Arguments.{record_size, all_words, direction_in}
 use Rattle.exports.specs.Answered.{Answered}
@@ -150,15 +148,15 @@ judges_list l before after n w P st =
 module _ (b b' : List ℕ) (n : ℕ) where
   pub judges_look : (agreed formats : ℕ) (s : List ℕ) → Answered n b b' (look_in_c agreed formats s (length b)) → JudgesLook agreed formats s b b' n
   judges_look agreed formats s A =
-      judge_bytes (λ x. look_answer (elim x [ none ↦ look_outcome s | some r ↦ LookRefused r ])) (λ f. refl) refl
+      judge_bytes (λ x. look_answer (unless_bad x (Ok (look_outcome s)))) (λ f. refl) refl
       (look_checks agreed formats s) (length b) n b b' A
 
   pub judges_cut : (list : List ℕ) (M Q R handed : ℕ) → Answered n b b' (cut_in_c list M Q R handed (length b)) → JudgesCut list M Q R handed b b' n
   judges_cut list M Q R handed A =
-      judge_bytes (λ x. cut_answer (elim x [ none ↦ cut_outcome list M Q R handed | some r ↦ CutRefused r ])) (λ f. refl)
+      judge_bytes (λ x. cut_answer (unless_bad x (Ok (cut_outcome list M Q R handed)))) (λ f. refl)
       (unrefused (next (up_to M Q) handed (min R (sum_of (segments_of list))) (segments_of list))) (cut_checks list M Q R handed) (length b) n b b' A
     where
-      unrefused : (x : Option Piece) → (cut_answer (cut_next x)).returns ≡ 0
+      unrefused : (x : Option Piece) → (cut_answer (Ok (cut_next x))).returns ≡ 0
       unrefused none = refl
       unrefused (some o) = refl
 
@@ -187,8 +185,8 @@ judges_format_counts formats n w C =
     (λ f e. C.words ∙ ap words e)
   where
     words : Option Refusal → List ℕ
-    words x = divided_words (divided_by x (division formats))
+    words x = divided_words (unless_bad x (Ok (division formats)))
 
-    number : (x : Option Refusal) → divided_number (divided_by x (division formats)) ≡ number_for x
+    number : (x : Option Refusal) → divided_number (unless_bad x (Ok (division formats))) ≡ number_for x
     number none = refl
     number (some f) = refl

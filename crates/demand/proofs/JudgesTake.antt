@@ -9,7 +9,7 @@ use Prim.Native.Nat.{ℕ}
 use lib.Dec.{ltb}
 use borrow.Author.Tests.{not-false}
 use lib.ListN.{length}
-use Rattle.std.specs.Prelude.{Err}
+use Rattle.std.specs.Prelude.{Ok, Err}
 use Rattle.srp.specs.Limits.{buffer_size}
 use Rattle.srp.specs.Refusals.{Conduct, hangs_up, answered, stays, alters_nothing, conduct_of, first_of_checks}
 use Rattle.srp.specs.Credit.{Port}
@@ -19,8 +19,8 @@ use Rattle.srp.specs.Order.{take_order}
 use Rattle.srp.specs.Answers.{returned, size_of, answer_of}
 use Rattle.srp.specs.declared.Refusal.{Refusal}
 use Rattle.srp.specs.declared.Refusal.TheVariants.{ShortBuffer, Closed}
-use Rattle.srp.specs.declared.Message.{Message}
-use Rattle.srp.specs.declared.Message.TheVariants.{Bad, Cmd, TskMgmt, CredRsp, ILogout}
+use Rattle.srp.specs.Requests.{Reading}
+use Rattle.srp.specs.declared.Message.TheVariants.{Cmd, TskMgmt, CredRsp, ILogout}
 use Rattle.srp.proofs.Checks.{passes}
 use Rattle.srp.proofs.Refusing.{refused_as, take_order_lem}
 use Rattle.answer.specs.Words.{answer_words}
@@ -33,13 +33,13 @@ use Rattle.demand.proofs.Judging.{number_for, not_zero, judge}
 -- ── of the definition
 
 module _ (p : Port) (room : ℕ) (s : List ℕ) where
-  take_number : (m : Message) (x : Option Refusal) → first_of_checks (take_checks p room s m) ≡ x → returned (take_by x p s m).reply ≡ number_for x
+  take_number : (m : Reading) (x : Option Refusal) → first_of_checks (take_checks p room s m) ≡ x → returned (take_by x p s m).reply ≡ number_for x
   take_number m (some f) e = ap returned (refused_as p m f)
-  take_number (Bad r) none e = absurd (true≢false (passes (take_checks p room s (Bad r)) e).1.1.0)
-  take_number (Cmd c) none e = refl
-  take_number (TskMgmt k) none e = refl
-  take_number (CredRsp g) none e = refl
-  take_number ILogout none e = refl
+  take_number (Err r) none e = absurd (true≢false (passes (take_checks p room s (Err r)) e).1.1.0)
+  take_number (Ok (Cmd c)) none e = refl
+  take_number (Ok (TskMgmt k)) none e = refl
+  take_number (Ok (CredRsp g)) none e = refl
+  take_number (Ok ILogout) none e = refl
 
   -- take goes by the first of document 01's list that hits
   by_order : take_def p room s ≡ take_by (first_of_checks (take_order p room s)) p s (read_on p s)

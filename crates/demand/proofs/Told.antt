@@ -28,8 +28,8 @@ use Rattle.srp.specs.declared.Direction.TheVariants.{Out, In}
 use Rattle.srp.specs.declared.Piece.{Piece}
 use Rattle.srp.specs.declared.Place.{Place}
 use Rattle.srp.specs.declared.Refusal.{Refusal}
-use Rattle.srp.specs.declared.Message.{Message}
-use Rattle.srp.specs.declared.Message.TheVariants.{Bad, Cmd, TskMgmt, CredRsp, ILogout}
+use Rattle.srp.specs.Requests.{Reading}
+use Rattle.srp.specs.declared.Message.TheVariants.{Cmd, TskMgmt, CredRsp, ILogout}
 use Rattle.srp.specs.declared.Reply.{Reply}
 use Rattle.srp.specs.declared.Reply.TheVariants.{Performed, NewCommand, Served}
 use Rattle.srp.proofs.RefusalLaws.{numbered}
@@ -86,7 +86,7 @@ performed_told p ws h = record { reply = refl; size = refl; single = h }
 -- ── each call
 
 module _ (p : Port) where
-  conducted_told : (m : Message) (f : Refusal) (c : Conduct) → Told taken (conducted c p m f)
+  conducted_told : (m : Reading) (f : Refusal) (c : Conduct) → Told taken (conducted c p m f)
   conducted_told m f (hangs_up reason) = refused_told taken f _ _ (omega arith)
   conducted_told m f answered = refused_told taken f _ _ (omega arith)
   conducted_told m f stays = refused_told taken f _ [] tt
@@ -97,17 +97,17 @@ module _ (p : Port) where
   waits_told true = refl
   waits_told false = refl
 
-  accepted_told : (s : List ℕ) (m : Message) → Told taken (accepted p s m)
-  accepted_told s (Bad r) = conducted_told (Bad r) r (conduct_of r)
-  accepted_told s (Cmd c) = record { reply = ap (λ w. Ok (NewCommand c.request.tag c.request.lun c.cdb w)) (waits_told (waits c)); size = refl; single = tt }
-  accepted_told s (TskMgmt k) = record { reply = refl; size = refl; single = omega arith }
-  accepted_told s (CredRsp g) = record { reply = refl; size = refl; single = tt }
-  accepted_told s ILogout = record { reply = refl; size = refl; single = tt }
+  accepted_told : (s : List ℕ) (m : Reading) → Told taken (accepted p s m)
+  accepted_told s (Err r) = conducted_told (Err r) r (conduct_of r)
+  accepted_told s (Ok (Cmd c)) = record { reply = ap (λ w. Ok (NewCommand c.request.tag c.request.lun c.cdb w)) (waits_told (waits c)); size = refl; single = tt }
+  accepted_told s (Ok (TskMgmt k)) = record { reply = refl; size = refl; single = omega arith }
+  accepted_told s (Ok (CredRsp g)) = record { reply = refl; size = refl; single = tt }
+  accepted_told s (Ok ILogout) = record { reply = refl; size = refl; single = tt }
 
   pub take_told : (room : ℕ) (s : List ℕ) → Told taken (take_def p room s)
   take_told room s = go (first_of_checks (take_checks p room s (read_on p s))) (read_on p s)
     where
-      go : (v : Option Refusal) (m : Message) → Told taken (take_by v p s m)
+      go : (v : Option Refusal) (m : Reading) → Told taken (take_by v p s m)
       go none m = accepted_told s m
       go (some f) m = conducted_told m f (conduct_of f)
 

@@ -9,7 +9,7 @@ use Rattle.srp.specs.Messages.{tag, format_bits, requested_length, login_crsolnt
 use Rattle.srp.specs.Initiator.{CommandFields, values, command_bytes, format_of, Fit, Copied, command_in, Reads}
 use Rattle.srp.specs.Descriptors.{agrees, fetch_of}
 use Rattle.srp.specs.Lists.{All}
-use Rattle.srp.specs.Requests.{flag, ReadAs, bad_length, other_formats_lem}
+use Rattle.srp.specs.Requests.{Reading, flag, ReadAs, bad_length, other_formats_lem}
 use Rattle.srp.specs.Writing.{placed}
 use Rattle.srp.specs.Outside.{fetch_bytes}
 use Rattle.srp.specs.Take.{Outcome, Tables, take_read}
@@ -18,7 +18,6 @@ use Rattle.srp.specs.Ranges.{Reached, Ranged}
 use Rattle.srp.specs.Sent.{Follows}
 use Rattle.srp.specs.declared.Descriptor.{Descriptor}
 use Rattle.srp.specs.declared.Direction.{Direction}
-use Rattle.srp.specs.declared.Message.{Message}
 use Rattle.srp.specs.declared.Message.TheVariants.{Cmd, TskMgmt, CredRsp, ILogout}
 use Rattle.srp.specs.declared.Terms.{Terms}
 use Rattle.srp.specs.declared.Reply.{Reply}
@@ -67,17 +66,17 @@ pub record Receives (s : Memory) (room : ℕ) (msg : List ℕ) (o : Outcome) : T
   pub layout : ReadAs (seen s).terms.agreed msg (read_on (seen s) msg)
   pub outcome : o ≡ take_read (seen s) room msg (read_on (seen s) msg)
   -- `read_message` reads it so, by its own contract
-  pub reader : (κs : Lfts 1) (m : Slice) → m.now ≡ msg → (x : Message)
+  pub reader : (κs : Lfts 1) (m : Slice) → m.now ≡ msg → (x : Reading)
       → let T : Terms = (seen s).terms in
       read-message.Post κs (m, (T.agreed, (T.formats, tt))) x (m, (T.agreed, (T.formats, tt))) → x ≡ read_on (seen s) msg
   -- written by the layouts while the channel is open, it is read as the values that were written
   pub task : (seen s).live ≡ true → (u c g l f k : ℕ) → InRange tsk_mgmt.fields (u ∷ c ∷ g ∷ l ∷ f ∷ k ∷ []) → msg ≡ write tsk_mgmt (u ∷ c ∷ g ∷ l ∷ f ∷ k ∷ [])
-      → o ≡ take_read (seen s) room msg (TskMgmt (record { request = record { tag = g; lun = l; ucsolnt = flag u; scsolnt = flag c }; function = f; managed = k }))
-  pub credit : (seen s).live ≡ true → (g : ℕ) → InRange cred_rsp.fields (g ∷ []) → msg ≡ write cred_rsp (g ∷ []) → o ≡ take_read (seen s) room msg (CredRsp g)
-  pub logout : (seen s).live ≡ true → (vs : List ℕ) → InRange i_logout.fields vs → msg ≡ write i_logout vs → o ≡ take_read (seen s) room msg ILogout
+      → o ≡ take_read (seen s) room msg (Ok (TskMgmt (record { request = record { tag = g; lun = l; ucsolnt = flag u; scsolnt = flag c }; function = f; managed = k })))
+  pub credit : (seen s).live ≡ true → (g : ℕ) → InRange cred_rsp.fields (g ∷ []) → msg ≡ write cred_rsp (g ∷ []) → o ≡ take_read (seen s) room msg (Ok (CredRsp g))
+  pub logout : (seen s).live ≡ true → (vs : List ℕ) → InRange i_logout.fields vs → msg ≡ write i_logout vs → o ≡ take_read (seen s) room msg (Ok ILogout)
   -- of a command also the CDB and both buffers, with their addresses, handles and lengths (`Reads`)
   pub command : (c : CommandFields) → Sendable (seen s).terms.agreed (seen s).terms.formats c → msg ≡ command_bytes c
-      → Reads c msg × (o ≡ take_read (seen s) room msg (Cmd (command_in c msg)))
+      → Reads c msg × (o ≡ take_read (seen s) room msg (Ok (Cmd (command_in c msg))))
 
 -- ── what each call is
 

@@ -6,7 +6,7 @@ use Rattle.std.proofs.Math.Option.{none, some}
 use Rattle.srp.specs.Limits.{answer_size}
 use Rattle.srp.specs.Lists.{over}
 use Rattle.srp.specs.Refusals.{hangs_up, answered, stays, alters_nothing, number_of, conduct_of, Check, first_of_checks}
-use Rattle.srp.specs.Requests.{read_message_lem, look_checks, look_outcome}
+use Rattle.srp.specs.Requests.{Reading, read_message_lem, look_checks, look_outcome}
 use Rattle.srp.specs.Cutting.{cut_checks, cut_outcome}
 use Rattle.srp.specs.Credit.{Port, closed_port}
 use Rattle.srp.specs.Writing.{target_logout, placed}
@@ -20,7 +20,6 @@ use Rattle.srp.specs.Answers.{operation_in, answer_of}
 use Rattle.srp.specs.declared.Refusal.{Refusal}
 use Rattle.srp.specs.declared.Refusal.TheVariants.{ShortBuffer}
 use Rattle.srp.specs.declared.Settings.{Settings}
-use Rattle.srp.specs.declared.Message.{Message}
 use Rattle.srp.specs.declared.Reply.TheVariants.{Accepted, Rejected}
 use Rattle.answer.specs.Words.{answer_words}
 use Rattle.words.specs.View.{view, closed_words}
@@ -61,7 +60,7 @@ pub record Unaltered (l b l' b' w : List ℕ) : Type 0 where
 -- ── take, of every message s
 
 -- the message as the port p reads it
-abbrev pub read_on : Port → List ℕ → Message
+abbrev pub read_on : Port → List ℕ → Reading
 read_on p s = read_message_lem p.terms.agreed p.terms.formats s
 
 -- what is left after take refused it with f, a part for each conduct
@@ -203,13 +202,13 @@ short_answer room = (ltb room answer_size, ShortBuffer)
 abbrev pub JudgesLook : (agreed formats : ℕ) (s b b' : List ℕ) (n : ℕ) → Type 0
 JudgesLook agreed formats s b b' n =
     Judgement (short_answer (length b) ∷ look_checks agreed formats s) n
-    (b' ≡ placed (look_answer (look_outcome s)).wrote b)
+    (b' ≡ placed (look_answer (Ok (look_outcome s))).wrote b)
     (λ f. b' ≡ b)
 
 abbrev pub JudgesCut : (list : List ℕ) (M Q R handed : ℕ) (b b' : List ℕ) (n : ℕ) → Type 0
 JudgesCut list M Q R handed b b' n =
     Judgement (short_answer (length b) ∷ cut_checks list M Q R handed) n
-    (b' ≡ placed (cut_answer (cut_outcome list M Q R handed)).wrote b)
+    (b' ≡ placed (cut_answer (Ok (cut_outcome list M Q R handed))).wrote b)
     (λ f. b' ≡ b)
 
 -- ── trace

@@ -2,8 +2,7 @@
 use mathlib.Core.Path.{◌≡◌, sym, ◌∙◌, ap, subst}
 use mathlib.Core.List.{List, []}
 use Prim.Native.Nat.{ℕ}
-use lib.ListN.{length}
-use Rattle.std.specs.Prelude.{Result}
+use Rattle.std.specs.Prelude.{Result, Ok}
 use Rattle.srp.specs.Take.{Outcome, Tables}
 use Rattle.srp.specs.Answers.{returned, size_of, answer_of}
 use Rattle.srp.specs.declared.Direction.{Direction}
@@ -17,20 +16,21 @@ use Rattle.srp.specs.declared.Settings.{Settings}
 use Rattle.take.specs.Taking.{Takes, Stores}
 use Rattle.tables.specs.Bringing.{Brings}
 use Rattle.tables.specs.Bringing as bringing
-use Rattle.transfer.specs.Stepping.{Names, Steps}
+use Rattle.transfer.specs.Stepping.{Steps}
 use Rattle.transfer.specs.Turning.{Turns}
-use Rattle.srp.specs.Writing.{placed}
-use Rattle.page.specs.Page.{trace_writes, Traced, trace_in_c}
-use Rattle.page.specs.declared.Way.{Way}
-use Rattle.division.specs.Dividing.{divide_def, divided_number, divided_words}
-use Rattle.division.specs.declared.Divided.{Divided}
-use Rattle.exports.specs.Answered.{Answered}
 use Rattle.exports.specs.Arguments.{direction_in}
-use Rattle.exports.specs.Calls.{Gives, InC, AnswersInC, StepsInC, RepliesInC, LogsInC, TakeInC, TablesInC, MoveInC, StepInC, TurnInC, FormatCountsInC}
+use Rattle.exports.specs.Calls.{Gives, InC, AnswersInC, StepsInC, LogsInC, TakeInC, TablesInC, StepInC, TurnInC}
 use Rattle.srp.specs.declared.Refusal.{Refusal}
 
 pub in_numbers : {n : ℕ} {w : List ℕ} {r : Answer} {o : Outcome} → r ≡ answer_of o → Gives n w r → InC n w o
 in_numbers e g = record { number = g.0 ∙ ap (λ (a : Answer). returned a.reply) e; words = g.1 ∙ ap (λ (a : Answer). answer_words a) e }
+
+-- the words of the reply x, where the call replied it
+pub says : {r : Result Reply Refusal} {y x : Reply} {w : List ℕ} (wrote : ℕ) → r ≡ Ok y → y ≡ x → w ≡ answer_words (record { reply = Ok x; wrote = wrote })
+    → Gives 0 w (record { reply = r; wrote = wrote })
+says {r} {y} {x} wrote e q f =
+    let k : r ≡ Ok x = e ∙ ap (λ (z : Reply). Ok z) q in
+    (sym (ap (λ (z : Result Reply Refusal). returned z) k), f ∙ sym (ap (λ (z : Result Reply Refusal). answer_words (record { reply = z; wrote = wrote })) k))
 
 -- a reply without a message
 pub silently : {r : Result Reply Refusal} (o : Outcome) → r ≡ o.reply → o.wrote ≡ [] → record { reply = r; wrote = 0 } ≡ answer_of o
@@ -61,19 +61,8 @@ module _ {l st l' : List ℕ} {o : Outcome} {r : Result Reply Refusal} where
   of_outcome : RepliesAs l st l' st r o → RepliesAs l st l' st o.reply o
   of_outcome R = subst (λ (x : Result Reply Refusal). RepliesAs l st l' st x o) R.reply R
 
-  pub replies_in_c : {n : ℕ} → RepliesAs l st l' st r o → n ≡ returned r → RepliesInC l st l' n o
-  replies_in_c R e = record { number = e ∙ ap (λ (x : Result Reply Refusal). returned x) R.reply; call = of_outcome R }
-
   pub steps_in_c : {n : ℕ} {w : List ℕ} → RepliesAs l st l' st r o → Gives n w (record { reply = r; wrote = 0 }) → StepsInC l st l' n w o
   steps_in_c R g = record { numbers = in_numbers (silently o R.reply R.wrote) g; call = of_outcome R }
-
--- a move of the direction d, which is that of the number
-pub move_in_c : {l l' : List ℕ} {n : ℕ} {d : Direction} {r : Result Reply Refusal} (tag direction offset count : ℕ) → d ≡ direction_in direction
-    → Names l l' tag d offset count r
-    → n ≡ returned r
-    → MoveInC l l' tag direction offset count n
-move_in_c {l} {l'} {r = r} tag direction offset count e N g st =
-    replies_in_c (subst (λ (x : Direction). Names l l' tag x offset count r) e N st) g
 
 -- a step in the direction d, which is that of the number
 pub step_in_c : {l l' st : List ℕ} {tag n : ℕ} {w : List ℕ} {d : Direction} {r : Result Reply Refusal} (direction : ℕ) → d ≡ direction_in direction → Steps l l' st tag d r
@@ -86,16 +75,3 @@ step_in_c {l} {l'} {st} {tag} {r = r} direction e S g =
 -- a turn
 pub turn_in_c : {l l' st : List ℕ} {n : ℕ} {w : List ℕ} {r : Result Reply Refusal} → Turns l l' st r → Gives n w (record { reply = r; wrote = 0 }) → TurnInC l l' st n w
 turn_in_c T g = record { turns = steps_in_c T.replies g; idle = λ q. T.idle (T.replies.reply ∙ q) }
-
--- a trace of the way w, which is that of the number
-pub trace_in_c_lem : {w w' : Way} (s : List ℕ) {before after : List ℕ} {r : Result Reply Refusal} {n : ℕ} → w ≡ w' → Traced w s before after r → n ≡ returned r
-    → Answered n before after (trace_in_c w' s (length before))
-trace_in_c_lem s {before} way t e =
-    record {
-      number = e ∙ ap (λ (x : Result Reply Refusal). returned x) t.reply;
-      buffer = t.buffer ∙ ap (λ (x : Way). placed (trace_writes x s (length before)) before) way;
-    }
-
--- how format bytes divide: r is what was counted, or the refusal
-pub format_counts_in_c : {r : Divided} {n : ℕ} {w : List ℕ} (formats : ℕ) → r ≡ divide_def formats → n ≡ divided_number r → w ≡ divided_words r → FormatCountsInC formats n w
-format_counts_in_c formats e number words = record { number = number ∙ ap divided_number e; words = words ∙ ap divided_words e }

@@ -12,13 +12,12 @@ ghost use Rattle.srp.specs.Bytes.{bytes_of, zeros};
 ghost use Rattle.srp.specs.Writing.{placed};
 ghost use Rattle.srp.specs.Outside.{descriptor_bytes, fetch_bytes, look_in_c, cut_in_c};
 ghost use Rattle.page.specs.Page.{trace_in_c};
-ghost use Rattle.exports.specs.Answered.{Answered, with_descriptor, with_fetch, Blank};
+ghost use Rattle.exports.specs.Answered.{Answered, with_descriptor};
 ghost use Rattle.exports.specs.Calls.{FormatCountsInC};
 ghost use Rattle.exports.specs.Arguments.{way_in};
 
-use division::Divided;
 use page::Way;
-use srp::{Cut, Fetch, Look, Piece, Refusal};
+use srp::{Look, Piece, Refusal};
 use wire::layout::{ADDRESS, HANDLE, SEGMENT_LENGTH};
 
 const ANSWER: usize = 32;
@@ -35,25 +34,15 @@ fn put_descriptor(buf: &mut [u8], at: usize, address: u64, handle: u32, len: u32
     wire::write64(buf, at + ADDRESS, address);
 }
 
-// A fetch into cleared bytes; where there is none they stay.
-fn put_fetch(buf: &mut [u8], at: usize, f: Fetch)
-    requires { at + 16 ≤ length buf.old }
-    ensures { buf.new ≡ with_fetch at f buf.old }
+// Look's two fetches; one of length 0 is all 0.
+fn put_look(buf: &mut [u8], look: Look)
+    requires { answer_size ≤ length buf.old }
+    ensures { buf.new ≡ placed ((fetch_bytes look.out ++ fetch_bytes look.inn) ∷ []) buf.old }
 {
-    if f.len == 0 {
-        return;
-    }
-    put_descriptor(buf, at, f.address, f.handle, f.len);
-}
-
-// Look's two fetches.
-fn put_fetches(buf: &mut [u8], out: Fetch, inn: Fetch)
-    requires { (answer_size ≤ length buf.old) × Blank out × Blank inn }
-    ensures { buf.new ≡ placed ((fetch_bytes out ++ fetch_bytes inn) ∷ []) buf.old }
-{
+    let Look { out, inn } = look;
     wire::clear(&mut *buf, ANSWER);
-    put_fetch(&mut *buf, SECOND, inn);
-    put_fetch(buf, 0, out);
+    put_descriptor(&mut *buf, SECOND, inn.address, inn.handle, inn.len);
+    put_descriptor(buf, 0, out.address, out.handle, out.len);
 }
 
 // The cut's piece, and then its offset.
@@ -73,11 +62,11 @@ pub fn srp_look(msg: &[u8], agreed: u32, formats: u32, buf: &mut [u8]) -> u32
         return answer::number_of(Refusal::ShortBuffer);
     }
     match command::look(msg, agreed, formats) {
-        Look::LookRefused(refusal) => answer::number_of(refusal),
-        Look::Fetches(out, inn) => {
-            put_fetches(buf, out, inn);
+        Ok(look) => {
+            put_look(buf, look);
             0
         }
+        Err(refusal) => answer::number_of(refusal),
     }
 }
 
@@ -88,15 +77,15 @@ pub fn srp_cut(list: &[u8], m: u32, q: u64, r: u32, handed: u32, buf: &mut [u8])
         return answer::number_of(Refusal::ShortBuffer);
     }
     match cut::cut(list, m, q, r, handed) {
-        Cut::CutRefused(refusal) => answer::number_of(refusal),
-        Cut::CutPiece(p) => {
+        Ok(Some(p)) => {
             put_piece(buf, p);
             0
         }
-        Cut::CutDone => {
+        Ok(None) => {
             wire::clear(buf, ANSWER);
             0
         }
+        Err(refusal) => answer::number_of(refusal),
     }
 }
 
@@ -109,18 +98,17 @@ fn way_of(n: u32) -> Way
 pub fn srp_trace(msg: &[u8], direction: u32, buf: &mut [u8]) -> u32
     ensures { Answered result buf.old buf.new (trace_in_c (way_in direction) msg.now (length buf.old)) }
 {
-    let reply = page::trace(msg, way_of(direction), buf);
-    answer::returned(reply)
+    answer::returned(page::trace(msg, way_of(direction), buf))
 }
 
 pub fn srp_format_counts(formats: u32, answer: &mut [u64; 8]) -> u32
     ensures { FormatCountsInC formats result answer.new }
 {
     match division::divide(formats) {
-        Divided::Refused(refusal) => port::give_nothing(answer, Err(refusal)),
-        Divided::Counts(d) => {
+        Ok(d) => {
             *answer = [d.pass as u64, d.out as u64, d.inn as u64, 0, 0, 0, 0, 0];
             0
         }
+        Err(refusal) => port::give(answer, answer::refused(refusal)),
     }
 }

@@ -6,10 +6,10 @@ ghost use Rattle.srp.specs.Limits.{most_buffers};
 ghost use Rattle.srp.specs.Lists.{over};
 ghost use Rattle.words.specs.Sizes.{port_words};
 ghost use Rattle.report.specs.Reports.{slot_records};
-ghost use Rattle.exports.specs.Calls.{Gives, Plain, Wordless, Ends, LoginInC, PlanInC, MoveInC, StepInC, TurnInC, FinishInC, AddInC, WithdrawInC, GrantInC, CloseInC, CountersInC, ListInC};
+ghost use Rattle.exports.specs.Calls.{Gives, Plain, LoginInC, PlanInC, MoveInC, StepInC, TurnInC, FinishInC, AddInC, WithdrawInC, GrantInC, CloseInC, CountersInC, ListInC};
 ghost use Rattle.exports.specs.Arguments.{record_size, record_words, all_words, settings_in, direction_in};
 
-use srp::{Answer, Direction, Record, Refusal, Reply, Settings};
+use srp::{Answer, Direction, Record, Reply, Settings};
 use words::{PORT, STORE};
 
 // Words of a record.
@@ -20,51 +20,29 @@ pub fn give(answer: &mut [u64; 8], a: Answer) -> u32
     ensures { Gives result answer.new a }
 {
     *answer = answer::words_of(a);
-    let reply = a.reply;
-    answer::returned(reply)
+    answer::returned(a.reply)
 }
 
-// The same where there are no values: the length of the message alone.
+// The same where there are no values: the length of the message alone. `words_of` goes by all kinds of reply, and costs some nanoseconds more.
 pub fn give_length(answer: &mut [u64; 8], a: Answer) -> u32
-    requires { Plain a.reply }
+    requires { Plain a }
     ensures { Gives result answer.new a }
 {
     *answer = [a.wrote as u64, 0, 0, 0, 0, 0, 0, 0];
-    let reply = a.reply;
-    answer::returned(reply)
-}
-
-// The same where all words are 0.
-pub fn give_nothing(answer: &mut [u64; 8], r: Result<Reply, Refusal>) -> u32
-    requires { Wordless r }
-    ensures { Gives result answer.new (record { reply = r; wrote = 0 }) }
-{
-    *answer = [0; 8];
-    answer::returned(r)
-}
-
-// The same for a step without an operation: done with its number, or a refusal.
-fn give_end(answer: &mut [u64; 8], r: Result<Reply, Refusal>) -> u32
-    requires { Ends r }
-    ensures { Gives result answer.new (record { reply = r; wrote = 0 }) }
-{
-    let Ok(Reply::Done(n)) = r else {
-        return give_nothing(answer, r);
-    };
-    *answer = answer::done_words(n);
-    0
+    answer::returned(a.reply)
 }
 
 fn settings_of(n: &[u32; 5], boundary: u64) -> Settings
     ensures { result ≡ settings_in n.now boundary }
 {
+    let [buffers, maximum, longest, indirect, solicited] = *n;
     Settings {
-        buffers: n[0],
-        maximum: n[1],
-        boundary: boundary,
-        longest: n[2],
-        indirect: n[3] != 0,
-        solicited: n[4] != 0,
+        buffers,
+        maximum,
+        boundary,
+        longest,
+        indirect: indirect != 0,
+        solicited: solicited != 0,
     }
 }
 
@@ -98,15 +76,13 @@ pub fn srp_target_login(
         settings.now boundary own.now msg.now result answer.new }
 {
     let c = settings_of(settings, boundary);
-    let a = login::login(port, c, own, msg, buf);
-    give(answer, a)
+    give(answer, login::login(port, c, own, msg, buf))
 }
 
 pub fn srp_target_plan(port: &mut [u64; PORT], tag: u64, out: u32, inn: u32) -> u32
     ensures { PlanInC port.old port.new tag out inn result }
 {
-    let r = transfer::plan(port, tag, out, inn);
-    answer::returned(r)
+    answer::returned(transfer::plan(port, tag, out, inn))
 }
 
 pub fn srp_target_move(
@@ -119,8 +95,7 @@ pub fn srp_target_move(
     ensures { MoveInC port.old port.new tag direction offset count result }
 {
     let d = direction_of(direction);
-    let r = transfer::name_move(port, tag, d, offset, count);
-    answer::returned(r)
+    answer::returned(transfer::name_move(port, tag, d, offset, count))
 }
 
 pub fn srp_target_step(
@@ -134,22 +109,34 @@ pub fn srp_target_step(
 {
     let d = direction_of(direction);
     let r = transfer::step(port, store, tag, d);
-    let Ok(Reply::Operation(k, p, n)) = r else {
-        return give_end(answer, r);
-    };
-    *answer = answer::operation_words(k, p, n);
-    0
+    match r {
+        Ok(Reply::Operation(k, p, n)) => {
+            *answer = answer::operation_words(k, p, n);
+            0
+        }
+        Ok(Reply::Done(n)) => {
+            *answer = answer::done_words(n);
+            0
+        }
+        _ => give(answer, Answer { reply: r, wrote: 0 }),
+    }
 }
 
 pub fn srp_target_turn(port: &mut [u64; PORT], store: &[u8; STORE], answer: &mut [u64; 8]) -> u32
     ensures { TurnInC port.old port.new store.now result answer.new }
 {
     let r = transfer::turn(port, store);
-    let Ok(Reply::Served(tag, d, p, n)) = r else {
-        return give_nothing(answer, r);
-    };
-    *answer = answer::served_words(tag, d, p, n);
-    0
+    match r {
+        Ok(Reply::Served(tag, d, p, n)) => {
+            *answer = answer::served_words(tag, d, p, n);
+            0
+        }
+        Ok(Reply::Idle) => {
+            *answer = [0; 8];
+            0
+        }
+        _ => give(answer, Answer { reply: r, wrote: 0 }),
+    }
 }
 
 pub fn srp_target_finish(
@@ -163,29 +150,25 @@ pub fn srp_target_finish(
     ensures { FinishInC port.old buf.old port.new buf.new
         tag status sense.now result answer.new }
 {
-    let a = finish::finish(port, tag, status, sense, buf);
-    give_length(answer, a)
+    give_length(answer, finish::finish(port, tag, status, sense, buf))
 }
 
 pub fn srp_target_add(port: &mut [u64; PORT], k: u32) -> u32
     ensures { AddInC port.old port.new k result }
 {
-    let r = credit::add(port, k);
-    answer::returned(r)
+    answer::returned(credit::add(port, k))
 }
 
 pub fn srp_target_withdraw(port: &mut [u64; PORT], k: u32) -> u32
     ensures { WithdrawInC port.old port.new k result }
 {
-    let r = credit::withdraw(port, k);
-    answer::returned(r)
+    answer::returned(credit::withdraw(port, k))
 }
 
 pub fn srp_target_grant(port: &mut [u64; PORT], buf: &mut [u8], answer: &mut [u64; 8]) -> u32
     ensures { GrantInC port.old buf.old port.new buf.new result answer.new }
 {
-    let a = credit::grant(port, buf);
-    give_length(answer, a)
+    give_length(answer, credit::grant(port, buf))
 }
 
 pub fn srp_target_close(
@@ -196,19 +179,20 @@ pub fn srp_target_close(
 ) -> u32
     ensures { CloseInC port.old buf.old port.new buf.new reason result answer.new }
 {
-    let a = close::close(port, reason, buf);
-    give_length(answer, a)
+    give_length(answer, close::close(port, reason, buf))
 }
 
 pub fn srp_target_counters(port: &[u64; PORT], answer: &mut [u64; 8]) -> u32
     ensures { CountersInC port.now result answer.new }
 {
     let r = report::counters(port);
-    let Ok(Reply::Counts(c)) = r else {
-        return give_nothing(answer, r);
-    };
-    *answer = answer::counter_words(c);
-    0
+    match r {
+        Ok(Reply::Counts(c)) => {
+            *answer = answer::counter_words(c);
+            0
+        }
+        _ => give(answer, Answer { reply: r, wrote: 0 }),
+    }
 }
 
 // A record's words at its place.
@@ -217,32 +201,29 @@ fn put_record(records: &mut [u64], i: usize, r: Record)
     ensures { records.new ≡ paste records.old (record_size * i) (record_words r) record_size }
 {
     let w = [r.tag, r.lun, r.out as u64, r.inn as u64];
-    words::put_words(records, RECORD * i, &w);
+    words::put(records, RECORD * i, &w);
 }
 
 // The records of the first n commands in words.
-fn put_records(records: &mut [u64], port: &[u64], n: usize)
-    requires port_len { length port.now ≡ port_words }
+fn put_records(records: &mut [u64], port: &[u64; PORT], n: usize)
     requires n_in_bounds { record_size * n ≤ length records.old }
     requires n_le_most_buffers { n ≤ most_buffers }
     ensures { records.new ≡ over (all_words (take n (slot_records port.now))) records.old }
 {
-    let mut i: usize = 0;
-    while i < n {
-        let r = report::record_at(port, i);
-        put_record(&mut *records, i, r);
-        i += 1;
+    for i in 0..n {
+        put_record(&mut *records, i, report::record_at(port, i));
     }
 }
 
 pub fn srp_target_list(port: &[u64; PORT], records: &mut [u64], answer: &mut [u64; 8]) -> u32
     ensures { ListInC port.now records.old records.new result answer.new }
 {
-    let reply = report::count_for(port, records.len() / RECORD);
-    let Ok(Reply::Listed(n)) = reply else {
-        return give_nothing(answer, reply);
-    };
-    put_records(records, port, n);
-    *answer = [n as u64, 0, 0, 0, 0, 0, 0, 0];
-    0
+    match report::held_for(port, records.len() / RECORD) {
+        Ok(n) => {
+            put_records(records, port, n);
+            *answer = [n as u64, 0, 0, 0, 0, 0, 0, 0];
+            0
+        }
+        Err(refusal) => give(answer, answer::refused(refusal)),
+    }
 }

@@ -18,20 +18,20 @@ pub fn srp_target_take(
         msg.now result answer.new }
 {
     let a = take::take(port, store, msg, buf);
-    let reply = a.reply;
-    let Ok(
-        Reply::NewCommand {
-            tag,
-            lun,
-            cdb,
-            waits,
-        },
-    ) = reply
-    else {
-        return port::give(answer, a);
-    };
-    *answer = answer::command_words(a.wrote, tag, lun, cdb, waits);
-    0
+    match a.reply {
+        Ok(
+            Reply::NewCommand {
+                tag,
+                lun,
+                cdb,
+                waits,
+            },
+        ) => {
+            *answer = answer::command_words(a.wrote, tag, lun, cdb, waits);
+            0
+        }
+        _ => port::give(answer, a),
+    }
 }
 
 pub fn srp_target_tables(
@@ -47,6 +47,5 @@ pub fn srp_target_tables(
         port.old store.old buf.old port.new store.new buf.new
         tag (tables out.now inn.now) result answer.new }
 {
-    let a = tables::bring(port, store, tag, out, inn, buf);
-    port::give_length(answer, a)
+    port::give_length(answer, tables::bring(port, store, tag, out, inn, buf))
 }

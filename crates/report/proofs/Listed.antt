@@ -26,7 +26,7 @@ use Rattle.words.specs.declared.Slot.{Slot}
 use Rattle.words.proofs.Slots.{slots_long}
 use Rattle.words.proofs.Ports.{while_open, view_live}
 use Rattle.report.specs.declared.Listing.{Listing}
-use Rattle.report.specs.Reports.{slot_record, slot_records, no_record_lem, Room, CountFor, TellsListing, WritesListing}
+use Rattle.report.specs.Reports.{slot_record, slot_records, no_record_lem, Room, TellsListing, WritesListing}
 
 -- ── the records, written one by one
 
@@ -65,14 +65,6 @@ module _ {l : List ℕ} {room n : ℕ} (R : Room l room n) (st : List ℕ) where
 
   pub replies : Ok (Listed n) ≡ (calls.list_def (view l st) room).reply
   replies = let d = none_drawn in rw d (ap (λ k. Ok (Listed k)) (sym number_is))
-
-pub count_open : {l : List ℕ} {room n : ℕ} → Room l room n → CountFor l room (Ok (Listed n))
-count_open {l} {room} {n} R =
-    record {
-      reply = replies R;
-      fits = λ m f. let k : m ≡ n = cc in (omega (arith, R.small, R.fits), omega (arith, R.small));
-      records = λ m f st. let k : m ≡ n = cc in rw k (records_are R st);
-    }
 
 -- the lent list after it: those records, and the rest as it was
 pub lists_into : {l : List ℕ} {n : ℕ} (before : List Record) → Room l (length before) n → (st : List ℕ) (new : List Record)

@@ -1,13 +1,12 @@
 -- What the owner reads of a port: the counters, the listing by value, and the listing in a lent list. Document 01: "the open commands listed into
 -- a lent list of records (tag, LUN, bytes handed out each way), each command once; .. the rest of the list untouched". Document 02, job 5: "Records now come
 -- as the commands were taken, oldest first"; job 1: the listing takes h, "the highest offset handed out + 1, 0 where nothing was", for the bytes handed out.
-use Rattle.std.specs.Prelude.{◌≡◌, true, List, map, ℕ, ◌≤◌, length, take, replicate, Result, Ok, Err}
+use Rattle.std.specs.Prelude.{◌≡◌, true, List, map, ℕ, ◌≤◌, length, replicate, Result, Ok, Err}
 use Rattle.srp.specs.Limits.{most_buffers}
 use Rattle.srp.specs.Credit.{Port}
-use Rattle.srp.specs.Calls.{counters_def, listing, list_checks, list_def, listed_into}
+use Rattle.srp.specs.Calls.{counters_def, list_checks, list_def, listed_into}
 use Rattle.srp.specs.declared.Record.{Record}
 use Rattle.srp.specs.declared.Reply.{Reply}
-use Rattle.srp.specs.declared.Reply.TheVariants.{Listed}
 use Rattle.words.specs.Slots.{slots}
 use Rattle.words.specs.Head.{head_of}
 use Rattle.words.specs.View.{view}
@@ -49,12 +48,6 @@ pub record Room (l : List ℕ) (room n : ℕ) : Type 0 where
 abbrev pub HasRoom : (l : List ℕ) (room : ℕ) → Result ℕ Refusal → Type 0
 HasRoom l room (Ok n) = Room l room n
 HasRoom l room (Err f) = Draws l (λ p. list_checks p room) f
-
--- the same as a reply, and which records
-pub record CountFor (l : List ℕ) (room : ℕ) (r : Result Reply Refusal) : Type 0 where
-  pub reply : (st : List ℕ) → r ≡ (list_def (view l st) room).reply
-  pub fits : (n : ℕ) → r ≡ Ok (Listed n) → (n ≤ room) × (n ≤ most_buffers)
-  pub records : (n : ℕ) → r ≡ Ok (Listed n) → (st : List ℕ) → listing (view l st) ≡ take n (slot_records l)
 
 -- ── what each call promises of the port's words l, whatever the store holds
 

@@ -4,7 +4,7 @@
 ghost use Rattle.std.specs.Prelude.{◌≡◌, ◌≤◌, ◌<◌, length, take, get_or};
 ghost use Rattle.words.specs.Sizes.{most_slots};
 ghost use Rattle.words.specs.Slots.{slots, no_slot};
-ghost use Rattle.report.specs.Reports.{slot_record, slot_records, HasRoom, CountFor, TellsCounters, TellsListing, WritesListing};
+ghost use Rattle.report.specs.Reports.{slot_record, slot_records, HasRoom, TellsCounters, TellsListing, WritesListing};
 
 use srp::{Counters, Record, Refusal, Reply};
 use state::opening;
@@ -52,7 +52,7 @@ pub fn record_at(s: &[u64; PORT], i: usize) -> Record
 }
 
 // How many records a listing has in a lent list of `room`. Refused 21, 11.
-fn held_for(s: &[u64; PORT], room: usize) -> Result<usize, Refusal>
+pub fn held_for(s: &[u64; PORT], room: usize) -> Result<usize, Refusal>
     ensures { HasRoom s.now room result }
 {
     let h = opening::open_head(s)?;
@@ -60,13 +60,6 @@ fn held_for(s: &[u64; PORT], room: usize) -> Result<usize, Refusal>
         return Err(Refusal::Argument);
     }
     Ok(h.held)
-}
-
-// The same as a reply.
-pub fn count_for(s: &[u64; PORT], room: usize) -> Result<Reply, Refusal>
-    ensures { CountFor s.now room result }
-{
-    Ok(Reply::Listed(held_for(s, room)?))
 }
 
 // The records of as many slots as the list is long.

@@ -1,7 +1,0 @@
--- `exports::port::srp_target_plan` meets its contract.
-use Rattle.exports.proofs.InC.{replies_in_c}
-use Rattle.exports.proofs.port.srp_target_plan.Goals as goal
-
-pub returns : goal.returns
-returns c =
-    λ st. replies_in_c (c.plan-r.ensures st) c.returned.ensures
