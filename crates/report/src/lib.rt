@@ -1,18 +1,26 @@
-// What the owner reads of a port: its counters and its open commands. A listing is written to a lent list of records, or comes with a list of 16 by value.
+// What the owner reads of a port: its counters and its open commands. A listing is an array of 16 records by value; list_into copies it to a lent list.
 #![tactic(auto)]
 
-ghost use Rattle.std.specs.Prelude.{◌≡◌, ◌≤◌, ◌<◌, length, take, get_or};
+ghost use Rattle.std.specs.Prelude.{◌≡◌, ◌<◌, get_or};
 ghost use Rattle.words.specs.Sizes.{most_slots};
 ghost use Rattle.words.specs.Slots.{slots, no_slot};
-ghost use Rattle.report.specs.Reports.{slot_record, slot_records, HasRoom, TellsCounters, TellsListing, WritesListing};
+ghost use Rattle.report.specs.Reports.{slot_record, HasRoom, CountFor, TellsCounters, TellsListing, TellsListingFor, WritesListing};
 
 use srp::{Counters, Record, Refusal, Reply};
 use state::opening;
 use words::{PORT, SLOTS, Slot, commands};
 
-// A listing's reply, and the list of 16 records that it was written to.
+// A listing: its reply, how many records a lent list is to have of it, and its records, blank behind those of the open commands.
 #[derive(Clone, Copy)]
 pub struct Listing {
+    pub reply: Result<Reply, Refusal>,
+    pub count: usize,
+    pub records: [Record; SLOTS],
+}
+
+// A lent list as it comes back, and the listing's reply.
+#[derive(Clone, Copy)]
+pub struct Lent {
     pub reply: Result<Reply, Refusal>,
     pub records: [Record; SLOTS],
 }
@@ -62,13 +70,39 @@ pub fn held_for(s: &[u64; PORT], room: usize) -> Result<usize, Refusal>
     Ok(h.held)
 }
 
-// The records of as many slots as the list is long.
-fn write_records(s: &[u64; PORT], records: &mut [Record])
-    requires { length records.old ≤ most_slots }
-    ensures { records.new ≡ take (length records.old) (slot_records s.now) }
+// The same as a reply.
+pub fn count_for(s: &[u64; PORT], room: usize) -> Result<Reply, Refusal>
+    ensures { CountFor s.now room result }
 {
-    for (i, record) in records.iter_mut().enumerate() {
+    Ok(Reply::Listed(held_for(s, room)?))
+}
+
+// The open commands, oldest first, and blank records behind them. Refused 21.
+pub fn list(s: &[u64; PORT]) -> Listing
+    ensures { TellsListing s.now result }
+{
+    let held = held_for(s, SLOTS);
+    let count = held.unwrap_or(0);
+    let mut records = [Record::default(); SLOTS];
+    for (i, record) in records[..count].iter_mut().enumerate() {
         *record = record_at(s, i);
+    }
+    Listing {
+        reply: held.map(Reply::Listed),
+        count,
+        records,
+    }
+}
+
+// What is written to a lent list of `room` records: nothing where the listing is refused, 21, 11.
+pub fn listing_for(s: &[u64; PORT], room: usize) -> Listing
+    ensures { TellsListingFor s.now room result }
+{
+    let held = held_for(s, room);
+    Listing {
+        reply: held.map(Reply::Listed),
+        count: held.unwrap_or(0),
+        ..list(s)
     }
 }
 
@@ -76,22 +110,16 @@ fn write_records(s: &[u64; PORT], records: &mut [Record])
 pub fn list_into(s: &[u64; PORT], records: &mut [Record]) -> Result<Reply, Refusal>
     ensures { WritesListing s.now records.old records.new result }
 {
-    let n = held_for(s, records.len())?;
-    write_records(s, &mut records[..n]);
-    Ok(Reply::Listed(n))
+    let listing = listing_for(s, records.len());
+    let n = listing.count;
+    records[..n].copy_from_slice(&listing.records[..n]);
+    listing.reply
 }
 
 // The open commands, listed into a list that the caller has by value, which is lent to list_into and handed back. Refused 21.
-pub fn lend(s: &[u64; PORT], mut records: [Record; SLOTS]) -> Listing
+pub fn lend(s: &[u64; PORT], mut records: [Record; SLOTS]) -> Lent
     ensures { WritesListing s.now records result.records result.reply }
 {
     let reply = list_into(s, &mut records);
-    Listing { reply, records }
-}
-
-// The open commands, oldest first, and blank records behind them. Refused 21.
-pub fn list(s: &[u64; PORT]) -> Listing
-    ensures { TellsListing s.now result }
-{
-    lend(s, [Record::default(); SLOTS])
+    Lent { reply, records }
 }

@@ -1,8 +1,29 @@
--- `report::list_into` meets its contract.
-use Rattle.report.proofs.Listed.{replies, lists_into}
+-- `report::list_into` meets its contract: as many as the listing has for this list are copied, and the rest stays.
+use mathlib.Core.Path.{◌∙◌}
+use mathlib.Core.List.{[], ◌++◌}
+use native.Mathlib.Omega.{arith}
+use lib.ListN.{drop, length-take}
 use Rattle.report.proofs.list_into.Goals as goal
 
+pub slice_bounds-copy_from_slice-end : goal.slice_bounds-copy_from_slice-end
+slice_bounds-copy_from_slice-end c = (c.listing_for-listing.ensures []).fits
+
+pub slice_bounds-copy_from_slice-end-2 : goal.slice_bounds-copy_from_slice-end-2
+slice_bounds-copy_from_slice-end-2 c =
+    let l = c.listing_for-listing in
+    omega (arith, (l.ensures []).fits, length-take l.result.count c.args.records.now)
+
+pub shared_ref_as_front-copy_from_slice : goal.shared_ref_as_front-copy_from_slice
+shared_ref_as_front-copy_from_slice c = (c.listing_for-listing.ensures []).small
+
+pub copy_from_slice-requires : goal.copy_from_slice-requires
+copy_from_slice-requires c =
+    let l = c.listing_for-listing in
+    let L = l.ensures [] in
+    omega (arith, L.fits, L.small, length-take l.result.count c.args.records.now, length-take l.result.count l.result.records)
+
 pub returns : goal.returns
-returns c =
-    let R = c.in_ok-n.ensures in
-    λ st. record { reply = replies R st; records = lists_into c.args.records.now R st c.write_records.new.records c.write_records.ensures }
+returns c = λ st.
+    let L = c.listing_for-listing.ensures st in
+    let new = c.copy_from_slice.ensures.after ∙ L.written in
+    record { reply = L.reply; records = λ i. new i ++ drop (L.count i) c.args.records.now }
