@@ -3,7 +3,7 @@ use mathlib.Core.Path.{◌≡◌, sym, ◌∙◌, ap, subst}
 use mathlib.Core.List.{List, []}
 use Prim.Native.Nat.{ℕ}
 use Rattle.std.specs.Prelude.{Result, Ok}
-use Rattle.srp.specs.Take.{Outcome, Tables}
+use Rattle.srp.specs.Take.{Outcome}
 use Rattle.srp.specs.Answers.{returned, size_of, answer_of}
 use Rattle.srp.specs.declared.Direction.{Direction}
 use Rattle.srp.specs.declared.Reply.{Reply}
@@ -14,12 +14,11 @@ use Rattle.srp.specs.Login.{login_def}
 use Rattle.login.specs.LoggingIn.{LogsIn}
 use Rattle.srp.specs.declared.Settings.{Settings}
 use Rattle.take.specs.Taking.{Takes, Stores}
-use Rattle.tables.specs.Bringing.{Brings}
 use Rattle.tables.specs.Bringing as bringing
 use Rattle.transfer.specs.Stepping.{Steps}
 use Rattle.transfer.specs.Turning.{Turns}
 use Rattle.exports.specs.Arguments.{direction_in}
-use Rattle.exports.specs.Calls.{Gives, InC, AnswersInC, StepsInC, LogsInC, TakeInC, TablesInC, StepInC, TurnInC}
+use Rattle.exports.specs.Calls.{Gives, InC, AnswersInC, StepsInC, LogsInC, TakeInC, StepInC, TurnInC}
 use Rattle.srp.specs.declared.Refusal.{Refusal}
 
 pub in_numbers : {n : ℕ} {w : List ℕ} {r : Answer} {o : Outcome} → r ≡ answer_of o → Gives n w r → InC n w o
@@ -42,11 +41,6 @@ answers_in_c {l} {st} {b} {l'} {st'} {b'} {n} {w} {o} A g = record { numbers = i
 pub take_in_c : {l st b l' st' b' s : List ℕ} {n : ℕ} {w : List ℕ} {r : Answer} → Takes l st b l' st' b' s r → Gives n w r → TakeInC l st b l' st' b' s n w
 take_in_c {l} {st} {b} {l'} {st'} T g =
     record { answers = answers_in_c T.answers g; store = subst (λ (x : Answer). Stores l st l' st' x.reply) T.answers.answer T.store }
-
-pub tables_in_c : {l st b l' st' b' : List ℕ} {tag : ℕ} {t : Tables} {n : ℕ} {w : List ℕ} {r : Answer} → Brings l st b l' st' b' tag t r → Gives n w r
-    → TablesInC l st b l' st' b' tag t n w
-tables_in_c {l} {st} {b} {l'} {st'} {b'} {tag} T g =
-    record { answers = answers_in_c T.answers g; store = subst (λ (x : Answer). bringing.Stores l st l' st' tag x.reply) T.answers.answer T.store }
 
 -- a login with the settings c, which are c'
 pub logs_in_c : {st l' b b' : List ℕ} {n : ℕ} {w : List ℕ} {r : Answer} {c c' : Settings} (own msg : List ℕ) (room : ℕ) → c ≡ c'

@@ -1,24 +1,13 @@
 -- A call from C gave this answer: what it returned, and the lent buffer before and after it.
-use Rattle.std.specs.Prelude.{◌≡◌, cond, List, ℕ, ◌+◌, eqb}
+use Rattle.std.specs.Prelude.{◌≡◌, List, ℕ, ◌+◌}
 use Rattle.srp.specs.Bytes.{bytes, put}
 use Rattle.srp.specs.Writing.{placed}
 use Rattle.srp.specs.Outside.{CReturn}
-use Rattle.srp.specs.declared.Fetch.{Fetch}
 
 pub record Answered (returned : ℕ) (before after : List ℕ) (a : CReturn) : Type 0 where
   pub number : returned ≡ a.returns
   pub buffer : after ≡ placed a.wrote before
 
--- ── the buffer on the way
-
--- with a memory descriptor at byte `at`
+-- the buffer on the way: with a memory descriptor at byte `at`
 abbrev pub with_descriptor : ℕ → ℕ → ℕ → ℕ → List ℕ → List ℕ
 with_descriptor at address handle len b = put (bytes (at + 0) 8) address (put (bytes (at + 8) 4) handle (put (bytes (at + 12) 4) len b))
-
--- with a fetch there, if there is one
-abbrev pub with_fetch : ℕ → Fetch → List ℕ → List ℕ
-with_fetch at f b = cond (eqb f.len 0) b (with_descriptor at f.address f.handle f.len b)
-
--- a fetch of length 0 has no address and no handle
-abbrev pub Blank : Fetch → Type 0
-Blank f = (f.len ≡ 0 → (f.address ≡ 0) × (f.handle ≡ 0))

@@ -3,7 +3,6 @@ use lib.ListN.{length}
 use Rattle.srp.specs.Tables.{tables_def}
 use Rattle.words.specs.View.{view}
 use Rattle.tables.specs.Bringing.{tables}
-use Rattle.exports.proofs.InC.{tables_in_c}
 use Rattle.exports.proofs.Plain.{plain_as, tables_plain}
 use Rattle.exports.proofs.taking.srp_target_tables.Goals as goal
 
@@ -13,6 +12,3 @@ give_length-requires c =
     let p = view a.port.now a.store.now in
     let t = tables a.out.now a.inn.now in
     plain_as (tables_def p (length a.buf.now) a.tag t) c.bring.ensures.answers.answer (tables_plain p (length a.buf.now) a.tag t)
-
-pub returns : goal.returns
-returns c = tables_in_c c.bring.ensures c.give_length.ensures

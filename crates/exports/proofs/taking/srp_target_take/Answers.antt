@@ -6,6 +6,3 @@ pub returns-in-Ok-NewCommand : goal.returns-in-Ok-NewCommand
 returns-in-Ok-NewCommand c =
     let e = c.in-Ok-NewCommand.is in
     take_in_c c.take-a.ensures (says c.take-a.result.wrote e (rw e at c.in-Ok-NewCommand.field-0-is) c.command_words.ensures)
-
-pub returns-in_default : goal.returns-in_default
-returns-in_default c = take_in_c c.take-a.ensures c.give.ensures
