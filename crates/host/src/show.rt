@@ -90,12 +90,14 @@ pub fn refusal(rt: &impl Print, lead: &str, r: Result<Reply, Refusal>) -> io::Re
 // What taking a message comes to; of a command whether it waits for its tables.
 pub fn taken(rt: &impl Print, r: Result<Reply, Refusal>) -> io::Result<()> {
     match r {
-        Ok(Reply::NewCommand {
-            tag,
-            cdb,
-            waits,
-            ..
-        }) => {
+        Ok(
+            Reply::NewCommand {
+                tag,
+                cdb,
+                waits,
+                ..
+            },
+        ) => {
             let waiting = if waits { ", waits for its tables" } else { "" };
             println!(rt; "   taken: tag {tag:04x}, CDB {cdb} bytes{waiting}")
         }
