@@ -5,16 +5,17 @@
 
 mod row;
 
+use row::Kind;
 use std::io::{self, Read};
 
 const INPUT: u64 = 262144;
 
-#[derive(Clone, Copy)]
-pub struct Counts {
-    pub look: usize,
-    pub cut: usize,
-    pub cdb: usize,
-    pub segments: usize,
+#[derive(Clone, Copy, Default)]
+struct Counts {
+    look: usize,
+    cut: usize,
+    cdb: usize,
+    segments: usize,
 }
 
 fn main(rt: HostRuntime) -> io::Result<()> {
@@ -23,60 +24,50 @@ fn main(rt: HostRuntime) -> io::Result<()> {
     run(&rt, &input)
 }
 
+// Those of each kind that are right, after the last row; or where a row is cut off.
 fn run(rt: &impl Print, s: &[u8]) -> io::Result<()> {
-    let mut right = Counts {
-        look: 0,
-        cut: 0,
-        cdb: 0,
-        segments: 0,
-    };
-    let mut at: usize = 0;
-    while at < s.len() {
-        let rest = &s[at..];
-        if rest.len() < row::HEADER {
-            return print(rt, b"cut off at byte ", at);
-        }
-        let e = row::ends_of(rest);
-        let n = e.fifth;
-        if rest.len() < n {
-            return print(rt, b"cut off at byte ", at);
-        }
-        if row::right(&rest[0..n], e) {
-            right = counted(right, rest[0]);
+    let mut right = Counts::default();
+    let mut rest = s;
+    while let Some((row, behind)) = row::first(rest) {
+        if row.is_right() {
+            right = right.with(row.kind());
         } else {
-            print(rt, b"wrong at byte ", at)?;
+            println!(rt; "wrong at byte {}", s.len() - rest.len())?;
         }
-        at += n;
+        rest = behind;
     }
-    print(rt, b"look ", right.look)?;
-    print(rt, b"cut ", right.cut)?;
-    print(rt, b"cdb ", right.cdb)?;
-    print(rt, b"segments ", right.segments)
+    if !rest.is_empty() {
+        return println!(rt; "cut off at byte {}", s.len() - rest.len());
+    }
+    let Counts {
+        look,
+        cut,
+        cdb,
+        segments,
+    } = right;
+    println!(rt; "look {look}\ncut {cut}\ncdb {cdb}\nsegments {segments}")
 }
 
-// One more of its kind; there are fewer rows than bytes.
-fn counted(c: Counts, kind: u8) -> Counts {
-    match kind {
-        row::LOOK => Counts {
-            look: c.look.wrapping_add(1),
-            ..c
-        },
-        row::CUT => Counts {
-            cut: c.cut.wrapping_add(1),
-            ..c
-        },
-        row::CDB => Counts {
-            cdb: c.cdb.wrapping_add(1),
-            ..c
-        },
-        _ => Counts {
-            segments: c.segments.wrapping_add(1),
-            ..c
-        },
+impl Counts {
+    // One more of a kind; there are fewer rows than bytes.
+    fn with(self, kind: Kind) -> Counts {
+        match kind {
+            Kind::Look => Counts {
+                look: self.look.wrapping_add(1),
+                ..self
+            },
+            Kind::Cut => Counts {
+                cut: self.cut.wrapping_add(1),
+                ..self
+            },
+            Kind::Cdb => Counts {
+                cdb: self.cdb.wrapping_add(1),
+                ..self
+            },
+            Kind::Segments => Counts {
+                segments: self.segments.wrapping_add(1),
+                ..self
+            },
+        }
     }
-}
-
-fn print(rt: &impl Print, words: &[u8], n: usize) -> io::Result<()> {
-    rt.write_all(words)?;
-    rt.println(n)
 }

@@ -1,20 +1,13 @@
 // A packed row: its kind, how many bytes are lent and what fills them, the refusal (0 for none), three numbers of 4 bytes, the lengths
 // of five strings of bytes, 2 bytes each, Q in 8 bytes, and the strings.
 
-ghost use Rattle.std.specs.Prelude.{◌≡◌, ◌≤◌, length};
+ghost use Rattle.std.specs.Prelude.{◌≡◌, ◌≤◌, ◌<◌, length, IfSome};
 ghost use Rattle.command.specs.Reading.{LiesIn};
-ghost use Rattle.rows.specs.Packed.{Ascending};
 
 use srp::limits::{BOTH_FORMATS, LONGEST_AGREED};
 use srp::{Descriptor, Direction};
 
-pub const LOOK: u8 = b'l';
-
-pub const CUT: u8 = b'c';
-
-pub const CDB: u8 = b'd';
-
-pub const HEADER: usize = 34;
+const HEADER: usize = 34;
 
 const LENT: usize = 1;
 
@@ -33,120 +26,124 @@ const ROOM: usize = 64;
 
 const FIELDS: u8 = 10;
 
-// Where the strings of a row end.
+// What a row asks.
 #[derive(Clone, Copy)]
-pub struct Ends {
-    pub first: usize,
-    pub second: usize,
-    pub third: usize,
-    pub fourth: usize,
-    pub fifth: usize,
+pub enum Kind {
+    Look,
+    Cut,
+    Cdb,
+    Segments,
 }
 
-pub fn ends_of(s: &[u8]) -> Ends
-    requires { 34 ≤ length s.now }
-    ensures { Ascending result }
-{
-    let first = HEADER + (wire::read16(s, LENGTHS) as usize);
-    let second = first + (wire::read16(s, LENGTHS + 2) as usize);
-    let third = second + (wire::read16(s, LENGTHS + 4) as usize);
-    let fourth = third + (wire::read16(s, LENGTHS + 6) as usize);
-    let fifth = fourth + (wire::read16(s, LENGTHS + 8) as usize);
-    Ends {
-        first,
-        second,
-        third,
-        fourth,
-        fifth,
+impl From<u8> for Kind {
+    fn from(byte: u8) -> Kind {
+        match byte {
+            b'l' => Kind::Look,
+            b'c' => Kind::Cut,
+            b'd' => Kind::Cdb,
+            _ => Kind::Segments,
+        }
     }
 }
 
-// Whether the code answers as the row does.
-pub fn right(s: &[u8], e: Ends) -> bool
-    requires ascending { Ascending e }
-    requires s_len { length s.now ≡ e.fifth }
+#[derive(Clone, Copy)]
+pub struct Row<'a> {
+    header: &'a [u8; HEADER],
+    strings: [&'a [u8]; 5],
+}
+
+// How long a string of a row is.
+fn length_of(header: &[u8; HEADER], i: usize) -> usize
+    requires { i ≤ 4 }
 {
-    match s[0] {
-        LOOK | CUT => call_right(s, e),
-        CDB => cdb_right(s, e),
-        _ => segments_right(s, e),
+    wire::read16(header, LENGTHS + 2 * i) as usize
+}
+
+// The row that a slice begins with, and what is behind it; none where it is cut off.
+pub fn first(s: &[u8]) -> Option<(Row<'_>, &[u8])>
+    ensures { IfSome result (λ f. length f.1.now < length s.now) }
+{
+    let (header, rest) = s.split_first_chunk::<HEADER>()?;
+    let (a, rest) = rest.split_at_checked(length_of(header, 0))?;
+    let (b, rest) = rest.split_at_checked(length_of(header, 1))?;
+    let (c, rest) = rest.split_at_checked(length_of(header, 2))?;
+    let (d, rest) = rest.split_at_checked(length_of(header, 3))?;
+    let (e, behind) = rest.split_at_checked(length_of(header, 4))?;
+    let strings = [a, b, c, d, e];
+    Some((Row { header, strings }, behind))
+}
+
+impl Row<'_> {
+    pub fn kind(&self) -> Kind {
+        Kind::from(self.header[0])
     }
-}
 
-fn number(s: &[u8], i: usize) -> u32
-    requires { (34 ≤ length s.now) × (i ≤ 2) }
-{
-    wire::read32(s, NUMBERS + 4 * i)
-}
-
-// look: the agreed length and formats; the message. cut: M, R, the bytes handed out, Q; the list.
-fn ask(s: &[u8], first: usize, buf: &mut [u8]) -> u32
-    requires { (34 ≤ first) × (first ≤ length s.now) }
-{
-    if wire::read8(s, 0) == LOOK {
-        return exports::srp_look(&s[HEADER..first], number(s, 0), number(s, 1), buf);
+    // Whether the code answers as the row does.
+    pub fn is_right(&self) -> bool {
+        match self.kind() {
+            Kind::Look | Kind::Cut => self.call_is_right(),
+            Kind::Cdb => self.cdb_is_right(),
+            Kind::Segments => self.segments_are_right(),
+        }
     }
-    exports::srp_cut(
-        &s[HEADER..first],
-        number(s, 0),
-        wire::read64(s, BOUNDARY),
-        number(s, 1),
-        number(s, 2),
-        buf,
-    )
-}
 
-fn call_right(s: &[u8], e: Ends) -> bool
-    requires ascending { Ascending e }
-    requires s_len { length s.now ≡ e.fifth }
-{
-    let mut buf = [0u8; ROOM];
-    answered(s, e, &mut buf)
-}
-
-// The call returns the refusal, and the lent bytes are the 32 of the answer, or all as they were.
-fn answered(s: &[u8], e: Ends, buf: &mut [u8]) -> bool
-    requires ascending { Ascending e }
-    requires s_len { length s.now ≡ e.fifth }
-{
-    let lent = wire::read8(s, LENT) as usize;
-    let fill = wire::read8(s, FILL);
-    if buf.len() < lent {
-        return false;
+    fn number(&self, i: usize) -> u32
+        requires { i ≤ 2 }
+    {
+        let header = self.header;
+        wire::read32(header, NUMBERS + 4 * i)
     }
-    buf.fill(fill);
-    let refusal = ask(s, e.first, &mut buf[0..lent]);
-    if refusal != (wire::read8(s, REFUSAL) as u32) {
-        return false;
-    }
-    filled(buf, &s[e.third..e.fourth], fill)
-}
 
-// cdb: the agreed length and formats; the message, the CDB.
-fn cdb_right(s: &[u8], e: Ends) -> bool
-    requires ascending { Ascending e }
-    requires s_len { length s.now ≡ e.fifth }
-{
-    command::cdb(&s[HEADER..e.first], number(s, 0), number(s, 1)) == &s[e.third..e.fourth]
-}
-
-// segments: the message, both tables, both lists; or refusal 10.
-fn segments_right(s: &[u8], e: Ends) -> bool
-    requires ascending { Ascending e }
-    requires s_len { length s.now ≡ e.fifth }
-{
-    let msg = &s[HEADER..e.first];
-    let Ok(c) = command::look_command(msg, LONGEST_AGREED, BOTH_FORMATS) else {
-        return false;
-    };
-    let out_table = &s[e.first..e.second];
-    let in_table = &s[e.second..e.third];
-    if !fits(msg, out_table, c.out) || !fits(msg, in_table, c.inn) {
-        return s[REFUSAL] == FIELDS;
+    // look: the agreed length and formats; the message. cut: M, R, the bytes handed out, Q; the list.
+    fn ask(&self, buf: &mut [u8]) -> u32 {
+        let [first, ..] = self.strings;
+        if let Kind::Look = self.kind() {
+            return exports::srp_look(first, self.number(0), self.number(1), buf);
+        }
+        let header = self.header;
+        let boundary = wire::read64(header, BOUNDARY);
+        exports::srp_cut(
+            first,
+            self.number(0),
+            boundary,
+            self.number(1),
+            self.number(2),
+            buf,
+        )
     }
-    let out = command::segments(msg, out_table, Direction::Out, LONGEST_AGREED, BOTH_FORMATS);
-    let inn = command::segments(msg, in_table, Direction::In, LONGEST_AGREED, BOTH_FORMATS);
-    s[REFUSAL] == 0 && out == &s[e.third..e.fourth] && inn == &s[e.fourth..e.fifth]
+
+    // The call returns the refusal, and the lent bytes are the 32 of the answer, or all as they were.
+    fn call_is_right(&self) -> bool {
+        let fill = self.header[FILL];
+        let mut buf = [fill; ROOM];
+        let Some(lent) = buf.get_mut(..self.header[LENT] as usize) else {
+            return false;
+        };
+        let refusal = self.ask(lent);
+        let [_, _, _, answer, _] = self.strings;
+        refusal == self.header[REFUSAL] as u32 && filled(&buf, answer, fill)
+    }
+
+    // cdb: the agreed length and formats; the message, the CDB.
+    fn cdb_is_right(&self) -> bool {
+        let [msg, _, _, cdb, _] = self.strings;
+        command::cdb(msg, self.number(0), self.number(1)) == cdb
+    }
+
+    // segments: the message, both tables, both lists; or refusal 10.
+    fn segments_are_right(&self) -> bool {
+        let [msg, out_table, in_table, out_list, in_list] = self.strings;
+        let Ok(c) = command::look_command(msg, LONGEST_AGREED, BOTH_FORMATS) else {
+            return false;
+        };
+        let refusal = self.header[REFUSAL];
+        if !fits(msg, out_table, c.out) || !fits(msg, in_table, c.inn) {
+            return refusal == FIELDS;
+        }
+        let out = command::segments(msg, out_table, Direction::Out, LONGEST_AGREED, BOTH_FORMATS);
+        let inn = command::segments(msg, in_table, Direction::In, LONGEST_AGREED, BOTH_FORMATS);
+        refusal == 0 && out == out_list && inn == in_list
+    }
 }
 
 // Whether a direction's table has F bytes and no field of it is bad.

@@ -1,11 +1,9 @@
--- `rows::run` meets its contract. The measure is what is left of the input.
-use Rattle.std.proofs.Common.{◌-◌, ◌≤◌, length}
+-- The loop of `rows::run`: what is left of the rows becomes less.
+use Rattle.std.proofs.Common.{length, ◌≤◌}
 use Rattle.rows.proofs.run.Given as goal
 
-abbrev pub invariant-loop-at : goal.invariant-loop-at
-invariant-loop-at g l =
-    l.at ≤ length l.s
+abbrev pub invariant-loop-row : goal.invariant-loop-row
+invariant-loop-row g l = length l.rest ≤ length l.s
 
-abbrev pub decreases-loop-at : goal.decreases-loop-at
-decreases-loop-at g l =
-    length l.s - l.at
+abbrev pub decreases-loop-row : goal.decreases-loop-row
+decreases-loop-row g l = length l.rest
