@@ -60,7 +60,7 @@ pub fn record_at(s: &[u64; PORT], i: usize) -> Record
 }
 
 // How many records a listing has in a lent list of `room`. Refused 21, 11.
-fn held_for(s: &[u64; PORT], room: usize) -> Result<usize, Refusal>
+pub fn held_for(s: &[u64; PORT], room: usize) -> Result<usize, Refusal>
     ensures { HasRoom s.now room result }
 {
     let h = opening::open_head(s)?;
