@@ -22,7 +22,7 @@ use Rattle.exports.specs.Calls.{LoginInC, LogsInC}
 use Rattle.demand.specs.Replies.{reply_by, logged_in}
 use Rattle.demand.specs.Judgement.{LoginRefused, LoginJudged, JudgesLogin}
 use Rattle.demand.proofs.Told.{login_told, logs_in}
-use Rattle.demand.proofs.Judging.{number_for, judge}
+use Rattle.demand.proofs.Judging.{number_for, judge, comes}
 
 module _ (c : Settings) (own s : List ℕ) where
   judged_number : (y : Option ℕ) → returned (judged y c s).reply ≡ 0
@@ -52,11 +52,7 @@ module _ (c : Settings) (own s : List ℕ) where
         record {
           rejects = λ reason. ((λ q. (rejected_iff y reason).0 (r ∙ q)), (λ q. sym r ∙ (rejected_iff y reason).1 q));
           accepts = ((λ q. (accepted_iff y).0 (r ∙ q)), (λ q. sym r ∙ (accepted_iff y).1 q));
-          comes = record {
-            words = A.numbers.words ∙ ap (λ (o : Outcome). answer_words (answer_of o)) is;
-            port = A.call.port ∙ ap (λ (o : Outcome). o.port) is;
-            buffer = A.call.buffer ∙ ap (λ (o : Outcome). placed o.wrote b) is;
-          };
+          comes = comes A.numbers A.call.port A.call.buffer is;
           closed = λ reason q. A.call.closed λ a.
               let z : (judged y c s).reply ≡ Ok Accepted = sym (ap (λ (o : Outcome). o.reply) is) ∙ a in
               let k : some reason ≡ none = sym q ∙ (accepted_iff y).0 z in

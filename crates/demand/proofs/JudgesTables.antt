@@ -9,19 +9,17 @@ use lib.ListN.{length}
 use Rattle.std.specs.Prelude.{Result, Ok, Err}
 use Rattle.srp.specs.Refusals.{Conduct, hangs_up, answered, stays, alters_nothing, conduct_of, first_of_checks}
 use Rattle.srp.specs.Credit.{Port}
-use Rattle.srp.specs.Writing.{placed}
 use Rattle.srp.specs.Take.{Outcome, Tables}
 use Rattle.srp.specs.Tables.{tables_checks, tables_refused, tables_outcome, tables_by, tables_def}
-use Rattle.srp.specs.Answers.{returned, size_of, answer_of}
+use Rattle.srp.specs.Answers.{returned}
 use Rattle.srp.specs.declared.Refusal.{Refusal}
 use Rattle.srp.specs.declared.Reply.{Reply}
 use Rattle.srp.specs.declared.Reply.TheVariants.{Performed}
 use Rattle.srp.proofs.Refusing.{tables_as}
-use Rattle.answer.specs.Words.{answer_words}
 use Rattle.words.specs.View.{view}
 use Rattle.exports.specs.Calls.{TablesInC}
-use Rattle.demand.specs.Judgement.{Comes, Unaltered, BroughtAs, TablesLeft, JudgesTables}
-use Rattle.demand.proofs.Judging.{number_for, not_zero, judge}
+use Rattle.demand.specs.Judgement.{Unaltered, BroughtAs, TablesLeft, JudgesTables}
+use Rattle.demand.proofs.Judging.{number_for, not_zero, judge, comes, unaltered}
 
 number_is : (p : Port) (tag : ℕ) (t : Tables) (x : Option Refusal) → returned (tables_by x p tag t).reply ≡ number_for x
 number_is p tag t none = refl
@@ -35,38 +33,23 @@ unwritten stays p tag f ne = refl
 unwritten alters_nothing p tag f ne = refl
 
 module _ {l st b l' st' b' : List ℕ} {n : ℕ} {w : List ℕ} (tag : ℕ) (t : Tables) (A : TablesInC l st b l' st' b' tag t n w) where
-  -- what it comes to
-  comes : (o : Outcome) → tables_def (view l st) (length b) tag t ≡ o → Comes o l' st' b b' w
-  comes o is =
-      record {
-        words = A.answers.numbers.words ∙ ap (λ (x : Outcome). answer_words (answer_of x)) is;
-        port = A.answers.call.port ∙ ap (λ (x : Outcome). x.port) is;
-        buffer = A.answers.call.buffer ∙ ap (λ (x : Outcome). placed x.wrote b) is;
-      }
-
   by : {x : Option Refusal} → first_of_checks (tables_checks (view l st) (length b) tag t) ≡ x → tables_def (view l st) (length b) tag t ≡ tables_by x (view l st) tag t
   by e = ap (λ (x : Option Refusal). tables_by x (view l st) tag t) e
 
   accepted : first_of_checks (tables_checks (view l st) (length b) tag t) ≡ none → BroughtAs (tables_outcome (view l st) tag t) l st b l' st' b' w tag
-  accepted e = record { comes = comes _ (by e); store = A.store.brought (ap (λ (x : Outcome). x.reply) (by e)) }
+  accepted e = record { comes = comes A.answers.numbers A.answers.call.port A.answers.call.buffer (by e); store = A.store.brought (ap (λ (x : Outcome). x.reply) (by e)) }
 
   module _ (f : Refusal) (e : first_of_checks (tables_checks (view l st) (length b) tag t) ≡ some f) where
     reply : (tables_def (view l st) (length b) tag t).reply ≡ Err f
     reply = ap (λ (x : Outcome). x.reply) (by e) ∙ tables_as (view l st) tag f
 
     same : (conduct_of f ≡ answered → ⊥) → Unaltered l b l' b' w
-    same ne =
-        let none_written : (tables_def (view l st) (length b) tag t).wrote ≡ [] = ap (λ (x : Outcome). x.wrote) (by e) ∙ unwritten (conduct_of f) (view l st) tag f ne in
-        record {
-          words = A.answers.numbers.words ∙ (λ i. answer_words (record { reply = reply i; wrote = size_of (none_written i) }));
-          port = (A.answers.call.raw (λ q. not_zero f (sym (ap returned reply) ∙ q)) (ap size_of none_written)).0;
-          buffer = A.answers.call.buffer ∙ ap (λ (x : List (List ℕ)). placed x b) none_written;
-        }
+    same ne = unaltered f A.answers reply (ap (λ (x : Outcome). x.wrote) (by e) ∙ unwritten (conduct_of f) (view l st) tag f ne)
 
     left : TablesLeft l st b l' st' b' w tag f
     left =
         record {
-          responded = λ h. comes _ (by e ∙ ap (λ (x : Conduct). tables_refused x (view l st) tag f) h);
+          responded = λ h. comes A.answers.numbers A.answers.call.port A.answers.call.buffer (by e ∙ ap (λ (x : Conduct). tables_refused x (view l st) tag f) h);
           unaltered = same;
           store = A.store.kept (λ q. not_performed (sym reply ∙ q));
         }

@@ -16,7 +16,7 @@ use Rattle.srp.specs.Credit.{Port}
 use Rattle.srp.specs.Writing.{placed}
 use Rattle.srp.specs.Take.{Outcome, later_checks, take_checks, conducted, refused_by, accepted, take_by, take_def}
 use Rattle.srp.specs.Order.{take_order}
-use Rattle.srp.specs.Answers.{returned, size_of, answer_of}
+use Rattle.srp.specs.Answers.{returned, answer_of}
 use Rattle.srp.specs.declared.Refusal.{Refusal}
 use Rattle.srp.specs.declared.Refusal.TheVariants.{ShortBuffer, Closed}
 use Rattle.srp.specs.Requests.{Reading}
@@ -28,7 +28,7 @@ use Rattle.words.specs.View.{view}
 use Rattle.take.specs.Taking.{takes_command, Stores}
 use Rattle.exports.specs.Calls.{TakeInC}
 use Rattle.demand.specs.Judgement.{Unaltered, read_on, TakenAs, Left, JudgesTake}
-use Rattle.demand.proofs.Judging.{number_for, not_zero, judge}
+use Rattle.demand.proofs.Judging.{number_for, judge, comes, unaltered}
 
 -- ── of the definition
 
@@ -71,11 +71,7 @@ module _ {l st b l' st' b' : List ℕ} {n : ℕ} {w : List ℕ} (s : List ℕ) (
       by_order (view l st) (length b) s ∙ ap (λ (x : Option Refusal). take_by x (view l st) s (read_on (view l st) s)) e in
       let port : view l' st' ≡ (accepted (view l st) s (read_on (view l st) s)).port = A.answers.call.port ∙ ap (λ (x : Outcome). x.port) is in
       record {
-        comes = record {
-          words = A.answers.numbers.words ∙ ap (λ (x : Outcome). answer_words (answer_of x)) is;
-          port = port;
-          buffer = A.answers.call.buffer ∙ ap (λ (x : Outcome). placed x.wrote b) is;
-        };
+        comes = comes A.answers.numbers A.answers.call.port A.answers.call.buffer is;
         store = subst (λ (x : Outcome). Stores l st l' st' x.reply) is A.store;
         closed = λ h.
             A.answers.call.closed (not-false (view l st).live (passes (take_order (view l st) (length b) s) e).1.0) (ap (λ (x : Port). x.live) port ∙ h);
@@ -102,14 +98,7 @@ module _ {l st b l' st' b' : List ℕ} {n : ℕ} {w : List ℕ} (s : List ℕ) (
       -- nothing is altered where nothing is written
       same : (conducted c (view l st) (read_on (view l st) s) f).wrote ≡ [] → Unaltered l b l' b' w
       same z =
-          let o : Outcome = take_def (view l st) (length b) s in
-          let reply : o.reply ≡ Err f = ap (λ (x : Outcome). x.reply) refused ∙ refused_as (view l st) (read_on (view l st) s) f in
-          let size : size_of o.wrote ≡ 0 = ap (λ (x : Outcome). size_of x.wrote) outcome ∙ ap size_of z in
-          record {
-            words = A.answers.numbers.words ∙ (λ i. answer_words (record { reply = reply i; wrote = size i }));
-            port = (A.answers.call.raw (λ q. not_zero f (sym (ap returned reply) ∙ q)) size).0;
-            buffer = buffer_is ∙ ap (λ (x : List (List ℕ)). placed x b) z;
-          }
+          unaltered f A.answers (ap (λ (x : Outcome). x.reply) refused ∙ refused_as (view l st) (read_on (view l st) s) f) (ap (λ (x : Outcome). x.wrote) outcome ∙ z)
 
     left : Left l st b l' st' b' s w f
     left =

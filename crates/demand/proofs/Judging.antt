@@ -1,19 +1,20 @@
 -- How a promise in C says demand 1 of its call. Assumes nothing.
-use mathlib.Core.Path.{◌≡◌, refl, sym, ◌∙◌, ap}
+use mathlib.Core.Path.{◌≡◌, refl, sym, ◌∙◌, ap, subst}
 use mathlib.Core.Logic.{◌↔◌}
 use mathlib.Core.Bool.{Bool, true, false, cond}
-use mathlib.Core.List.{List, ◌∷◌}
+use mathlib.Core.List.{List, [], ◌∷◌}
 use mathlib.Core.Option.{Option, none, some, none-ne-some, some-ne-none, some-injective}
 use Prim.Native.Nat.{ℕ}
 use lib.Dec.{ltb}
 use native.Mathlib.Omega.{arith}
+use Rattle.std.specs.Prelude.{Err}
 use Rattle.srp.specs.Limits.{answer_size}
 use Rattle.srp.specs.Refusals.{number_of, Check, first_of_checks}
 use Rattle.srp.specs.Credit.{Port}
 use Rattle.srp.specs.Writing.{placed}
 use Rattle.srp.specs.Take.{Outcome}
 use Rattle.srp.specs.Calls.{unless}
-use Rattle.srp.specs.Answers.{returned, operation_in, answer_of}
+use Rattle.srp.specs.Answers.{returned, operation_in, size_of, answer_of}
 use Rattle.srp.specs.Outside.{CReturn, refusing_c, in_buffer}
 use Rattle.srp.specs.declared.Refusal.{Refusal}
 use Rattle.srp.specs.declared.Refusal.TheVariants.{ShortBuffer}
@@ -51,6 +52,22 @@ pub judge : (checks : List Check) (n : ℕ) (Performs : Type 0) (Leaves : Refusa
 judge checks n P L e p q =
     record { refuses = numbers_one n (first_of_checks checks) e; unrefused = numbers_none n (first_of_checks checks) e; performs = p; leaves = q }
 
+-- ── of a call with words and a lent buffer
+
+-- what it comes to
+pub comes : {l' st' b b' : List ℕ} {n : ℕ} {w : List ℕ} {o x : Outcome} → InC n w o → view l' st' ≡ o.port → b' ≡ placed o.wrote b → o ≡ x → Comes x l' st' b b' w
+comes {l'} {st'} {b} {b'} {n} {w} N port buffer is = subst (λ (y : Outcome). Comes y l' st' b b' w) is (record { words = N.words; port = port; buffer = buffer })
+
+-- a refusal without a message alters nothing
+pub unaltered : {l st b l' st' b' : List ℕ} {n : ℕ} {w : List ℕ} {o : Outcome} (f : Refusal) → AnswersInC l st b l' st' b' n w o → o.reply ≡ Err f → o.wrote ≡ []
+    → Unaltered l b l' b' w
+unaltered {b = b} f A refused silent =
+    record {
+      words = A.numbers.words ∙ (λ i. answer_words (record { reply = refused i; wrote = size_of (silent i) }));
+      port = (A.call.raw (λ z. not_zero f (sym (ap returned refused) ∙ z)) (ap size_of silent)).0;
+      buffer = A.call.buffer ∙ ap (λ (ms : List (List ℕ)). placed ms b) silent;
+    }
+
 -- ── of a call that is refused by its first check that hits, or comes to the outcome o
 
 module _ (p : Port) (o : Outcome) (unrefused : returned o.reply ≡ 0) where
@@ -62,26 +79,9 @@ module _ (p : Port) (o : Outcome) (unrefused : returned o.reply ≡ 0) where
   pub judge_answers : (checks : List Check) (l st b l' st' b' : List ℕ) (n : ℕ) (w : List ℕ) → AnswersInC l st b l' st' b' n w (unless (first_of_checks checks) p o)
       → Judgement checks n (Comes o l' st' b b' w) (λ f. Unaltered l b l' b' w)
   judge_answers checks l st b l' st' b' n w A =
-      judge checks n (Comes o l' st' b b' w) (λ f. Unaltered l b l' b' w) (A.numbers.number ∙ number_is (first_of_checks checks)) comes left
-    where
-      comes : first_of_checks checks ≡ none → Comes o l' st' b b' w
-      comes e =
-          let is : unless (first_of_checks checks) p o ≡ o = ap (λ (x : Option Refusal). unless x p o) e in
-          record {
-            words = A.numbers.words ∙ ap (λ (x : Outcome). answer_words (answer_of x)) is;
-            port = A.call.port ∙ ap (λ (x : Outcome). x.port) is;
-            buffer = A.call.buffer ∙ ap (λ (x : Outcome). placed x.wrote b) is;
-          }
-
-      left : (f : Refusal) → first_of_checks checks ≡ some f → Unaltered l b l' b' w
-      left f e =
-          let is : unless (first_of_checks checks) p o ≡ unless (some f) p o = ap (λ (x : Option Refusal). unless x p o) e in
-          let raw = A.call.raw (λ z. not_zero f (sym (ap (λ (x : Outcome). returned x.reply) is) ∙ z)) (ap (λ (x : Outcome). (answer_of x).wrote) is) in
-          record {
-            words = A.numbers.words ∙ ap (λ (x : Outcome). answer_words (answer_of x)) is;
-            port = raw.0;
-            buffer = A.call.buffer ∙ ap (λ (x : Outcome). placed x.wrote b) is;
-          }
+      judge checks n (Comes o l' st' b b' w) (λ f. Unaltered l b l' b' w) (A.numbers.number ∙ number_is (first_of_checks checks))
+      (λ e. comes A.numbers A.call.port A.call.buffer (ap (λ (x : Option Refusal). unless x p o) e))
+      (λ f e. unaltered f A (ap (λ (x : Option Refusal). (unless x p o).reply) e) (ap (λ (x : Option Refusal). (unless x p o).wrote) e))
 
   -- without words and buffer
   pub judge_replies : (checks : List Check) (l st l' : List ℕ) (n : ℕ) → RepliesInC l st l' n (unless (first_of_checks checks) p o)
