@@ -31,10 +31,9 @@ pub fn size(format: u8, count: u8) -> usize
 
 // A descriptor but for its total length, unless its count is bad: more than 32 copies, or more than the table has.
 pub fn descriptor(msg: &[u8], format: u8, count: u8, at: usize) -> Option<Descriptor>
-    requires known { format ≤ 2 }
-    requires inside { at + descriptor_size format count ≤ length msg.now }
+    requires { at + descriptor_size format count ≤ length msg.now }
     ensures value { result ≡ counted (with_total_lem 0 (descriptor_of_lem format count at msg.now)) }
-    ensures fits { IfSome result (LiesIn msg.now) }
+    ensures fits { format ≤ 2 → IfSome result (LiesIn msg.now) }
 {
     let bare = Descriptor {
         format,
