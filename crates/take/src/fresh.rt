@@ -53,7 +53,7 @@ fn part_of(msg: &[u8], d: Descriptor) -> Option<Part>
 }
 
 // A command without a fetch is judged by 10 here. One with a fetch named waits for its tables, and what they will be judged by is kept.
-pub fn take_command(
+pub fn take_fields(
     s: &mut [u64; PORT],
     store: &mut [u8; STORE],
     msg: &[u8],

@@ -113,7 +113,7 @@ fn take_message(
     match request::read_message(msg, terms.agreed, terms.formats)? {
         Message::Cmd(c) => {
             admit(s, c.request.tag)?;
-            Ok(fresh::take_command(s, store, msg, buf, c))
+            Ok(fresh::take_fields(s, store, msg, buf, c))
         }
         Message::TskMgmt(t) => {
             admit(s, t.request.tag)?;

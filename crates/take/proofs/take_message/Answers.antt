@@ -16,7 +16,7 @@ returns-in_err-admit-in-Cmd c =
 pub returns-in_ok-admit-in-Cmd : goal.returns-in_ok-admit-in-Cmd
 returns-in_ok-admit-in-Cmd c =
     let a = c.args in
-    commands a.s.now a.store.now a.msg.now c.requires.s_value c.requires.terms_value c.in_ok-c.ensures.reading c.in-Cmd.is c.in_ok-admit-in-Cmd.ensures c.take_command.ensures
+    commands a.s.now a.store.now a.msg.now c.requires.s_value c.requires.terms_value c.in_ok-c.ensures.reading c.in-Cmd.is c.in_ok-admit-in-Cmd.ensures c.take_fields.ensures
 
 pub returns-in_ok-admit-in-TskMgmt : goal.returns-in_ok-admit-in-TskMgmt
 returns-in_ok-admit-in-TskMgmt c =

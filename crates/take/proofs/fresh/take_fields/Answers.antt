@@ -1,7 +1,7 @@
--- `take::fresh::take_command` meets its contract.
+-- `take::fresh::take_fields` meets its contract.
 use mathlib.Core.Path.{sym, ◌∙◌}
 use Rattle.take.proofs.Newly.{waited, entered, bad_out, bad_in, reads_waiting, reads_ready}
-use Rattle.take.proofs.fresh.take_command.Goals as goal
+use Rattle.take.proofs.fresh.take_fields.Goals as goal
 
 pub enter-requires-clause-newly_read : goal.enter-requires-clause-newly_read
 enter-requires-clause-newly_read c =
