@@ -14,7 +14,6 @@ use Rattle.srp.specs.Login.{login_def}
 use Rattle.login.specs.LoggingIn.{LogsIn}
 use Rattle.srp.specs.declared.Settings.{Settings}
 use Rattle.take.specs.Taking.{Takes, Stores}
-use Rattle.tables.specs.Bringing as bringing
 use Rattle.transfer.specs.Stepping.{Steps}
 use Rattle.transfer.specs.Turning.{Turns}
 use Rattle.exports.specs.Arguments.{direction_in}

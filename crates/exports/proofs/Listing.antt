@@ -11,14 +11,18 @@ use Rattle.srp.specs.Refusals.{first_of_checks}
 use Rattle.srp.specs.Lists.{over}
 use Rattle.srp.specs.Credit.{Port}
 use Rattle.srp.specs.Take.{Outcome}
-use Rattle.srp.specs.Calls.{unless, counters_def, list_def, counters_checks, counters_outcome, list_checks, list_outcome}
+use Rattle.srp.specs.Calls.{unless, records_for, counters_def, list_def, counters_checks, counters_outcome, list_checks, list_outcome}
+use Rattle.std.specs.Prelude.{Result, Ok}
 use Rattle.srp.specs.declared.Refusal.{Refusal}
+use Rattle.srp.specs.declared.Reply.{Reply}
+use Rattle.srp.specs.declared.Reply.TheVariants.{Listed}
+use Rattle.srp.proofs.Listing.{refused_none}
 use Rattle.srp.specs.declared.Record.{Record}
 use Rattle.words.specs.View.{view}
 use Rattle.report.specs.Reports.{slot_records, Room}
 use Rattle.report.proofs.Listed.{none_drawn, replies, records_are}
 use Rattle.exports.specs.Arguments.{record_size, record_words, all_words}
-use Rattle.exports.specs.Calls.{ListInC}
+use Rattle.exports.specs.Calls.{Gives, ListsInC, ListInC}
 use Rattle.exports.proofs.InC.{in_numbers, silently}
 
 -- a call that writes no message where none of its checks hits writes none
@@ -90,4 +94,14 @@ listed_in_c {l} {before} R e st =
     record {
       numbers = in_numbers (silently (list_def p room) (replies R st) (list_unwritten p room)) (refl, refl);
       records = rw d (e ∙ ap (λ (rs : List Record). over (all_words rs) before) (sym (records_are R st)));
+    }
+
+-- a listing that is refused writes no record
+pub list_refused : (p : Port) (before : List ℕ) {r : Result Reply Refusal} → r ≡ (list_def p (length before / record_size)).reply
+    → {n : ℕ} {w : List ℕ} → Gives n w (record { reply = r; wrote = 0 }) → ((n : ℕ) → r ≡ Ok (Listed n) → ⊥) → ListsInC p before before n w
+list_refused p before {r} e g k =
+    let d : records_for p (length before / record_size) ≡ [] = refused_none p (length before / record_size) r e k in
+    record {
+      numbers = in_numbers (silently (list_def p (length before / record_size)) e (list_unwritten p (length before / record_size))) g;
+      records = ap (λ (rs : List Record). over (all_words rs) before) (sym d);
     }

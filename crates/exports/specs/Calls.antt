@@ -1,16 +1,18 @@
 -- What the calls from C on a port promise: the number returned, the eight words of the answer, and all that the call of the same name promises.
 -- l and st are the port's words and its store before the call, l' and st' after it; b and b' the lent buffer; n is returned, w are the words.
-use Rattle.std.specs.Prelude.{◌≡◌, List, [], ◌∷◌, ℕ, ◌/◌, pos, length, Ok}
+use Rattle.std.specs.Prelude.{◌≡◌, ◌⊎◌, List, [], ◌∷◌, ◌++◌, ℕ, ◌/◌, pos, length, replicate, Result, Ok, Err}
 use Rattle.srp.specs.Lists.{over}
 use Rattle.srp.specs.Credit.{Port}
 use Rattle.srp.specs.Take.{Outcome, Tables, take_def}
 use Rattle.srp.specs.Tables.{tables_def}
 use Rattle.srp.specs.Calls.{plan_def, move_def, step_def, turn_def, finish_def, add_def, withdraw_def, grant_def, close_def, counters_def, list_def, records_for}
 use Rattle.srp.specs.Login.{login_def}
-use Rattle.srp.specs.Answers.{returned, answer_of}
+use Rattle.srp.specs.Answers.{values_of, returned, answer_of}
+use Rattle.srp.specs.declared.Refusal.{Refusal}
+use Rattle.srp.specs.declared.Reply.{Reply}
 use Rattle.srp.specs.declared.Reply.TheVariants.{Done, Idle}
 use Rattle.srp.specs.declared.Answer.{Answer}
-use Rattle.answer.specs.Words.{eight, answer_words}
+use Rattle.answer.specs.Words.{leading, answer_words}
 use Rattle.words.specs.View.{view}
 use Rattle.state.specs.Promises.{RepliesAs, AnswersAs}
 use Rattle.login.specs.LoggingIn.{LogsIn}
@@ -33,9 +35,17 @@ pub record AnswersInC (l st b l' st' b' : List ℕ) (n : ℕ) (w : List ℕ) (o 
   pub numbers : InC n w o
   pub call : AnswersAs l st b l' st' b' (answer_of o) o
 
--- an answer without values: its words are those of the message's length alone
-abbrev pub Plain : Answer → Type 0
-Plain a = (eight (pos a.wrote ∷ []) ≡ answer_words a)
+-- a reply without values: in words it is the length of the message
+abbrev pub Plain : Result Reply Refusal → Type 0
+Plain r = ((wrote : ℕ) → leading wrote r ++ values_of r ≡ pos wrote ∷ [])
+
+-- a reply without a word that is not 0, where no message is written
+abbrev pub Wordless : Result Reply Refusal → Type 0
+Wordless r = replicate 8 0 ≡ answer_words (record { reply = r; wrote = 0 })
+
+-- what a step says that hands out nothing: done, or a refusal
+abbrev pub Ends : Result Reply Refusal → Type 0
+Ends r = ((n : ℕ) × (r ≡ Ok (Done n))) ⊎ ((f : Refusal) × (r ≡ Err f))
 
 -- step, turn
 pub record StepsInC (l st l' : List ℕ) (n : ℕ) (w : List ℕ) (o : Outcome) : Type 0 where

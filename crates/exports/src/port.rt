@@ -25,7 +25,7 @@ pub fn give(answer: &mut [u64; 8], a: Answer) -> u32
 
 // The same where there are no values: the length of the message alone. `words_of` goes by all kinds of reply, and costs some nanoseconds more.
 pub fn give_length(answer: &mut [u64; 8], a: Answer) -> u32
-    requires { Plain a }
+    requires { Plain a.reply }
     ensures { Gives result answer.new a }
 {
     *answer = [a.wrote as u64, 0, 0, 0, 0, 0, 0, 0];
