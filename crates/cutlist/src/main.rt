@@ -12,18 +12,18 @@ ghost use Rattle.cutlist.specs.Outputs.{Ready};
 use output::{Buffer, Output};
 use srp::limits::LONGEST_AGREED;
 use srp::{Kind, Refusal};
-use std::io::{self, Read};
+use std::io;
 
 // one byte more than the longest message, so that a longer one is seen
-const INPUT: u64 = (LONGEST_AGREED as u64) + 1;
+const INPUT: usize = (LONGEST_AGREED as usize) + 1;
 
 // some 250 lines for each write
 const TEXT: usize = 8192;
 
 fn main(rt: HostRuntime) -> io::Result<()> {
-    let mut input = Vec::new(rt.alloc());
-    rt.stdin().take(INPUT).read_to_end(&mut input)?;
-    print(&rt, &input)
+    let mut buf = [0u8; INPUT];
+    let n = input::read_full(&mut rt.stdin(), &mut buf)?;
+    print(&rt, &buf[..n])
 }
 
 fn print(rt: &impl Print, msg: &[u8]) -> io::Result<()> {

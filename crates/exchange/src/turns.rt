@@ -1,6 +1,6 @@
 // Three moves by turns: a piece of each, one after the other, until none has any left.
 use host::message::{Command, Message};
-use host::paper::{OUT_DIRECT, WRITE};
+use host::paper::{OUT_DIRECT, READ};
 use owner::Session;
 use srp::Direction;
 use std::io;
@@ -16,7 +16,7 @@ fn out() -> Message {
     Message::command(Command {
         formats: OUT_DIRECT,
         tag: OUT,
-        operation: WRITE,
+        operation: READ,
         ..Command::default()
     })
     .with_segment(0x2000, 7, 600)

@@ -6,9 +6,9 @@
 mod row;
 
 use row::Kind;
-use std::io::{self, Read};
+use std::io;
 
-const INPUT: u64 = 262144;
+const INPUT: usize = 262144;
 
 #[derive(Clone, Copy, Default)]
 struct Counts {
@@ -19,9 +19,9 @@ struct Counts {
 }
 
 fn main(rt: HostRuntime) -> io::Result<()> {
-    let mut input = Vec::new(rt.alloc());
-    rt.stdin().take(INPUT).read_to_end(&mut input)?;
-    run(&rt, &input)
+    let mut buf = [0u8; INPUT];
+    let n = input::read_full(&mut rt.stdin(), &mut buf)?;
+    run(&rt, &buf[..n])
 }
 
 // Those of each kind that are right, after the last row; or where a row is cut off.
@@ -39,13 +39,10 @@ fn run(rt: &impl Print, s: &[u8]) -> io::Result<()> {
     if !rest.is_empty() {
         return println!(rt; "cut off at byte {}", s.len() - rest.len());
     }
-    let Counts {
-        look,
-        cut,
-        cdb,
-        segments,
-    } = right;
-    println!(rt; "look {look}\ncut {cut}\ncdb {cdb}\nsegments {segments}")
+    println!(rt; "look {}", right.look)?;
+    println!(rt; "cut {}", right.cut)?;
+    println!(rt; "cdb {}", right.cdb)?;
+    println!(rt; "segments {}", right.segments)
 }
 
 impl Counts {

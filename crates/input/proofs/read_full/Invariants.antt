@@ -1,0 +1,11 @@
+-- `input::read_full` meets its contract: each turn reads some bytes more. The measure is how many are not filled yet.
+use Rattle.std.proofs.Common.{◌-◌, ◌≤◌, length}
+use Rattle.input.proofs.read_full.Given as goal
+
+abbrev pub invariant-loop-n : goal.invariant-loop-n
+invariant-loop-n g l =
+    l.n ≤ length l.buf
+
+abbrev pub decreases-loop-n : goal.decreases-loop-n
+decreases-loop-n g l =
+    length l.buf - l.n
