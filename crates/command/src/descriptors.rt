@@ -14,8 +14,11 @@ pub fn agreed_format(formats: u32, format: u8) -> Option<u8>
     ensures value { result ≡ cond (agrees formats format) (Some format) None }
     ensures known { IfSome result (λ f. f ≤ 2) }
 {
-    let agreed = format == 0 || (format <= INDIRECT && (formats >> (format as u32)) & 1 == 1);
-    agreed.then_some(format)
+    match format {
+        0 => Some(format),
+        DIRECT..=INDIRECT if (formats >> (format as u32)) & 1 == 1 => Some(format),
+        _ => None,
+    }
 }
 
 // How many bytes a descriptor takes: with 255 copies it is longest.
@@ -29,11 +32,10 @@ pub fn size(format: u8, count: u8) -> usize
     }
 }
 
-// A descriptor but for its total length, unless its count is bad: more than 32 copies, or more than the table has.
-pub fn descriptor(msg: &[u8], format: u8, count: u8, at: usize) -> Option<Descriptor>
+// A descriptor but for its total length.
+pub fn descriptor(msg: &[u8], format: u8, count: u8, at: usize) -> Descriptor
     requires { at + descriptor_size format count ≤ length msg.now }
-    ensures value { result ≡ counted (with_total_lem 0 (descriptor_of_lem format count at msg.now)) }
-    ensures fits { format ≤ 2 → IfSome result (LiesIn msg.now) }
+    ensures { result ≡ with_total_lem 0 (descriptor_of_lem format count at msg.now) }
 {
     let bare = Descriptor {
         format,
@@ -43,13 +45,26 @@ pub fn descriptor(msg: &[u8], format: u8, count: u8, at: usize) -> Option<Descri
         total: 0,
     };
     let INDIRECT = format else {
-        return Some(bare);
+        return bare;
+    };
+    let len = wire::read32(msg, at + SEGMENT_LENGTH);
+    Descriptor { count, len, ..bare }
+}
+
+// The same, unless its count is bad: more than 32 copies, or more than the table has.
+pub fn counted_descriptor(msg: &[u8], format: u8, count: u8, at: usize) -> Option<Descriptor>
+    requires { at + descriptor_size format count ≤ length msg.now }
+    ensures value { result ≡ counted (with_total_lem 0 (descriptor_of_lem format count at msg.now)) }
+    ensures fits { format ≤ 2 → IfSome result (LiesIn msg.now) }
+{
+    let d = descriptor(msg, format, count, at);
+    let INDIRECT = format else {
+        return Some(d);
     };
     let ..=MOST_COPIES = count else {
         return None;
     };
-    let len = wire::read32(msg, at + SEGMENT_LENGTH);
-    (SEGMENT * (count as usize) <= (len as usize)).then_some(Descriptor { count, len, ..bare })
+    (SEGMENT * (count as usize) <= (d.len as usize)).then_some(d)
 }
 
 // The total length that stands in the message at a descriptor's place.

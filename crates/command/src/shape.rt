@@ -43,10 +43,10 @@ pub fn read_shape(msg: &[u8], formats: u32) -> Result<Shape, Refusal>
     let Some([]) = msg.get(in_at + descriptors::size(in_format, in_count)..) else {
         return Err(Refusal::Length);
     };
-    let Some(out) = descriptors::descriptor(msg, out_format, out_count, out_at) else {
+    let Some(out) = descriptors::counted_descriptor(msg, out_format, out_count, out_at) else {
         return Err(Refusal::OutCount);
     };
-    let Some(inn) = descriptors::descriptor(msg, in_format, in_count, in_at) else {
+    let Some(inn) = descriptors::counted_descriptor(msg, in_format, in_count, in_at) else {
         return Err(Refusal::InCount);
     };
     Ok(Shape { cdb, out, inn })

@@ -20,8 +20,8 @@ pub record Changeable (l : List ℕ) (k w : ℕ) : Type 0 where
   pub some : k ≢ 0
 
 -- the checks that add and withdraw share
-abbrev pub MayChange : (l : List ℕ) (k : ℕ) → Result ℕ Refusal → Type 0
-MayChange l k (Ok w) = Changeable l k w
+abbrev pub MayChange : (l : List ℕ) (k : ℕ) → Result Head Refusal → Type 0
+MayChange l k (Ok h) = Changeable l k h.wanted
 MayChange l k (Err f) = Draws l (λ p. closed p ∷ (eqb k 0, Argument) ∷ []) f
 
 abbrev pub Adds : (l l' : List ℕ) (k : ℕ) → Result Reply Refusal → Type 0

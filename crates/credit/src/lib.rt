@@ -12,22 +12,22 @@ use state::opening;
 use wire::layout::SHORT_SIZE;
 use words::{Head, PORT};
 
-// W of an open channel, which k buffers are to change. Refused 21, 11.
-fn changeable(s: &[u64; PORT], k: u32) -> Result<u8, Refusal>
+// The head of an open channel, whose W k buffers are to change. Refused 21, 11.
+fn changeable(s: &[u64; PORT], k: u32) -> Result<Head, Refusal>
     ensures { MayChange s.now k result }
 {
     let h = opening::open_head(s)?;
     if k == 0 {
         return Err(Refusal::Argument);
     }
-    Ok(h.wanted)
+    Ok(h)
 }
 
 // Adds buffers to those wanted. Refused 21, 11, 28.
 pub fn add(s: &mut [u64; PORT], k: u32) -> Result<Reply, Refusal>
     ensures { Adds s.old s.new k result }
 {
-    let wanted = changeable(s, k)?;
+    let wanted = changeable(s, k)?.wanted;
     let room = MOST_BUFFERS - wanted;
     if (room as u32) < k {
         return Err(Refusal::Wanted);
@@ -40,7 +40,7 @@ pub fn add(s: &mut [u64; PORT], k: u32) -> Result<Reply, Refusal>
 pub fn withdraw(s: &mut [u64; PORT], k: u32) -> Result<Reply, Refusal>
     ensures { Withdraws s.old s.new k result }
 {
-    let wanted = changeable(s, k)?;
+    let wanted = changeable(s, k)?.wanted;
     if (wanted as u32) <= k {
         return Err(Refusal::Wanted);
     }

@@ -32,7 +32,7 @@ module _ (list : List ℕ) (from : ℕ) {l : Location} (e : located from (segmen
   own : l.len ≡ length_at l.index (segments_of list)
   own = ap (λ (x : Location). x.len) is_location
 
-  inside : l.index < length list / 16
+  pub inside : l.index < length list / 16
   inside = omega (arith, holds_inside from l.index (segments_of list) holds, segments_count (length list / 16) list)
 
   read : get_elem? (segments_of list) l.index ≡ some this

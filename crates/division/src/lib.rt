@@ -8,6 +8,9 @@ ghost use Rattle.division.specs.Dividing.{values, drawn, divide_def, counted_in}
 use srp::Refusal;
 use srp::limits::BOTH_FORMATS;
 
+// How many values a byte has.
+const VALUES: u32 = 256;
+
 // How many values pass, draw 5 and draw 6.
 #[derive(Clone, Copy)]
 pub struct Division {
@@ -51,8 +54,8 @@ pub fn divide(formats: u32) -> Result<Division, Refusal>
         out: 0,
         inn: 0,
     };
-    for byte in 0..=u8::MAX {
-        d = counted(d, formats, byte);
+    for byte in 0..VALUES {
+        d = counted(d, formats, byte as u8);
     }
     Ok(d)
 }

@@ -109,6 +109,6 @@ pub fn srp_format_counts(formats: u32, answer: &mut [u64; 8]) -> u32
             *answer = [d.pass as u64, d.out as u64, d.inn as u64, 0, 0, 0, 0, 0];
             0
         }
-        Err(refusal) => port::give(answer, answer::refused(refusal)),
+        Err(refusal) => port::give_nothing(answer, Err(refusal)),
     }
 }

@@ -6,10 +6,10 @@ ghost use Rattle.srp.specs.Limits.{most_buffers};
 ghost use Rattle.srp.specs.Lists.{over};
 ghost use Rattle.words.specs.Sizes.{port_words};
 ghost use Rattle.report.specs.Reports.{slot_records};
-ghost use Rattle.exports.specs.Calls.{Gives, Plain, LoginInC, PlanInC, MoveInC, StepInC, TurnInC, FinishInC, AddInC, WithdrawInC, GrantInC, CloseInC, CountersInC, ListInC};
+ghost use Rattle.exports.specs.Calls.{Gives, Plain, Wordless, LoginInC, PlanInC, MoveInC, StepInC, TurnInC, FinishInC, AddInC, WithdrawInC, GrantInC, CloseInC, CountersInC, ListInC};
 ghost use Rattle.exports.specs.Arguments.{record_size, record_words, all_words, settings_in, direction_in};
 
-use srp::{Answer, Direction, Record, Reply, Settings};
+use srp::{Answer, Direction, Record, Refusal, Reply, Settings};
 use words::{PORT, STORE};
 
 // Words of a record.
@@ -30,6 +30,15 @@ pub fn give_length(answer: &mut [u64; 8], a: Answer) -> u32
 {
     *answer = [a.wrote as u64, 0, 0, 0, 0, 0, 0, 0];
     answer::returned(a.reply)
+}
+
+// The same where all words are 0.
+pub fn give_nothing(answer: &mut [u64; 8], r: Result<Reply, Refusal>) -> u32
+    requires { Wordless r }
+    ensures { Gives result answer.new (record { reply = r; wrote = 0 }) }
+{
+    *answer = [0; 8];
+    answer::returned(r)
 }
 
 fn settings_of(n: &[u32; 5], boundary: u64) -> Settings
@@ -118,7 +127,14 @@ pub fn srp_target_step(
             *answer = answer::done_words(n);
             0
         }
-        _ => give(answer, Answer { reply: r, wrote: 0 }),
+        Ok(reply) => give(
+            answer,
+            Answer {
+                reply: Ok(reply),
+                wrote: 0,
+            },
+        ),
+        Err(refusal) => give_nothing(answer, Err(refusal)),
     }
 }
 
@@ -131,11 +147,15 @@ pub fn srp_target_turn(port: &mut [u64; PORT], store: &[u8; STORE], answer: &mut
             *answer = answer::served_words(tag, d, p, n);
             0
         }
-        Ok(Reply::Idle) => {
-            *answer = [0; 8];
-            0
-        }
-        _ => give(answer, Answer { reply: r, wrote: 0 }),
+        Ok(Reply::Idle) => give_nothing(answer, r),
+        Ok(reply) => give(
+            answer,
+            Answer {
+                reply: Ok(reply),
+                wrote: 0,
+            },
+        ),
+        Err(refusal) => give_nothing(answer, Err(refusal)),
     }
 }
 
@@ -191,7 +211,14 @@ pub fn srp_target_counters(port: &[u64; PORT], answer: &mut [u64; 8]) -> u32
             *answer = answer::counter_words(c);
             0
         }
-        _ => give(answer, Answer { reply: r, wrote: 0 }),
+        Ok(reply) => give(
+            answer,
+            Answer {
+                reply: Ok(reply),
+                wrote: 0,
+            },
+        ),
+        Err(refusal) => give_nothing(answer, Err(refusal)),
     }
 }
 
@@ -224,6 +251,6 @@ pub fn srp_target_list(port: &[u64; PORT], records: &mut [u64], answer: &mut [u6
             *answer = [n as u64, 0, 0, 0, 0, 0, 0, 0];
             0
         }
-        Err(refusal) => give(answer, answer::refused(refusal)),
+        Err(refusal) => give_nothing(answer, Err(refusal)),
     }
 }

@@ -46,12 +46,13 @@ impl Channel {
         Ok(())
     }
 
-    // The initiator receives the oldest message to it, which may raise its limit.
+    // The initiator receives the oldest message to it, which may raise its limit; it stays where it cannot be shown.
     pub fn receive(&mut self, rt: &impl Print) -> io::Result<()> {
-        let Some(message) = self.to_initiator.pop() else {
+        let Some(message) = self.to_initiator.front().copied() else {
             return Ok(());
         };
         show::message(rt, Way::From, message.bytes())?;
+        self.to_initiator.pop();
         self.limit = self.limit.wrapping_add(message.delta() as u64);
         Ok(())
     }

@@ -1,5 +1,5 @@
 // The initiator's messages, laid out by document 01's numbers.
-ghost use Rattle.std.specs.Prelude.{◌≡◌, ◌+◌, ◌*◌, ◌/◌, ◌≤◌, length};
+ghost use Rattle.std.specs.Prelude.{◌≡◌, ◌+◌, ◌*◌, ◌/◌, ◌≤◌, ◌<◌, length};
 
 use crate::paper::{
     ADDITIONAL, ADDRESS, CDB, CMD_SIZE, COMMAND, CRED_REQ, CRED_RSP, DELTA, FORMAT_BITS, FORMATS,
@@ -37,7 +37,7 @@ fn put_names(bytes: &mut [u8; LONGEST], tag: u64, lun: u64) {
 }
 
 impl Message {
-    ghost use Rattle.std.specs.Prelude.{take};
+    ghost use Rattle.std.specs.Prelude.{[], take};
     ghost use Rattle.host.specs.Messages.{sent, costs, raises};
 
     // No bytes.
@@ -66,11 +66,14 @@ impl Message {
         &self.bytes[..self.len]
     }
 
-    // Its first bytes.
+    // Its first bytes, none where there are fewer.
     pub fn first(self, len: usize) -> Message
-        requires { len ≤ self.len }
-        ensures { sent result ≡ take len (sent self) }
+        ensures bytes { len ≤ self.len → sent result ≡ take len (sent self) }
+        ensures none { self.len < len → sent result ≡ [] }
     {
+        if self.len < len {
+            return Message::new();
+        }
         let bytes = self.bytes;
         Message { bytes, len }
     }
@@ -133,17 +136,18 @@ impl Message {
         })
     }
 
-    // The byte of an SRP_CMD that has the additional CDB length, and behind the message that many bytes of CDB more.
+    // The byte of an SRP_CMD that has the additional CDB length, and behind the message that many bytes of CDB more; no bytes where they do not fit.
     pub fn with_additional(self, byte: u8) -> Message
-        requires { self.len + 4 * (byte / 4) ≤ 256 }
-        ensures { result.len ≡ self.len + 4 * (byte / 4) }
+        ensures longer { self.len + 4 * (byte / 4) ≤ 256 → result.len ≡ self.len + 4 * (byte / 4) }
+        ensures none { 256 < self.len + 4 * (byte / 4) → result.len ≡ 0 }
     {
+        let longer = self.len + 4 * (byte as usize / 4);
+        if LONGEST < longer {
+            return Message::new();
+        }
         let mut bytes = self.bytes;
         wire::write8(&mut bytes, ADDITIONAL, byte);
-        Message {
-            bytes,
-            len: self.len + 4 * (byte as usize / 4),
-        }
+        Message { bytes, len: longer }
     }
 
     // A memory descriptor behind the message.

@@ -1,5 +1,5 @@
 // A queue of up to eight messages that keeps order. In a clause it is the list of its messages, oldest first.
-ghost use Rattle.std.specs.Prelude.{◌≡◌, ◌≤◌, ◌<◌, List, [], ◌∷◌, ◌++◌, take, length, MatchOption, MatchResult};
+ghost use Rattle.std.specs.Prelude.{◌≡◌, ◌≤◌, ◌<◌, List, [], ◌∷◌, ◌++◌, take, drop, length, MatchOption, MatchResult};
 ghost use Rattle.host.specs.declared.message.Message.{Message};
 
 use crate::message::Message;
@@ -54,6 +54,13 @@ impl Queue {
         self.messages[self.count] = message;
         self.count += 1;
         Ok(())
+    }
+
+    // The oldest message, which stays.
+    pub fn front(&self) -> Option<&Message>
+        ensures { MatchOption result (self.now ≡ []) (λ oldest. self.now ≡ oldest.now ∷ drop 1 self.now) }
+    {
+        self.messages[..self.count].first()
     }
 
     // The oldest message leaves.

@@ -20,7 +20,7 @@ use Rattle.words.specs.Head.{TermsFit}
 use Rattle.login.specs.LoggingIn.{GoodSettings}
 
 -- the formats supported are at most 6
-supported_low : (c : Settings) → supported c ≤ both_formats
+pub supported_low : (c : Settings) → supported c ≤ both_formats
 supported_low c = go c.indirect
   where
     go : (b : Bool) → cond b both_formats direct_only ≤ both_formats

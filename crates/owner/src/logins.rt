@@ -62,15 +62,20 @@ impl Session {
         self.submit(rt, request())
     }
 
-    // The oldest message makes the port, and leaves.
+    // The oldest message makes the port, and leaves; where there is none the login has no bytes.
     pub fn take_login(&mut self, rt: &impl Print, buffers: u32, boundary: u64) -> io::Result<()> {
         let mut buf = [0u8; WRITTEN];
-        let Some(login) = self.channel.to_port.pop() else {
-            return Ok(());
-        };
-        let a = self.make(buffers, boundary, login, &mut buf);
+        let login = self.channel.to_port.front().copied();
+        let a = self.make(
+            buffers,
+            boundary,
+            login.unwrap_or_else(Message::new),
+            &mut buf,
+        );
         show::taken(rt, a.reply)?;
-        self.send(rt, &buf, a.wrote)
+        self.send(rt, &buf, a.wrote)?;
+        self.channel.to_port.pop();
+        Ok(())
     }
 
     // The owner ends the channel.

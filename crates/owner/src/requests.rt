@@ -29,9 +29,9 @@ impl Session {
         Ok(matches!(a.reply, Ok(Reply::NewCommand { waits: true, .. })))
     }
 
-    // The oldest message leaves and is taken; where it waits its fetches begin. What it names to fetch is answered, for the owner to keep.
+    // The oldest message is taken, and leaves; where it waits its fetches begin. What it names to fetch is answered, for the owner to keep.
     pub fn take_fetching(&mut self, rt: &impl Print) -> io::Result<Option<Look>> {
-        let Some(message) = self.channel.to_port.pop() else {
+        let Some(message) = self.channel.to_port.front().copied() else {
             return Ok(None);
         };
         let look = command::look(message.bytes(), AGREED, FORMATS).ok();
@@ -39,6 +39,7 @@ impl Session {
         if waits && let Some(named) = look {
             begin(rt, named)?;
         }
+        self.channel.to_port.pop();
         Ok(look)
     }
 

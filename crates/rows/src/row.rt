@@ -1,7 +1,8 @@
 // A packed row: its kind, how many bytes are lent and what fills them, the refusal (0 for none), three numbers of 4 bytes, the lengths
 // of five strings of bytes, 2 bytes each, Q in 8 bytes, and the strings.
 
-ghost use Rattle.std.specs.Prelude.{◌≡◌, ◌≤◌, ◌<◌, length, IfSome};
+ghost use Rattle.std.specs.Prelude.{◌≡◌, ◌++◌, ◌≤◌, ◌<◌, length, IfSome};
+ghost use Rattle.rows.specs.Packed.{packed};
 ghost use Rattle.command.specs.Reading.{LiesIn};
 
 use srp::limits::{BOTH_FORMATS, LONGEST_AGREED};
@@ -61,7 +62,8 @@ fn length_of(header: &[u8; HEADER], i: usize) -> usize
 
 // The row that a slice begins with, and what is behind it; none where it is cut off.
 pub fn first(s: &[u8]) -> Option<(Row<'_>, &[u8])>
-    ensures { IfSome result (λ f. length f.1.now < length s.now) }
+    ensures shorter { IfSome result (λ f. length f.1.now < length s.now) }
+    ensures packed { IfSome result (λ f. s.now ≡ packed f.0 ++ f.1.now) }
 {
     let (header, rest) = s.split_first_chunk::<HEADER>()?;
     let (a, rest) = rest.split_at_checked(length_of(header, 0))?;

@@ -9,6 +9,8 @@ pub const SPACE: u8 = 0x20;
 
 pub const NEWLINE: u8 = 0x0a;
 
+const DIGITS: [u8; 16] = *b"0123456789abcdef";
+
 pub fn put_byte(text: &mut [u8], at: usize, b: u8) -> usize
     requires { at < length text.old }
     ensures { Appends text.old at (b ∷ []) text.new result }
@@ -30,7 +32,7 @@ fn hex_digit(n: u8) -> u8
     requires { n < 16 }
     ensures { result ≡ hex_digit_lem n }
 {
-    if n < 10 { b'0' + n } else { b'a' + (n - 10) }
+    DIGITS[n as usize]
 }
 
 // The lowest `count` hexadecimal digits of n.

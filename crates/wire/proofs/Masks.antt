@@ -9,16 +9,19 @@ use lib.Pow.{pow-add, pow_pos}
 use Rattle.srp.specs.Bytes.{replaced}
 
 -- 2^k at 32 bits, for k up to 8
-small : (k : ℕ) → k ≤ 8 → 2 ^ k ≤ 256
+pub small : (k : ℕ) → k ≤ 8 → 2 ^ k ≤ 256
 small k h = pow-le-pow_right {n = 2} (omega arith) h
 
-one_shifted : (k : ℕ) → k ≤ 8 → 1 * 2 ^ k % 4294967296 ≡ 2 ^ k
+pub one_shifted : (k : ℕ) → k ≤ 8 → 1 * 2 ^ k % 4294967296 ≡ 2 ^ k
 one_shifted k h = rw (one-mul (2 ^ k)) (mod-eq_of_lt (omega (arith, small k h)))
 
 module _ (low count : ℕ) (inside : low + count ≤ 8) where
   -- reading
   pub masked : (b : ℕ) → bit_and (b / 2 ^ low) (1 * 2 ^ count % 4294967296 - 1) ≡ b / 2 ^ low % 2 ^ count
   masked b = rw (one_shifted count (omega arith)) (and_mask (b / 2 ^ low) count)
+
+  pub masked_small : (b : ℕ) → bit_and (b / 2 ^ low) (1 * 2 ^ count % 4294967296 - 1) < 256
+  masked_small b = rw (masked b) (omega (arith, mod-lt (b / 2 ^ low) (pow_pos count), small count (omega arith)))
 
   -- writing
   module _ (b v : ℕ) (byte : b < 256) (below : v < 2 ^ count) where

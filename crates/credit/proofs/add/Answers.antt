@@ -27,7 +27,7 @@ returns-in_err-wanted c =
 pub returns-then-room-k : goal.returns-then-room-k
 returns-then-room-k c =
     let a = c.args in
-    let w = c.in_ok-wanted.wanted in
+    let w = c.in_ok-wanted.field-0.wanted in
     let C = c.in_ok-wanted.ensures in
     λ st. refuses a.s.now st (add_outcome (view a.s.now st) a.k) (adding C st ∙ rw (lt-ltb most_buffers (w + a.k) (omega (arith, c.if-room-k.true, C.most))) refl)
 
@@ -35,7 +35,7 @@ pub returns : goal.returns
 returns c =
     let a = c.args in
     let l = a.s.now in
-    let w = c.in_ok-wanted.wanted in
+    let w = c.in_ok-wanted.field-0.wanted in
     let C = c.in_ok-wanted.ensures in
     λ st. performs l st c.set_wanted.new.s st (add_outcome (view l st) a.k) (adding C st ∙ rw (le-ltb most_buffers (w + a.k) (omega (arith, c.if-room-k.false, C.most))) refl)
     (performed refl (altered_view l c.set_wanted.new.s st C.live c.set_wanted.ensures ∙ ap (λ n. with_wanted (view l st) (n + a.k)) (sym (wants C st))) refl refl)

@@ -25,7 +25,7 @@ returns-in_err-wanted c =
 pub returns-then-wanted-k : goal.returns-then-wanted-k
 returns-then-wanted-k c =
     let a = c.args in
-    let w = c.in_ok-wanted.wanted in
+    let w = c.in_ok-wanted.field-0.wanted in
     let C = c.in_ok-wanted.ensures in
     λ st. refuses a.s.now st (withdraw_outcome (view a.s.now st) a.k) (withdrawing C st ∙ rw (le-leb w a.k c.if-wanted-k.true) refl)
 
@@ -33,7 +33,7 @@ pub returns : goal.returns
 returns c =
     let a = c.args in
     let l = a.s.now in
-    let w = c.in_ok-wanted.wanted in
+    let w = c.in_ok-wanted.field-0.wanted in
     let C = c.in_ok-wanted.ensures in
     λ st. performs l st c.set_wanted.new.s st (withdraw_outcome (view l st) a.k) (withdrawing C st ∙ rw (lt-leb w a.k c.if-wanted-k.false) refl)
     (performed refl (altered_view l c.set_wanted.new.s st C.live c.set_wanted.ensures ∙ ap (λ n. with_wanted (view l st) (n - a.k)) (sym (wants C st))) refl refl)

@@ -1,5 +1,5 @@
 -- `division::divide` meets its contract: the loop's invariant is `Counting`.
-use Rattle.std.proofs.Common.{◌≡◌, ◌+◌, subst, sym, ◌∙◌, arith}
+use Rattle.std.proofs.Common.{◌≡◌, subst, sym, ◌∙◌, arith}
 use Rattle.division.proofs.Counting.{Counting, below, start, on, all_counted}
 use Rattle.division.specs.Dividing.{values}
 use Rattle.division.proofs.divide.Goals as goal
@@ -16,8 +16,8 @@ pub loop-byte-preserved : goal.loop-byte-preserved
 loop-byte-preserved c =
     on c.loop-byte.invariant (omega arith) c.counted-d.ensures
 
-pub returns-else-other_formats-2 : goal.returns-else-other_formats-2
-returns-else-other_formats-2 c =
-    let last : c.loop-byte.byte + 1 ≡ values = omega arith in
+pub returns : goal.returns
+returns c =
+    let last : c.loop-byte.byte ≡ values = omega arith in
     all_counted c.args.formats (sym c.other_formats.ensures ∙ c.if-other_formats.false)
-    (subst (Counting c.args.formats c.counted-d.result) last (on c.loop-byte.invariant (omega arith) c.counted-d.ensures))
+    (subst (Counting c.args.formats c.loop-byte.d) last c.loop-byte.invariant)

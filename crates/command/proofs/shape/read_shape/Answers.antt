@@ -9,11 +9,11 @@ returns-in_default-get-clause-shape c = grind (arith, common_steps)
 pub returns-in_default-get-2-clause-shape : goal.returns-in_default-get-2-clause-shape
 returns-in_default-get-2-clause-shape c = grind (arith, common_steps)
 
-pub returns-in_default-descriptor-clause-shape : goal.returns-in_default-descriptor-clause-shape
-returns-in_default-descriptor-clause-shape c = grind (arith, common_steps)
+pub returns-in_default-counted_descriptor-clause-shape : goal.returns-in_default-counted_descriptor-clause-shape
+returns-in_default-counted_descriptor-clause-shape c = grind (arith, common_steps)
 
-pub returns-in_default-descriptor-2-clause-shape : goal.returns-in_default-descriptor-2-clause-shape
-returns-in_default-descriptor-2-clause-shape c = grind (arith, common_steps)
+pub returns-in_default-counted_descriptor-2-clause-shape : goal.returns-in_default-counted_descriptor-2-clause-shape
+returns-in_default-counted_descriptor-2-clause-shape c = grind (arith, common_steps)
 
 pub returns-clause-shape : goal.returns-clause-shape
 returns-clause-shape c = grind (arith, common_steps)

@@ -9,7 +9,3 @@ returns-in-Ok-Operation c =
 pub returns-in-Ok-Done : goal.returns-in-Ok-Done
 returns-in-Ok-Done c =
     step_in_c c.args.direction c.direction_of-d.ensures c.step-r.ensures (says 0 c.in-Ok-Done.is (rw c.in-Ok-Done.is at c.in-Ok-Done.field-0-is) (c.done_words.ensures 0))
-
-pub returns-in_default : goal.returns-in_default
-returns-in_default c =
-    step_in_c c.args.direction c.direction_of-d.ensures c.step-r.ensures c.give.ensures
