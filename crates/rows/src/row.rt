@@ -1,7 +1,7 @@
 // A packed row: its kind, how many bytes are lent and what fills them, the refusal (0 for none), three numbers of 4 bytes, the lengths
 // of five strings of bytes, 2 bytes each, Q in 8 bytes, and the strings.
 
-ghost use Rattle.std.specs.Prelude.{◌≡◌, ◌++◌, ◌≤◌, ◌<◌, length, IfSome};
+ghost use Rattle.std.specs.Prelude.{◌≡◌, ◌++◌, ◌+◌, ◌≤◌, ◌<◌, length, IfSome};
 ghost use Rattle.rows.specs.Packed.{packed};
 ghost use Rattle.command.specs.Reading.{LiesIn};
 
@@ -56,6 +56,7 @@ pub struct Row<'a> {
 // How long a string of a row is.
 fn length_of(header: &[u8; HEADER], i: usize) -> usize
     requires { i ≤ 4 }
+    ensures { result < 65536 }
 {
     wire::read16(header, LENGTHS + 2 * i) as usize
 }
@@ -63,6 +64,7 @@ fn length_of(header: &[u8; HEADER], i: usize) -> usize
 // The row that a slice begins with, and what is behind it; none where it is cut off.
 pub fn first(s: &[u8]) -> Option<(Row<'_>, &[u8])>
     ensures shorter { IfSome result (λ f. length f.1.now < length s.now) }
+    ensures few { IfSome result (λ f. length s.now ≤ length f.1.now + 327709) }
     ensures packed { IfSome result (λ f. s.now ≡ packed f.0 ++ f.1.now) }
 {
     let (header, rest) = s.split_first_chunk::<HEADER>()?;
